@@ -1,0 +1,5 @@
+-- Laws of the definitions that belong to no one function.
+pub mod ListLaws
+pub mod NameLaws
+pub mod TableLaws
+pub mod PrimitiveLaws

@@ -1,0 +1,19 @@
+-- Laws of the unread part of a list.
+use Prim.Native.Nat.{ℕ, _+_, _≤_, _<_}
+use mathlib.Core.Path.{_≡_, refl}
+use mathlib.Core.List.{List, [], _∷_}
+use native.Mathlib.Numerals.{add-one}
+use native.Mathlib.Omega.{arith}
+use lib.ListN.{length, drop, getD, length-drop}
+use lib.Seq.{drop-cons}
+
+-- The next byte and what follows it.
+pub unread : (s : List ℕ) (i : ℕ) → i < length s → drop i s ≡ getD s i 0 ∷ drop (i + 1) s
+unread s i h = rw (add-one, drop-cons s i 0)
+
+pub unread-end : (s : List ℕ) (i : ℕ) → length s ≤ i → drop i s ≡ []
+unread-end s i h = none (drop i s) (simp length-drop (omega arith))
+  where
+    none : (t : List ℕ) → length t ≡ 0 → t ≡ []
+    none [] e = refl
+    none (b ∷ t) e = absurd (omega arith)

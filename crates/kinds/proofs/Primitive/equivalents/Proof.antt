@@ -1,0 +1,23 @@
+use borrow.Author.Needs.{needs}
+use Rattle.kinds.proofs.Primitive.equivalents.Statement.{statement}
+use Rattle.kinds.proofs.Primitive.equivalents.Tie as tie
+use Rattle.kinds.proofs.Primitive.equivalents.Reads as reads
+use Rattle.kinds.proofs.Primitive.equivalents.Lts as lts
+use Rattle.kinds.proofs.Primitive.kind.Reads as kind-reads
+use Rattle.kinds.proofs.equivalent_kinds.Reads as equivalent-kinds-reads
+
+kind-requires : tie.Need-kind-requires
+kind-requires c κs = search needs
+
+kind-requires-2 : tie.Need-kind-requires-2
+kind-requires-2 c κs = search needs
+
+equivalent-kinds-requires : tie.Need-equivalent-kinds-requires
+equivalent-kinds-requires c κs = search needs
+
+returns : tie.Need-returns
+returns c = rw (← c .before .before .kind .ensures, ← c .before .kind2 .ensures) (c .equivalent-kinds .ensures)
+
+pub equivalents-spec : {M : Type 1} → statement M
+equivalents-spec =
+    tie.close (tie.spec kind-requires kind-requires-2 equivalent-kinds-requires returns)

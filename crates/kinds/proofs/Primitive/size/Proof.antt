@@ -1,0 +1,19 @@
+use borrow.Author.Needs.{needs}
+use Rattle.kinds.proofs.Primitive.size.Statement.{statement}
+use Rattle.kinds.proofs.Primitive.size.Tie as tie
+use Rattle.kinds.proofs.Primitive.size.Reads as reads
+use Rattle.kinds.proofs.Primitive.size.Lts as lts
+use Rattle.kinds.proofs.Primitive.kind.Reads as kind-reads
+use Rattle.kinds.proofs.primitive_size.Reads as primitive-size-reads
+
+kind-requires : tie.Need-kind-requires
+kind-requires c κs = search needs
+
+primitive-size-requires : tie.Need-primitive-size-requires
+primitive-size-requires c κs = search needs
+
+returns : tie.Need-returns
+returns c = rw (← c .before .kind .ensures) (c .primitive-size .ensures)
+
+pub size-spec : {M : Type 1} → statement M
+size-spec = tie.close (tie.spec kind-requires primitive-size-requires returns)

@@ -1,0 +1,19 @@
+use borrow.Author.Needs.{needs}
+use Rattle.kinds.proofs.Primitive.to_str.Statement.{statement}
+use Rattle.kinds.proofs.Primitive.to_str.Tie as tie
+use Rattle.kinds.proofs.Primitive.to_str.Reads as reads
+use Rattle.kinds.proofs.Primitive.to_str.Lts as lts
+use Rattle.kinds.proofs.Primitive.kind.Reads as kind-reads
+use Rattle.kinds.proofs.primitive_code.Reads as primitive-code-reads
+
+kind-requires : tie.Need-kind-requires
+kind-requires c κs = search needs
+
+primitive-code-requires : tie.Need-primitive-code-requires
+primitive-code-requires c κs = search needs
+
+returns : tie.Need-returns
+returns c = rw (← c .before .kind .ensures) (c .primitive-code .ensures)
+
+pub to-str-spec : {M : Type 1} → statement M
+to-str-spec = tie.close (tie.spec kind-requires primitive-code-requires returns)

@@ -1,0 +1,39 @@
+-- A rule of a table, proved at all of its entries by one computed test; and tests on lists.
+use Prim.Native.Nat.{ℕ, zero, suc, _<_}
+use mathlib.Core.Path.{_≡_, refl, subst, sym, ap₂}
+use mathlib.Core.Bool.{Bool, true, false, _&&_, false≢true}
+use mathlib.Core.List.{List, [], _∷_}
+use native.Mathlib.Omega.{arith}
+use lib.Dec.{eqb}
+use borrow.Author.Tests.{eqb-true, eqb-false, eq-eqb}
+use Rattle.kinds.specs.Byte.{sameBytes}
+
+pub both : (a b : Bool) → (a && b) ≡ true → (a ≡ true) × (b ≡ true)
+both true b h = (refl, h)
+both false b h = absurd (false≢true h)
+
+-- The test passes at each number below `n`.
+unfoldable pub everyBelow : (ℕ → Bool) → ℕ → Bool
+everyBelow test zero = true
+everyBelow test (suc n) = everyBelow test n && test n
+
+pub passBelow : (test : ℕ → Bool) (n : ℕ) → everyBelow test n ≡ true → (i : ℕ) → i < n → test i ≡ true
+unfolding everyBelow
+passBelow test zero h i l = absurd (omega arith)
+passBelow test (suc n) h i l = go (eqb i n) refl (λ k. passBelow test n (both (everyBelow test n) (test n) h .0) i k)
+  where
+    go : (b : Bool) → eqb i n ≡ b → (i < n → test i ≡ true) → test i ≡ true
+    go true e rec = rw (eqb-true i n e) (both (everyBelow test n) (test n) h .1)
+    go false e rec = rec (omega (arith, eqb-false i n e))
+
+pub same-bytes : (s t : List ℕ) → sameBytes s t ≡ true → s ≡ t
+unfolding sameBytes
+same-bytes [] [] h = refl
+same-bytes [] (y ∷ t) h = absurd (false≢true h)
+same-bytes (x ∷ s) [] h = absurd (false≢true h)
+same-bytes (x ∷ s) (y ∷ t) h = ap₂ _∷_ (eqb-true x y (both (eqb x y) (sameBytes s t) h .0)) (same-bytes s t (both (eqb x y) (sameBytes s t) h .1))
+
+pub same-bytes-refl : (s : List ℕ) → sameBytes s s ≡ true
+unfolding sameBytes
+same-bytes-refl [] = refl
+same-bytes-refl (x ∷ s) = rw (eq-eqb x x refl) (same-bytes-refl s)

@@ -1,0 +1,87 @@
+-- Primitives (helper.rs, `Primitive`): their kind words in a sheet (01, "The sheet"), codes, equivalents and sizes.
+use Prim.Native.Nat.{ℕ, zero, suc}
+use mathlib.Core.Bool.{Bool, _&&_, _||_}
+use mathlib.Core.List.{List, [], _∷_}
+use mathlib.Core.Option.{Option, some, none}
+use lib.Dec.{eqb}
+use lib.ListN.{getD}
+use Rattle.kinds.specs.Byte.{bytes, among}
+use Rattle.kinds.specs.declared.Code.{Code}
+use Rattle.kinds.specs.declared.Code.the-variants.{Empty, One, Two}
+use Rattle.kinds.specs.declared.Primitive.{Primitive}
+use Rattle.kinds.specs.declared.Primitive.the-variants as P
+use Rattle.kinds.specs.declared.PrimitiveSize.{PrimitiveSize}
+use Rattle.kinds.specs.declared.PrimitiveSize.the-variants.{Bytes, Nothing}
+
+-- The kind of a primitive: its place in `Primitive`.
+abbrev pub kindOf : Primitive → ℕ
+kindOf P.Char = 0
+kindOf P.Short = 1
+kindOf P.Int = 2
+kindOf P.Long = 3
+kindOf P.LongLong = 4
+kindOf P.UChar = 5
+kindOf P.UShort = 6
+kindOf P.UInt = 7
+kindOf P.ULong = 8
+kindOf P.ULongLong = 9
+kindOf P.Float = 10
+kindOf P.Double = 11
+kindOf P.LongDouble = 12
+kindOf P.FloatComplex = 13
+kindOf P.DoubleComplex = 14
+kindOf P.LongDoubleComplex = 15
+kindOf P.Bool = 16
+kindOf P.Void = 17
+kindOf P.String = 18
+kindOf P.Object = 19
+kindOf P.Block = 20
+kindOf P.Class = 21
+kindOf P.Sel = 22
+kindOf P.Unknown = 23
+
+-- The codes, in the order of `Primitive`.
+unfoldable pub codes : List (List ℕ)
+codes =
+    bytes "c" ∷ bytes "s" ∷ bytes "i" ∷ bytes "l" ∷ bytes "q"
+    ∷ bytes "C" ∷ bytes "S" ∷ bytes "I" ∷ bytes "L" ∷ bytes "Q"
+    ∷ bytes "f" ∷ bytes "d" ∷ bytes "D" ∷ bytes "jf" ∷ bytes "jd" ∷ bytes "jD"
+    ∷ bytes "B" ∷ bytes "v" ∷ bytes "*" ∷ bytes "@" ∷ bytes "@?" ∷ bytes "#" ∷ bytes ":" ∷ bytes "?" ∷ []
+
+-- The code of the primitive of kind `p` (`to_str`); other kinds have none.
+unfoldable pub code : ℕ → List ℕ
+code p = getD codes p []
+
+-- The bytes of a code as the functions hand it out.
+abbrev pub codeBytes : Code → List ℕ
+codeBytes Empty = []
+codeBytes (One b) = b ∷ []
+codeBytes (Two b c) = b ∷ c ∷ []
+
+-- Object, Block and Class, which are one group.
+unfoldable pub isObject : ℕ → Bool
+isObject p = among p (19 ∷ 20 ∷ 21 ∷ [])
+
+-- `q` is one of the equivalents of `p`; a kind that is no primitive is equivalent to itself alone.
+unfoldable pub equivalent : ℕ → ℕ → Bool
+equivalent p q = eqb p q || (isObject p && isObject q)
+
+-- The sizes on 64-bit Apple ARM, in the order of `Primitive`; 0 for none.
+unfoldable pub primitiveSizes : List ℕ
+primitiveSizes =
+    1 ∷ 2 ∷ 4 ∷ 8 ∷ 8
+    ∷ 1 ∷ 2 ∷ 4 ∷ 8 ∷ 8
+    ∷ 4 ∷ 8 ∷ 8 ∷ 8 ∷ 16 ∷ 16
+    ∷ 1 ∷ 0 ∷ 8 ∷ 8 ∷ 8 ∷ 8 ∷ 8 ∷ 0 ∷ []
+
+unfoldable pub positive : ℕ → Option ℕ
+positive zero = none
+positive (suc n) = some (suc n)
+
+unfoldable pub primitiveSize : ℕ → Option ℕ
+primitiveSize p = positive (getD primitiveSizes p 0)
+
+-- A size as the functions hand it out.
+abbrev pub sizeOf : PrimitiveSize → Option ℕ
+sizeOf (Bytes n) = some n
+sizeOf Nothing = none

@@ -1,0 +1,70 @@
+-- `size` (helper.rs), in numbers of any length. `none` is no size.
+use Prim.Native.Nat.{ℕ, _+_, _*_, max}
+use mathlib.Core.Bool.{cond}
+use mathlib.Core.List.{List, [], _∷_}
+use mathlib.Core.Option.{Option, some, none}
+use lib.Dec.{leb}
+use Rattle.kinds.specs.Level.{showsFields}
+use Rattle.kinds.specs.Primitive.{primitiveSize}
+use Rattle.kinds.specs.Tree as T
+use Rattle.kinds.specs.Tree.{Label, Trees, end, node, primitive, bitField, typedBitField, pointer, atomic, array, struct, union, inside}
+use Rattle.kinds.specs.declared.NestingLevel.{NestingLevel}
+use Rattle.kinds.specs.declared.NestingLevel.the-variants.{Top}
+
+-- The bits of a bitfield raised to a power of two, at least 8, in bytes; a bitfield has at most 255.
+unfoldable pub bitBytes : ℕ → ℕ
+bitBytes n = cond (leb n 8) 1 (cond (leb n 16) 2 (cond (leb n 32) 4 (cond (leb n 64) 8 (cond (leb n 128) 16 32))))
+
+unfoldable pub plus : Option ℕ → Option ℕ → Option ℕ
+plus none b = none
+plus (some a) none = none
+plus (some a) (some b) = some (a + b)
+
+unfoldable pub larger : Option ℕ → Option ℕ → Option ℕ
+larger none b = b
+larger (some a) none = some a
+larger (some a) (some b) = some (max a b)
+
+unfoldable pub times : ℕ → Option ℕ → Option ℕ
+times n none = none
+times n (some a) = some (n * a)
+
+unfoldable pub orZero : Option ℕ → ℕ
+orZero none = 0
+orZero (some a) = a
+
+-- A struct: none if a field has none.
+unfoldable pub sum : List (Option ℕ) → Option ℕ
+sum [] = some 0
+sum (a ∷ s) = plus a (sum s)
+
+-- A union: none if no member has a size.
+unfoldable pub largest : List (Option ℕ) → Option ℕ
+largest [] = none
+largest (a ∷ s) = larger a (largest s)
+
+-- The size of what a node with one child holds.
+unfoldable pub only : List (Option ℕ) → Option ℕ
+only [] = none
+only (a ∷ s) = a
+
+-- A node's size from its children's sizes.
+unfoldable pub nodeSize : Label → NestingLevel → List (Option ℕ) → Option ℕ
+nodeSize (primitive p) v xs = primitiveSize p
+nodeSize (bitField n) v xs = some (bitBytes n)
+nodeSize (typedBitField o n) v xs = some (max (bitBytes n) (orZero (only xs)))
+nodeSize pointer v xs = some 8
+nodeSize atomic v xs = only xs
+nodeSize (array n) v xs = times n (only xs)
+nodeSize (struct s) v xs = cond (showsFields v) (sum xs) none
+nodeSize (union s) v xs = cond (showsFields v) (largest xs) none
+nodeSize T.none v xs = none
+
+-- The size of each of the trees.
+unfoldable pub sizes : NestingLevel → Trees → List (Option ℕ)
+sizes v end = []
+sizes v (node l cs ts) = nodeSize l v (sizes (inside l v) cs) ∷ sizes v ts
+
+-- The size of a tree.
+unfoldable pub size : Trees → Option ℕ
+size t = only (sizes Top t)

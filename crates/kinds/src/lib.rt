@@ -1,0 +1,388 @@
+// The types that helper.rs and parse.rs of the crate share with everything above them.
+ghost use mathlib.Core.Path.{_≡_};
+ghost use Rattle.kinds.specs.Level.{indirection, containerIncludeFields};
+ghost use Rattle.kinds.specs.Name.{isNameByte, verifyName};
+ghost use Rattle.kinds.specs.Primitive.{kindOf, codeBytes, code, isObject, equivalent, sizeOf, primitiveSize};
+ghost use Rattle.kinds.specs.Container.{startByte, endByte, prefixByte};
+
+pub enum NestingLevel {
+    Top,
+    Within,
+    Bottom,
+}
+
+pub enum IndirectionKind {
+    Atomic,
+    Pointer,
+}
+
+pub enum ContainerKind {
+    Struct,
+    Union,
+}
+
+// Whether a container includes its fields, and then their level.
+pub enum Fields {
+    Included(NestingLevel),
+    Dropped,
+}
+
+pub enum Primitive {
+    Char,
+    Short,
+    Int,
+    Long,
+    LongLong,
+    UChar,
+    UShort,
+    UInt,
+    ULong,
+    ULongLong,
+    Float,
+    Double,
+    LongDouble,
+    FloatComplex,
+    DoubleComplex,
+    LongDoubleComplex,
+    Bool,
+    Void,
+    String,
+    Object,
+    Block,
+    Class,
+    Sel,
+    Unknown,
+}
+
+// The code of a primitive: one byte or two. A kind that is no primitive has none.
+pub enum Code {
+    Empty,
+    One(u8),
+    Two(u8, u8),
+}
+
+// The size of a primitive in bytes, if it has one.
+pub enum PrimitiveSize {
+    Bytes(u64),
+    Nothing,
+}
+
+// Why text cannot be read.
+pub enum ErrorKind {
+    UnexpectedEnd,
+    Unknown(u8),
+    UnknownAfterComplex(u8),
+    ExpectedInteger,
+    IntegerTooLarge,
+    WrongEndArray,
+    WrongEndContainer(ContainerKind),
+    InvalidIdentifier(ContainerKind),
+    NotAllConsumed,
+}
+
+// Why an input is turned away: document 01's numbers 1 to 6, and 7 to 15 with their place.
+pub enum Refusal {
+    TextTooLong,
+    ListTooShort,
+    NotASheet,
+    BadName,
+    OutputTooShort,
+    SizeTooLarge,
+    Parse(ErrorKind, usize),
+}
+
+impl NestingLevel {
+    // The level that every comparison starts from.
+    pub fn new() -> Self
+        ensures { λ r. ⌜ r ≡ NestingLevel.Top ⌝ }
+    {
+        NestingLevel::Top
+    }
+
+    pub fn bitfield(self) -> Self
+        ensures { λ r. ⌜ r ≡ self ⌝ }
+    {
+        self
+    }
+
+    pub fn indirection(self, kind: IndirectionKind) -> Self
+        ensures { λ r. ⌜ r ≡ indirection kind self ⌝ }
+    {
+        match kind {
+            IndirectionKind::Atomic => NestingLevel::Bottom,
+            IndirectionKind::Pointer => match self {
+                NestingLevel::Top => NestingLevel::Within,
+                NestingLevel::Within => NestingLevel::Bottom,
+                NestingLevel::Bottom => NestingLevel::Bottom,
+            },
+        }
+    }
+
+    pub fn array(self) -> Self
+        ensures { λ r. ⌜ r ≡ self ⌝ }
+    {
+        self
+    }
+
+    pub fn container_include_fields(self) -> Fields
+        ensures { λ r. ⌜ r ≡ containerIncludeFields self ⌝ }
+    {
+        match self {
+            NestingLevel::Top => Fields::Included(NestingLevel::Within),
+            NestingLevel::Within => Fields::Included(NestingLevel::Within),
+            NestingLevel::Bottom => Fields::Dropped,
+        }
+    }
+}
+
+impl IndirectionKind {
+    pub fn prefix_byte(self) -> u8
+        ensures { λ r. ⌜ r ≡ prefixByte self ⌝ }
+    {
+        match self {
+            IndirectionKind::Atomic => b'A',
+            IndirectionKind::Pointer => b'^',
+        }
+    }
+}
+
+impl ContainerKind {
+    pub fn start_byte(self) -> u8
+        ensures { λ r. ⌜ r ≡ startByte self ⌝ }
+    {
+        match self {
+            ContainerKind::Struct => b'{',
+            ContainerKind::Union => b'(',
+        }
+    }
+
+    pub fn end_byte(self) -> u8
+        ensures { λ r. ⌜ r ≡ endByte self ⌝ }
+    {
+        match self {
+            ContainerKind::Struct => b'}',
+            ContainerKind::Union => b')',
+        }
+    }
+}
+
+impl Primitive {
+    pub fn to_str(self) -> Code
+        ensures { λ r. ⌜ codeBytes r ≡ code (kindOf self) ⌝ }
+    {
+        primitive_code(self.kind())
+    }
+
+    // The kind word of the primitive in a sheet.
+    pub fn kind(self) -> u64
+        ensures { λ r. ⌜ r ≡ kindOf self ⌝ }
+    {
+        match self {
+            Primitive::Char => 0,
+            Primitive::Short => 1,
+            Primitive::Int => 2,
+            Primitive::Long => 3,
+            Primitive::LongLong => 4,
+            Primitive::UChar => 5,
+            Primitive::UShort => 6,
+            Primitive::UInt => 7,
+            Primitive::ULong => 8,
+            Primitive::ULongLong => 9,
+            Primitive::Float => 10,
+            Primitive::Double => 11,
+            Primitive::LongDouble => 12,
+            Primitive::FloatComplex => 13,
+            Primitive::DoubleComplex => 14,
+            Primitive::LongDoubleComplex => 15,
+            Primitive::Bool => 16,
+            Primitive::Void => 17,
+            Primitive::String => 18,
+            Primitive::Object => 19,
+            Primitive::Block => 20,
+            Primitive::Class => 21,
+            Primitive::Sel => 22,
+            Primitive::Unknown => 23,
+        }
+    }
+
+    // Whether `other` is among the primitives that this one is compared as.
+    pub fn equivalents(self, other: Primitive) -> bool
+        ensures { λ r. ⌜ r ≡ equivalent (kindOf self) (kindOf other) ⌝ }
+    {
+        equivalent_kinds(self.kind(), other.kind())
+    }
+
+    pub fn size(self) -> PrimitiveSize
+        ensures { λ r. ⌜ sizeOf r ≡ primitiveSize (kindOf self) ⌝ }
+    {
+        primitive_size(self.kind())
+    }
+}
+
+// The bytes of the codes, in the order of `Primitive`; 0 where there is no second byte.
+const FIRST_BYTES: [u8; 24] = *b"csilqCSILQfdDjjjBv*@@#:?";
+
+const SECOND_BYTES: [u8; 24] = [
+    0,
+    0,
+    0,
+    0,
+    0,
+    0,
+    0,
+    0,
+    0,
+    0,
+    0,
+    0,
+    0,
+    b'f',
+    b'd',
+    b'D',
+    0,
+    0,
+    0,
+    0,
+    b'?',
+    0,
+    0,
+    0,
+];
+
+// `Primitive::to_str` on kind words.
+pub fn primitive_code(kind: u64) -> Code
+    ensures { λ r. ⌜ codeBytes r ≡ code kind ⌝ }
+{
+    if 24 <= kind {
+        return Code::Empty;
+    }
+    let k = kind as usize;
+    let a = FIRST_BYTES[k];
+    let b = SECOND_BYTES[k];
+    if b == 0 {
+        return Code::One(a);
+    }
+    Code::Two(a, b)
+}
+
+// The sizes on 64-bit Apple ARM, in the order of `Primitive`; 0 for none.
+const SIZES: [u8; 24] = [
+    1,
+    2,
+    4,
+    8,
+    8,
+    1,
+    2,
+    4,
+    8,
+    8,
+    4,
+    8,
+    8,
+    8,
+    16,
+    16,
+    1,
+    0,
+    8,
+    8,
+    8,
+    8,
+    8,
+    0,
+];
+
+fn wide(x: u8) -> u64
+    ensures { λ r. ⌜ r ≡ x ⌝ }
+{
+    x as u64
+}
+
+// `Primitive::size` on kind words.
+pub fn primitive_size(kind: u64) -> PrimitiveSize
+    ensures { λ r. ⌜ sizeOf r ≡ primitiveSize kind ⌝ }
+{
+    if 24 <= kind {
+        return PrimitiveSize::Nothing;
+    }
+    let k = kind as usize;
+    let n = wide(SIZES[k]);
+    if n == 0 {
+        return PrimitiveSize::Nothing;
+    }
+    PrimitiveSize::Bytes(n)
+}
+
+// Object, Block and Class, by their kind words.
+pub fn is_object(kind: u64) -> bool
+    ensures { λ r. ⌜ r ≡ isObject kind ⌝ }
+{
+    if kind == 19 {
+        return true;
+    }
+    if kind == 20 {
+        return true;
+    }
+    kind == 21
+}
+
+// `Primitive::equivalents` on kind words; a kind that is no primitive is equivalent to itself alone.
+pub fn equivalent_kinds(p: u64, q: u64) -> bool
+    ensures { λ r. ⌜ r ≡ equivalent p q ⌝ }
+{
+    if p == q {
+        return true;
+    }
+    if !is_object(p) {
+        return false;
+    }
+    is_object(q)
+}
+
+// An ASCII letter, digit or underscore.
+pub fn is_name_byte(b: u8) -> bool
+    ensures { λ r. ⌜ r ≡ isNameByte b ⌝ }
+{
+    if b < b'0' {
+        return false;
+    }
+    if b <= b'9' {
+        return true;
+    }
+    if b < b'A' {
+        return false;
+    }
+    if b <= b'Z' {
+        return true;
+    }
+    if b == b'_' {
+        return true;
+    }
+    if b < b'a' {
+        return false;
+    }
+    b <= b'z'
+}
+
+// Whether a struct's or union's name is `?` or an identifier.
+pub fn verify_name(name: &[u8]) -> bool
+    ensures { λ r. ⌜ r ≡ verifyName (now (name .entry)) ⌝ }
+{
+    if name.len() == 0 {
+        return false;
+    }
+    if name.len() == 1 {
+        if name[0] == b'?' {
+            return true;
+        }
+    }
+    let mut i = 0;
+    while i < name.len() {
+        if !is_name_byte(name[i]) {
+            return false;
+        }
+        i += 1;
+    }
+    true
+}
