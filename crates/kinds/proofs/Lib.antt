@@ -3,3 +3,5 @@ pub mod ListLaws
 pub mod NameLaws
 pub mod TableLaws
 pub mod PrimitiveLaws
+pub mod SheetLaws
+pub mod NodeLaws

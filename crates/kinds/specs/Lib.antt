@@ -13,3 +13,4 @@ pub mod Parse
 pub mod Expect
 pub mod Sound
 pub mod Sheet
+pub mod Walk
