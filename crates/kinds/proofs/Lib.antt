@@ -5,3 +5,5 @@ pub mod TableLaws
 pub mod PrimitiveLaws
 pub mod SheetLaws
 pub mod NodeLaws
+pub mod LayoutLaws
+pub mod HoldsLaws
