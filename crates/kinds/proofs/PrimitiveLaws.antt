@@ -6,8 +6,9 @@ use mathlib.Core.List.{List, [], _∷_}
 use mathlib.Core.Option.{Option, some, none}
 use native.Mathlib.Omega.{arith}
 use lib.Dec.{eqb}
+use borrow.Author.Tests.{eq-eqb, ne-eqb}
 use lib.ListN.{length, getD, List·getD-eq-default}
-use Rattle.kinds.specs.Byte.{bytes, sameBytes}
+use Rattle.kinds.specs.Byte.{byte, bytes, sameBytes}
 use Rattle.kinds.specs.Primitive.{codes, code, primitiveSizes, positive, primitiveSize}
 use Rattle.kinds.proofs.TableLaws.{everyBelow, passBelow, same-bytes}
 
@@ -16,11 +17,10 @@ abbrev pub firsts : List ℕ
 firsts = bytes "csilqCSILQfdDjjjBv*@@#:?"
 
 abbrev pub seconds : List ℕ
-seconds = 0 ∷ 0 ∷ 0 ∷ 0 ∷ 0 ∷ 0 ∷ 0 ∷ 0 ∷ 0 ∷ 0 ∷ 0 ∷ 0 ∷ 0 ∷ 102 ∷ 100 ∷ 68 ∷ 0 ∷ 0 ∷ 0 ∷ 0 ∷ 63 ∷ 0 ∷ 0 ∷ 0 ∷ []
+seconds = bytes "             fdD    ?   "
 
 joined : ℕ → ℕ → List ℕ
-joined a zero = a ∷ []
-joined a (suc b) = a ∷ suc b ∷ []
+joined a b = elim (eqb b (byte " ")) [ true ↦ a ∷ [] | false ↦ a ∷ b ∷ [] ]
 
 right : ℕ → Bool
 right k = sameBytes (joined (getD firsts k 0) (getD seconds k 0)) (code k)
@@ -33,20 +33,18 @@ joined-code : (k : ℕ) → k < 24 → joined (getD firsts k 0) (getD seconds k 
 unfolding right
 joined-code k h = same-bytes (joined (getD firsts k 0) (getD seconds k 0)) (code k) (passBelow right 24 all-right k h)
 
-one-byte : (a b : ℕ) → b ≡ 0 → a ∷ [] ≡ joined a b
+one-byte : (a b : ℕ) → b ≡ byte " " → a ∷ [] ≡ joined a b
 unfolding joined
-one-byte a zero e = refl
-one-byte a (suc b) e = absurd (omega arith)
+one-byte a b e = rw (eq-eqb b (byte " ") e, joined)
 
-two-bytes : (a b : ℕ) → (b ≡ 0 → ⊥) → a ∷ b ∷ [] ≡ joined a b
+two-bytes : (a b : ℕ) → (b ≡ byte " " → ⊥) → a ∷ b ∷ [] ≡ joined a b
 unfolding joined
-two-bytes a zero e = absurd (e refl)
-two-bytes a (suc b) e = refl
+two-bytes a b e = rw (ne-eqb b (byte " ") e, joined)
 
-pub code-one : (k : ℕ) → k < 24 → getD seconds k 0 ≡ 0 → getD firsts k 0 ∷ [] ≡ code k
+pub code-one : (k : ℕ) → k < 24 → getD seconds k 0 ≡ byte " " → getD firsts k 0 ∷ [] ≡ code k
 code-one k h e = rw (one-byte (getD firsts k 0) (getD seconds k 0) e) (joined-code k h)
 
-pub code-two : (k : ℕ) → k < 24 → (getD seconds k 0 ≡ 0 → ⊥) → getD firsts k 0 ∷ getD seconds k 0 ∷ [] ≡ code k
+pub code-two : (k : ℕ) → k < 24 → (getD seconds k 0 ≡ byte " " → ⊥) → getD firsts k 0 ∷ getD seconds k 0 ∷ [] ≡ code k
 code-two k h e = rw (two-bytes (getD firsts k 0) (getD seconds k 0) e) (joined-code k h)
 
 pub code-beyond : (k : ℕ) → 24 ≤ k → code k ≡ []

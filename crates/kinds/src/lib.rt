@@ -96,12 +96,13 @@ impl NestingLevel {
     pub fn new() -> Self
         ensures { λ r. ⌜ r ≡ NestingLevel.Top ⌝ }
     {
-        NestingLevel::Top
+        Self::Top
     }
 
     pub fn bitfield(self) -> Self
         ensures { λ r. ⌜ r ≡ self ⌝ }
     {
+        // A bitfield holds an integral type, which shows the same at every level.
         self
     }
 
@@ -121,6 +122,7 @@ impl NestingLevel {
     pub fn array(self) -> Self
         ensures { λ r. ⌜ r ≡ self ⌝ }
     {
+        // An item shows as much as its array.
         self
     }
 
@@ -219,35 +221,10 @@ impl Primitive {
     }
 }
 
-// The bytes of the codes, in the order of `Primitive`; 0 where there is no second byte.
+// The bytes of the codes, in the order of `Primitive`; a space where there is no second byte.
 const FIRST_BYTES: [u8; 24] = *b"csilqCSILQfdDjjjBv*@@#:?";
 
-const SECOND_BYTES: [u8; 24] = [
-    0,
-    0,
-    0,
-    0,
-    0,
-    0,
-    0,
-    0,
-    0,
-    0,
-    0,
-    0,
-    0,
-    b'f',
-    b'd',
-    b'D',
-    0,
-    0,
-    0,
-    0,
-    b'?',
-    0,
-    0,
-    0,
-];
+const SECOND_BYTES: [u8; 24] = *b"             fdD    ?   ";
 
 // `Primitive::to_str` on kind words.
 pub fn primitive_code(kind: u64) -> Code
@@ -259,39 +236,15 @@ pub fn primitive_code(kind: u64) -> Code
     let k = kind as usize;
     let a = FIRST_BYTES[k];
     let b = SECOND_BYTES[k];
-    if b == 0 {
+    if b == b' ' {
         return Code::One(a);
     }
     Code::Two(a, b)
 }
 
 // The sizes on 64-bit Apple ARM, in the order of `Primitive`; 0 for none.
-const SIZES: [u8; 24] = [
-    1,
-    2,
-    4,
-    8,
-    8,
-    1,
-    2,
-    4,
-    8,
-    8,
-    4,
-    8,
-    8,
-    8,
-    16,
-    16,
-    1,
-    0,
-    8,
-    8,
-    8,
-    8,
-    8,
-    0,
-];
+const SIZES: [u8; 24] =
+    *b"\x01\x02\x04\x08\x08\x01\x02\x04\x08\x08\x04\x08\x08\x08\x10\x10\x01\x00\x08\x08\x08\x08\x08\x00";
 
 fn wide(x: u8) -> u64
     ensures { λ r. ⌜ r ≡ x ⌝ }
@@ -304,7 +257,7 @@ pub fn primitive_size(kind: u64) -> PrimitiveSize
     ensures { λ r. ⌜ sizeOf r ≡ primitiveSize kind ⌝ }
 {
     if 24 <= kind {
-        return PrimitiveSize::Nothing;
+        return PrimitiveSize::Nothing; // beyond the table
     }
     let k = kind as usize;
     let n = wide(SIZES[k]);

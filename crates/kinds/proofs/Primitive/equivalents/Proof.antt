@@ -1,3 +1,5 @@
+use mathlib.Core.Path.{ap₂, _∙_}
+use Rattle.kinds.specs.Primitive.{equivalent}
 use borrow.Author.Needs.{needs}
 use Rattle.kinds.proofs.Primitive.equivalents.Statement.{statement}
 use Rattle.kinds.proofs.Primitive.equivalents.Tie as tie
@@ -16,7 +18,8 @@ equivalent-kinds-requires : tie.Need-equivalent-kinds-requires
 equivalent-kinds-requires c κs = search needs
 
 returns : tie.Need-returns
-returns c = rw (← c .before .before .kind .ensures, ← c .before .kind2 .ensures) (c .equivalent-kinds .ensures)
+returns c =
+    c .equivalent-kinds .ensures ∙ ap₂ equivalent (c .before .before .kind .ensures) (c .before .kind2 .ensures)
 
 pub equivalents-spec : {M : Type 1} → statement M
 equivalents-spec =

@@ -1,3 +1,5 @@
+use mathlib.Core.Path.{ap, _∙_}
+use Rattle.kinds.specs.Primitive.{primitiveSize}
 use borrow.Author.Needs.{needs}
 use Rattle.kinds.proofs.Primitive.size.Statement.{statement}
 use Rattle.kinds.proofs.Primitive.size.Tie as tie
@@ -13,7 +15,7 @@ primitive-size-requires : tie.Need-primitive-size-requires
 primitive-size-requires c κs = search needs
 
 returns : tie.Need-returns
-returns c = rw (← c .before .kind .ensures) (c .primitive-size .ensures)
+returns c = c .primitive-size .ensures ∙ ap primitiveSize (c .before .kind .ensures)
 
 pub size-spec : {M : Type 1} → statement M
 size-spec = tie.close (tie.spec kind-requires primitive-size-requires returns)

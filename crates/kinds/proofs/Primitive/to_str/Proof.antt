@@ -1,3 +1,5 @@
+use mathlib.Core.Path.{ap, _∙_}
+use Rattle.kinds.specs.Primitive.{code}
 use borrow.Author.Needs.{needs}
 use Rattle.kinds.proofs.Primitive.to_str.Statement.{statement}
 use Rattle.kinds.proofs.Primitive.to_str.Tie as tie
@@ -13,7 +15,7 @@ primitive-code-requires : tie.Need-primitive-code-requires
 primitive-code-requires c κs = search needs
 
 returns : tie.Need-returns
-returns c = rw (← c .before .kind .ensures) (c .primitive-code .ensures)
+returns c = c .primitive-code .ensures ∙ ap code (c .before .kind .ensures)
 
 pub to-str-spec : {M : Type 1} → statement M
 to-str-spec = tie.close (tie.spec kind-requires primitive-code-requires returns)
