@@ -1,0 +1,4 @@
+-- What the agreement is stated with, beside the definitions of kinds.
+pub mod ReadTree
+pub mod ShownAlike
+pub mod MarkedCases
