@@ -1,0 +1,136 @@
+//! Questions to the crate, through its own functions, with answers in document 01's terms.
+
+use std::str::FromStr;
+
+use crate::helper::NestingLevel;
+use crate::plain;
+use crate::sheet::{STRUCT, UNION};
+use crate::static_str::{static_encoding_str_array, static_encoding_str_len};
+use crate::trees::{Arena, Tree};
+use crate::{Encoding, EncodingBox, ParseError};
+
+/// A refused text: document 01's number, and the values that it carries (0 where it has none).
+#[derive(Clone, Copy, Debug, PartialEq)]
+pub struct Refusal {
+    pub number: u64,
+    pub place: u64,
+    pub byte: u64,
+    pub kind: u64,
+}
+
+/// Whole-text reading.
+pub fn read(text: &str) -> Result<EncodingBox, Refusal> {
+    EncodingBox::from_str(text).map_err(|error| refusal(&error))
+}
+
+/// Reading from the start: the tree, and the place where the rest begins.
+pub fn read_start(text: &str) -> Result<(EncodingBox, usize), Refusal> {
+    let mut rest = text;
+    match EncodingBox::from_start_of_str(&mut rest) {
+        Ok(tree) => Ok((tree, text.len() - rest.len())),
+        Err(error) => {
+            assert_eq!(rest, text, "a refusal leaves the rest equal to the text");
+            Err(refusal(&error))
+        }
+    }
+}
+
+/// The error's fields are private; its Debug text shows them:
+/// `ParseError { kind: Unknown(120), data: "x", split_point: 1 }`.
+fn refusal(error: &ParseError) -> Refusal {
+    let shown = format!("{error:?}");
+    let kind = between(&shown, "kind: ", ", data: ");
+    let place = &shown[shown.rfind("split_point: ").unwrap() + 13..];
+    let place = place.trim_end_matches(" }").parse().unwrap();
+    let (name, value) = kind.split_once('(').unwrap_or((kind, ""));
+    let number = match name {
+        "UnexpectedEnd" => 7,
+        "Unknown" => 8,
+        "UnknownAfterComplex" => 9,
+        "ExpectedInteger" => 10,
+        "IntegerTooLarge" => 11,
+        "WrongEndArray" => 12,
+        "WrongEndContainer" => 13,
+        "InvalidIdentifier" => 14,
+        "NotAllConsumed" => 15,
+        other => unreachable!("an unknown error {other}"),
+    };
+    let (byte, kind) = match value.trim_end_matches(')') {
+        "" => (0, 0),
+        "Struct" => (0, STRUCT),
+        "Union" => (0, UNION),
+        byte => (byte.parse().unwrap(), 0),
+    };
+    Refusal { number, place, byte, kind }
+}
+
+fn between<'a>(text: &'a str, before: &str, after: &str) -> &'a str {
+    let start = text.find(before).unwrap() + before.len();
+    let end = start + text[start..].find(after).unwrap();
+    &text[start..end]
+}
+
+/// `==` between the crate's two tree types, both ways round.
+pub fn equal(a: &Encoding, a_box: &EncodingBox, b: &Encoding, b_box: &EncodingBox) -> (bool, bool) {
+    (a == b_box, a_box == b)
+}
+
+pub fn printed_length(tree: &Encoding) -> usize {
+    static_encoding_str_len(tree, NestingLevel::new())
+}
+
+/// Display's text. It is only asked where printing into an array would take too long.
+pub fn displayed(tree: &Encoding) -> Vec<u8> {
+    tree.to_string().into_bytes()
+}
+
+/// The printed text by `static_encoding_str_array`, if it can be had for at most `most` steps.
+pub fn printed(tree: &Encoding, shape: &Tree, most: u64) -> Option<Vec<u8>> {
+    let length = printed_length(tree);
+    let room = [64, 512, 4096, 65536].into_iter().find(|&room| length <= room)?;
+    if steps(shape, length as u64, room as u64) > most {
+        return None;
+    }
+    Some(match room {
+        64 => array_text::<64>(tree, length),
+        512 => array_text::<512>(tree, length),
+        4096 => array_text::<4096>(tree, length),
+        _ => array_text::<65536>(tree, length),
+    })
+}
+
+/// About what the crate spends: an array for each node, and at each nesting a copy of the text
+/// inside, with its length counted anew for every byte.
+fn steps(shape: &Tree, length: u64, room: u64) -> u64 {
+    let nodes = shape.nodes.len() as u64;
+    nodes * room + nesting(shape) * length * nodes
+}
+
+/// How many nodes are open at once at most.
+fn nesting(shape: &Tree) -> u64 {
+    let mut ends: Vec<usize> = Vec::new();
+    let mut deepest = 0;
+    for (at, node) in shape.nodes.iter().enumerate() {
+        while ends.last().is_some_and(|&end| end <= at) {
+            ends.pop();
+        }
+        ends.push(at + node.count as usize);
+        deepest = deepest.max(ends.len() as u64);
+    }
+    deepest
+}
+
+#[inline(never)]
+fn array_text<const LEN: usize>(tree: &Encoding, length: usize) -> Vec<u8> {
+    let array = static_encoding_str_array::<LEN>(tree, NestingLevel::new());
+    assert!(array[length..].iter().all(|&b| b == 0), "bytes beyond the printed length");
+    array[..length].to_vec()
+}
+
+/// The crate's size on document 01's target, if the question is within the domain.
+pub fn size(arena: &mut Arena, tree: &Tree) -> Option<Option<u64>> {
+    if !plain::measure(tree).fits {
+        return None;
+    }
+    Some(arena.encoding_without_long_double(tree).size().map(|bytes| bytes as u64))
+}

@@ -1,0 +1,200 @@
+//! Times of the library and of the crate on the same trees and texts, in one process. The ratio is
+//! the crate's time by ours: above 1 we are faster. Nothing fails here by being slow.
+
+use std::fmt::Write as _;
+use std::hint::black_box;
+use std::time::Instant;
+
+use crate::ask;
+use crate::helper::NestingLevel;
+use crate::library::{self, Sheet};
+use crate::static_str::static_encoding_str_array;
+use crate::trees::{Arena, Tree};
+use crate::Encoding;
+
+/// Batches for each time; their median counts.
+const BATCHES: usize = 15;
+const BATCH_NANOSECONDS: f64 = 2e6;
+
+pub fn run() -> bool {
+    println!("| tree | what | crate, ns | ours, ns | ratio |");
+    println!("|---|---|---:|---:|---:|");
+    for (name, text) in shapes() {
+        let tree = Tree::from_box(&ask::read(&text).expect("a text that reads"));
+        let name = format!("{name}: {} bytes, {} nodes", text.len(), tree.nodes.len());
+        bench_tree(&name, &tree);
+        #[cfg(readers)]
+        bench_reading(&name, &text);
+        #[cfg(matcher)]
+        bench_matching(&name, &tree);
+    }
+    #[cfg(readers)]
+    bench_growth();
+    true
+}
+
+fn shapes() -> Vec<(&'static str, String)> {
+    vec![
+        ("a code", "i".to_string()),
+        ("a record", RECORD.to_string()),
+        ("a long record", long_record(2000)),
+        ("codes only", format!("{{R={}}}", "i".repeat(1996))),
+        ("pointers", format!("{}i", "^".repeat(1000))),
+        ("nested records", format!("{}i{}", "{R=".repeat(499), "}".repeat(499))),
+    ]
+}
+
+const RECORD: &str = "{Rate=i^v{Point=dd}[4c]@\"NSDate\"^{Band=s}(U=if)b3*:#Bq^^{Q}}";
+
+/// A record of exactly so many bytes, of the same mixture at every length.
+fn long_record(length: usize) -> String {
+    let mut text = "{R=".to_string();
+    for field in ["i", "^v", "[4c]", "@", "b3", "{P=dd}", "*", "^{B}", "(U=if)", "b0i7", ":"].iter().cycle() {
+        if text.len() + field.len() >= length {
+            break;
+        }
+        text += field;
+    }
+    let left = length - 1 - text.len();
+    text + &"i".repeat(left) + "}"
+}
+
+fn bench_tree(name: &str, tree: &Tree) {
+    let (mut first, mut second) = (Arena::default(), Arena::default());
+    let (a, b) = (first.encoding(tree), second.encoding(tree));
+    let boxed = tree.to_box();
+    let words = tree.words();
+    let sheet = Sheet { words: &words, names: &tree.names };
+    let length = ask::printed_length(a);
+    let mut out = vec![0; length];
+    let mut shown = String::with_capacity(length);
+
+    line(
+        name,
+        "length",
+        || ask::printed_length(black_box(a)),
+        || library::static_encoding_str_len(black_box(sheet)),
+    );
+    if let Some(mut print) = array_printer(a, tree, length) {
+        let ours = || library::static_encoding_str_array(black_box(sheet), &mut out, length);
+        line(name, "print, to array", &mut print, ours);
+    }
+    let display = || {
+        shown.clear();
+        write!(shown, "{}", black_box(a)).unwrap();
+        shown.len()
+    };
+    let ours = || library::static_encoding_str_array(black_box(sheet), &mut out, length);
+    line(name, "print, to Display", display, ours);
+    line(name, "size", || black_box(a).size(), || library::size(black_box(sheet)));
+    let theirs = || black_box(a).equivalent_to(black_box(b));
+    line(name, "equivalent_to", theirs, || library::equivalent_to(black_box(sheet), black_box(sheet)));
+    let theirs = || black_box(a).equivalent_to_box(black_box(&boxed));
+    line(name, "equivalent_to_box", theirs, || {
+        library::equivalent_to_box(black_box(sheet), black_box(sheet))
+    });
+    let theirs = || black_box(a) == black_box(&boxed);
+    line(name, "==", theirs, || library::eq(black_box(sheet), black_box(sheet)));
+}
+
+/// The crate's printing into an array that has room, unless that takes too long.
+fn array_printer<'a>(made: &'a Encoding, tree: &Tree, length: usize) -> Option<Box<dyn FnMut() -> u8 + 'a>> {
+    ask::printed(made, tree, 20_000_000)?;
+    Some(match length {
+        0..=64 => Box::new(move || static_encoding_str_array::<64>(black_box(made), NestingLevel::new())[0]),
+        65..=512 => {
+            Box::new(move || static_encoding_str_array::<512>(black_box(made), NestingLevel::new())[0])
+        }
+        _ => Box::new(move || static_encoding_str_array::<4096>(black_box(made), NestingLevel::new())[0]),
+    })
+}
+
+#[cfg(readers)]
+fn bench_reading(name: &str, text: &str) {
+    let (mut words, mut names) = (vec![0; 8 + 4 * text.len()], vec![0; text.len()]);
+    let ours = || library::from_str(black_box(text.as_bytes()), &mut words, &mut names);
+    line(name, "from_str", || crate_read(black_box(text)), ours);
+    let ours = || library::from_start_of_str(black_box(text.as_bytes()), &mut words, &mut names);
+    line(name, "from_start_of_str", || crate_read_start(black_box(text)), ours);
+}
+
+/// Each tree against its own print.
+#[cfg(matcher)]
+fn bench_matching(name: &str, tree: &Tree) {
+    let mut arena = Arena::default();
+    let made = arena.encoding(tree);
+    let print = ask::displayed(made);
+    let print = std::str::from_utf8(&print).unwrap();
+    let sheet_words = tree.words();
+    let sheet = Sheet { words: &sheet_words, names: &tree.names };
+    let theirs = || black_box(made).equivalent_to_str(black_box(print));
+    let ours = || library::equivalent_to_str(black_box(sheet), black_box(print.as_bytes()));
+    line(name, "equivalent_to_str", theirs, ours);
+}
+
+#[cfg(readers)]
+fn crate_read(text: &str) -> bool {
+    text.parse::<crate::EncodingBox>().is_ok()
+}
+
+#[cfg(readers)]
+fn crate_read_start(text: &str) -> bool {
+    let mut rest = text;
+    crate::EncodingBox::from_start_of_str(&mut rest).is_ok()
+}
+
+/// How the time of reading grows: it is linear if the time for a byte stays the same.
+#[cfg(readers)]
+fn bench_growth() {
+    println!();
+    println!("| reading, bytes | crate, ns a byte | ours, ns a byte | ratio |");
+    println!("|---:|---:|---:|---:|");
+    for text in [long_record(20), long_record(200), long_record(2000)] {
+        let (mut words, mut names) = (vec![0; 8 + 4 * text.len()], vec![0; text.len()]);
+        let ours = || library::from_str(black_box(text.as_bytes()), &mut words, &mut names);
+        let (theirs, ours) = times(|| crate_read(black_box(&text)), ours);
+        let bytes = text.len() as f64;
+        println!("| {} | {:.2} | {:.2} | {:.2} |", text.len(), theirs / bytes, ours / bytes, theirs / ours);
+    }
+}
+
+fn line<A, B>(name: &str, what: &str, theirs: impl FnMut() -> A, ours: impl FnMut() -> B) {
+    let (theirs, ours) = times(theirs, ours);
+    println!("| {name} | {what} | {theirs:.1} | {ours:.1} | {:.2} |", theirs / ours);
+}
+
+/// The median times of both, taken in turns so that a slow moment of the machine meets both.
+fn times<A, B>(mut theirs: impl FnMut() -> A, mut ours: impl FnMut() -> B) -> (f64, f64) {
+    let (their_count, our_count) = (calls_in_a_batch(&mut theirs), calls_in_a_batch(&mut ours));
+    let (mut their_times, mut our_times) = (Vec::new(), Vec::new());
+    for _ in 0..BATCHES {
+        their_times.push(batch(&mut theirs, their_count));
+        our_times.push(batch(&mut ours, our_count));
+    }
+    (median(their_times), median(our_times))
+}
+
+fn calls_in_a_batch<T>(call: &mut impl FnMut() -> T) -> u32 {
+    let mut count = 1;
+    loop {
+        let taken = batch(call, count) * f64::from(count);
+        if taken > BATCH_NANOSECONDS || count > 1 << 24 {
+            return count;
+        }
+        count *= 2;
+    }
+}
+
+/// Nanoseconds for one of so many calls.
+fn batch<T>(call: &mut impl FnMut() -> T, count: u32) -> f64 {
+    let start = Instant::now();
+    for _ in 0..count {
+        black_box(call());
+    }
+    start.elapsed().as_secs_f64() * 1e9 / f64::from(count)
+}
+
+fn median(mut times: Vec<f64>) -> f64 {
+    times.sort_by(f64::total_cmp);
+    times[times.len() / 2]
+}

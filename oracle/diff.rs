@@ -1,0 +1,101 @@
+//! The differential driver: the crate and Berzhotun's library side by side.
+//!
+//!     diff trees SEED COUNT     valid sheets: print, size, comparisons
+//!     diff sheets SEED COUNT    spoilt sheets: refusals 3 and 4
+//!     diff short LENGTH         every text up to that length over the meaningful bytes: both readings
+//!     diff reads SEED COUNT     random, well-formed and spoilt texts: both readings
+//!     diff match LENGTH         every text up to that length over fewer bytes, against small trees
+//!     diff texts SEED COUNT     tree against text
+//!     diff all SEED COUNT       each of these, with lengths 3 and 4
+//!     diff stack KIBIBYTES      the deepest trees and texts on a stack of that size
+//!     diff bench                times, as ratios to the crate's
+//!
+//! `short` and `reads` need a library with the readers, `match` and `texts` one with tree against
+//! text. The exit status is 0 if there was no difference, 1 if there was one, 2 if the call makes
+//! no sense.
+
+use crate::report::run as run_all;
+use crate::{bench, run_sheets, run_trees, stack};
+
+#[cfg(readers)]
+use crate::run_reads;
+#[cfg(matcher)]
+use crate::run_texts;
+
+pub fn run() -> i32 {
+    let arguments: Vec<String> = std::env::args().skip(1).collect();
+    let arguments: Vec<&str> = arguments.iter().map(String::as_str).collect();
+    let numbers: Option<Vec<u64>> = arguments.iter().skip(1).map(|text| text.parse().ok()).collect();
+    let same = match (arguments.first().copied(), numbers.as_deref()) {
+        (Some("trees"), Some(&[seed, count])) => trees(seed, count),
+        (Some("sheets"), Some(&[seed, count])) => sheets(seed, count),
+        (Some("all"), Some(&[seed, count])) => all(seed, count),
+        #[cfg(readers)]
+        (Some("short"), Some(&[length])) => short(length as usize),
+        #[cfg(readers)]
+        (Some("reads"), Some(&[seed, count])) => reads(seed, count),
+        #[cfg(matcher)]
+        (Some("match"), Some(&[length])) => short_match(length as usize),
+        #[cfg(matcher)]
+        (Some("texts"), Some(&[seed, count])) => texts(seed, count),
+        (Some("stack"), Some(&[kibibytes])) => stack::run(kibibytes as usize),
+        (Some("bench"), Some(&[])) => bench::run(),
+        _ => {
+            eprintln!("usage: diff trees|sheets|reads|texts|all SEED COUNT");
+            eprintln!("       diff short|match LENGTH, diff stack KIBIBYTES, diff bench");
+            return 2;
+        }
+    };
+    i32::from(!same)
+}
+
+fn all(seed: u64, count: u64) -> bool {
+    // No run is left out because an earlier one found a difference.
+    let mut same = trees(seed, count);
+    same &= sheets(seed, count);
+    #[cfg(readers)]
+    {
+        same &= short(3);
+        same &= reads(seed, count);
+    }
+    #[cfg(matcher)]
+    {
+        same &= short_match(4);
+        same &= texts(seed, count);
+    }
+    same
+}
+
+fn trees(seed: u64, count: u64) -> bool {
+    let mut check = run_trees::Check::new();
+    run_all("trees", run_trees::inputs(seed, count), |case, tally| check.case(case, tally))
+}
+
+fn sheets(seed: u64, count: u64) -> bool {
+    let mut check = run_sheets::Check::new();
+    run_all("sheets", run_sheets::inputs(seed, count), |case, tally| check.case(case, tally))
+}
+
+#[cfg(readers)]
+fn short(length: usize) -> bool {
+    let mut check = run_reads::Check::new();
+    run_all("short", run_reads::short_inputs(length), |case, tally| check.case(case, tally))
+}
+
+#[cfg(matcher)]
+fn short_match(length: usize) -> bool {
+    let mut check = run_texts::ShortCheck::new();
+    run_all("match", run_texts::short_inputs(length), |case, tally| check.case(case, tally))
+}
+
+#[cfg(readers)]
+fn reads(seed: u64, count: u64) -> bool {
+    let mut check = run_reads::Check::new();
+    run_all("reads", run_reads::inputs(seed, count), |case, tally| check.case(case, tally))
+}
+
+#[cfg(matcher)]
+fn texts(seed: u64, count: u64) -> bool {
+    let mut check = run_texts::Check::new();
+    run_all("texts", run_texts::inputs(seed, count), |case, tally| check.case(case, tally))
+}

@@ -1,0 +1,102 @@
+//! The deepest trees and texts, put to the library alone on a stack of a given size. If that is too
+//! small the process dies of it; there is nothing to compare.
+
+use std::thread::Builder;
+
+use crate::library::{self, Reply, Sheet};
+use crate::sheet::*;
+use crate::trees::{Node, Tree};
+
+pub fn run(kibibytes: usize) -> bool {
+    let trees = chains();
+    let all_fit = move || trees.iter().all(tree_fits) && texts_fit();
+    let thread = Builder::new().stack_size(kibibytes << 10).spawn(all_fit).expect("a thread");
+    let fits = thread.join().unwrap_or(false);
+    println!(
+        "stack: {kibibytes} KiB {} for 2,001 nested nodes",
+        if fits { "are enough" } else { "did not do" }
+    );
+    fits
+}
+
+/// Chains of 2,001 nodes, of each kind that holds something and of all in turn.
+fn chains() -> Vec<Tree> {
+    let kinds: [&[u64]; 8] = [
+        &[POINTER],
+        &[ATOMIC],
+        &[ARRAY],
+        &[TYPED_BITFIELD],
+        &[STRUCT],
+        &[UNION],
+        &[STRUCT, POINTER, UNION, ARRAY],
+        &[ARRAY, TYPED_BITFIELD],
+    ];
+    kinds.iter().map(|kinds| chain(kinds)).collect()
+}
+
+fn chain(kinds: &[u64]) -> Tree {
+    let mut tree = Tree::default();
+    for depth in 0..MOST_NODES - 1 {
+        let kind = kinds[depth as usize % kinds.len()];
+        let (first, second) = if is_container(kind) {
+            tree.names.push(b'R');
+            (tree.names.len() as u64 - 1, 1)
+        } else {
+            (0, 0)
+        };
+        tree.nodes.push(Node { kind, first, second, count: MOST_NODES - depth });
+    }
+    tree.nodes.push(Node { kind: 2, first: 0, second: 0, count: 1 });
+    tree
+}
+
+fn tree_fits(tree: &Tree) -> bool {
+    let words = tree.words();
+    let sheet = Sheet { words: &words, names: &tree.names };
+    let mut out = vec![0; 1 << 16];
+    let length = library::static_encoding_str_len(sheet);
+    let print = library::static_encoding_str_array(sheet, &mut out, 1 << 16);
+    let pairs = [library::equivalent_to, library::equivalent_to_box, library::eq];
+    let compared = pairs.iter().all(|pair| accepted(pair(sheet, sheet)));
+    #[cfg(matcher)]
+    let compared = compared && text_limit_holds(sheet, &out[..print.1[0] as usize]);
+    accepted(length) && accepted(print) && accepted(library::size(sheet)) && compared
+}
+
+fn accepted(reply: Reply) -> bool {
+    reply.0 == 0
+}
+
+/// The tree against its own print, which may be too long for that.
+#[cfg(matcher)]
+fn text_limit_holds(sheet: Sheet, print: &[u8]) -> bool {
+    let refusal = library::equivalent_to_str(sheet, print).0;
+    refusal == u64::from(print.len() > 2000)
+        && accepted(library::equivalent_to_str(sheet, &print[..print.len().min(2000)]))
+}
+
+#[cfg(not(readers))]
+fn texts_fit() -> bool {
+    true
+}
+
+/// Nested as deep as 2,000 bytes allow, closed and not.
+#[cfg(readers)]
+fn texts_fit() -> bool {
+    let texts = [
+        "^".repeat(2000),
+        "A".repeat(2000),
+        "[1".repeat(1000),
+        "{R".repeat(1000),
+        "{R=".repeat(666),
+        "(R=".repeat(666),
+        format!("{}{}", "[1".repeat(666), "]".repeat(666)),
+        format!("{}{}", "{R=".repeat(500), "}".repeat(500)),
+    ];
+    let (mut words, mut names) = (vec![0; 8 + 4 * 2000], vec![0; 2000]);
+    texts.iter().all(|text| {
+        let whole = library::from_str(text.as_bytes(), &mut words, &mut names).0;
+        let start = library::from_start_of_str(text.as_bytes(), &mut words, &mut names).0;
+        (whole == 0 || whole >= 7) && (start == 0 || start >= 7)
+    })
+}
