@@ -1,7 +1,9 @@
 -- Why an input is turned away (01, "Why an input is turned away"): the number of each refusal and the values that it carries.
 use Prim.Native.Nat.{ℕ}
+use mathlib.Core.List.{List, [], _∷_}
 use mathlib.Core.Option.{Option, some, none}
 use Rattle.kinds.specs.declared.ContainerKind.{ContainerKind}
+use Rattle.kinds.specs.declared.ContainerKind.the-variants.{Struct, Union}
 use Rattle.kinds.specs.declared.ErrorKind.{ErrorKind}
 use Rattle.kinds.specs.declared.ErrorKind.the-variants as E
 use Rattle.kinds.specs.declared.Refusal.{Refusal}
@@ -78,3 +80,18 @@ refusedContainer R.BadName = none
 refusedContainer R.OutputTooShort = none
 refusedContainer R.SizeTooLarge = none
 refusedContainer (R.Parse e at) = errorContainer e
+
+-- ---- The values as plain numbers, 0 where a refusal carries none; a container by its kind word.
+
+abbrev pub orZero : Option ℕ → ℕ
+orZero none = 0
+orZero (some n) = n
+
+abbrev pub containerWord : Option ContainerKind → ℕ
+containerWord none = 0
+containerWord (some Struct) = 29
+containerWord (some Union) = 30
+
+-- Place, byte and container.
+abbrev pub values : Refusal → List ℕ
+values r = orZero (place r) ∷ orZero (refusedByte r) ∷ containerWord (refusedContainer r) ∷ []

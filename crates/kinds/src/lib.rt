@@ -4,6 +4,8 @@ ghost use Rattle.kinds.specs.Level.{indirection, containerIncludeFields}
 ghost use Rattle.kinds.specs.Name.{isNameByte, verifyName};
 ghost use Rattle.kinds.specs.Primitive.{kindOf, codeBytes, code, isObject, equivalent, sizeOf, primitiveSize};
 ghost use Rattle.kinds.specs.Container.{startByte, endByte, prefixByte};
+ghost use Rattle.kinds.specs.Refusal.{errorNumber, errorByte, errorContainer, number, orZero, containerWord, values};
+ghost use mathlib.Core.Option.{some};
 
 pub enum NestingLevel {
     Top,
@@ -164,6 +166,103 @@ impl ContainerKind {
         match self {
             ContainerKind::Struct => b'}',
             ContainerKind::Union => b')',
+        }
+    }
+}
+
+impl ContainerKind {
+    // The kind word of a container in a sheet.
+    pub fn kind(self) -> u64
+        ensures { λ r. ⌜ r ≡ containerWord (some self) ⌝ }
+    {
+        match self {
+            ContainerKind::Struct => 29,
+            ContainerKind::Union => 30,
+        }
+    }
+}
+
+impl ErrorKind {
+    // Document 01's number.
+    pub fn number(self) -> u64
+        ensures { λ r. ⌜ r ≡ errorNumber self ⌝ }
+    {
+        match self {
+            ErrorKind::UnexpectedEnd => 7,
+            ErrorKind::Unknown(_) => 8,
+            ErrorKind::UnknownAfterComplex(_) => 9,
+            ErrorKind::ExpectedInteger => 10,
+            ErrorKind::IntegerTooLarge => 11,
+            ErrorKind::WrongEndArray => 12,
+            ErrorKind::WrongEndContainer(_) => 13,
+            ErrorKind::InvalidIdentifier(_) => 14,
+            ErrorKind::NotAllConsumed => 15,
+        }
+    }
+
+    // The byte that 8 and 9 carry, else 0.
+    pub fn byte(self) -> u64
+        ensures { λ r. ⌜ r ≡ orZero (errorByte self) ⌝ }
+    {
+        match self {
+            ErrorKind::UnexpectedEnd => 0,
+            ErrorKind::Unknown(b) => wide(b),
+            ErrorKind::UnknownAfterComplex(b) => wide(b),
+            ErrorKind::ExpectedInteger => 0,
+            ErrorKind::IntegerTooLarge => 0,
+            ErrorKind::WrongEndArray => 0,
+            ErrorKind::WrongEndContainer(_) => 0,
+            ErrorKind::InvalidIdentifier(_) => 0,
+            ErrorKind::NotAllConsumed => 0,
+        }
+    }
+
+    // The kind word of the container that 13 and 14 name, else 0.
+    pub fn container(self) -> u64
+        ensures { λ r. ⌜ r ≡ containerWord (errorContainer self) ⌝ }
+    {
+        match self {
+            ErrorKind::UnexpectedEnd => 0,
+            ErrorKind::Unknown(_) => 0,
+            ErrorKind::UnknownAfterComplex(_) => 0,
+            ErrorKind::ExpectedInteger => 0,
+            ErrorKind::IntegerTooLarge => 0,
+            ErrorKind::WrongEndArray => 0,
+            ErrorKind::WrongEndContainer(k) => k.kind(),
+            ErrorKind::InvalidIdentifier(k) => k.kind(),
+            ErrorKind::NotAllConsumed => 0,
+        }
+    }
+}
+
+impl Refusal {
+    // Document 01's number.
+    pub fn number(self) -> u64
+        ensures { λ r. ⌜ r ≡ number self ⌝ }
+    {
+        match self {
+            Refusal::TextTooLong => 1,
+            Refusal::ListTooShort => 2,
+            Refusal::NotASheet => 3,
+            Refusal::BadName => 4,
+            Refusal::OutputTooShort => 5,
+            Refusal::SizeTooLarge => 6,
+            Refusal::Parse(e, _) => e.number(),
+        }
+    }
+
+    // Place, byte and container, 0 where the refusal carries none.
+    pub fn values(self) -> [u64; 3]
+        ensures { λ r. ⌜ r ≡ values self ⌝ }
+    {
+        match self {
+            Refusal::TextTooLong => [0, 0, 0],
+            Refusal::ListTooShort => [0, 0, 0],
+            Refusal::NotASheet => [0, 0, 0],
+            Refusal::BadName => [0, 0, 0],
+            Refusal::OutputTooShort => [0, 0, 0],
+            Refusal::SizeTooLarge => [0, 0, 0],
+            Refusal::Parse(e, at) => [at as u64, e.byte(), e.container()],
         }
     }
 }
