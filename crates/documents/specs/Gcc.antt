@@ -1,0 +1,54 @@
+-- GCC's manual, "Type encoding" of its Objective-C chapter: bit-fields, complex types and long double.
+use Prim.Native.Nat.{ℕ}
+use mathlib.Core.List.{List, _∷_, _++_}
+use Rattle.kinds.specs.Byte.{byte, bytes}
+use Rattle.documents.specs.Decimal.{decimal}
+
+-- The types of bit-fields are the integral ones.
+pub data Integral : Type 0 where
+  char : Integral
+  unsignedChar : Integral
+  short : Integral
+  unsignedShort : Integral
+  int : Integral
+  unsignedInt : Integral
+  long : Integral
+  unsignedLong : Integral
+  longLong : Integral
+  unsignedLongLong : Integral
+  bool : Integral
+
+unfoldable pub code : Integral → ℕ
+code char = byte "c"
+code unsignedChar = byte "C"
+code short = byte "s"
+code unsignedShort = byte "S"
+code int = byte "i"
+code unsignedInt = byte "I"
+code long = byte "l"
+code unsignedLong = byte "L"
+code longLong = byte "q"
+code unsignedLongLong = byte "Q"
+code bool = byte "B"
+
+-- A bit-field: the position of its first bit, the code of its type, its size in bits.
+unfoldable pub bitField : ℕ → Integral → ℕ → List ℕ
+bitField position type size = byte "b" ∷ (decimal position ++ (code type ∷ decimal size))
+
+-- The same as older compilers wrote it.
+unfoldable pub olderBitField : ℕ → List ℕ
+olderBitField size = byte "b" ∷ decimal size
+
+unfoldable pub longDouble : List ℕ
+longDouble = bytes "D"
+
+-- A type made complex.
+unfoldable pub complex : List ℕ → List ℕ
+complex type = byte "j" ∷ type
+
+-- The worked example, a struct of an int, three floats, bit-fields `int a:3` and `int b:2`, and a char; in both forms.
+unfoldable pub example : List ℕ
+example = bytes "{?=i[3f]" ++ (bitField 128 int 3 ++ (bitField 131 int 2 ++ bytes "c}"))
+
+unfoldable pub olderExample : List ℕ
+olderExample = bytes "{?=i[3f]" ++ (olderBitField 3 ++ (olderBitField 2 ++ bytes "c}"))
