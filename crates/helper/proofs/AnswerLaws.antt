@@ -1,0 +1,143 @@
+-- The answers of the entry points, as the code reaches them.
+use Prim.Native.Nat.{ℕ, _+_, _-_, _*_, _≤_, _<_}
+use native.Mathlib.Omega.{arith}
+use mathlib.Core.Path.{_≡_, refl, ap, ap₂, sym, _∙_, subst}
+use mathlib.Core.List.{List}
+use mathlib.Core.Option.{Option, some, none}
+use mathlib.Core.Bool.{Bool, true, false, cond, _&&_}
+use lib.Dec.{leb}
+use lib.ListN.{length, getD}
+use Rattle.kinds.specs.Compare.{compareEncodings}
+use Rattle.kinds.specs.Parse.{maxU64}
+use Rattle.kinds.specs.Sheet.{isSheet, treeOf, trees, nodeWords, nests}
+use Rattle.kinds.specs.Size.{size, sizes, only}
+use Rattle.kinds.specs.Sound.{goodNames}
+use Rattle.kinds.specs.Walk.{NodeAt, TreesAt, KindsAndNames}
+use Rattle.kinds.specs.declared.NestingLevel.{NestingLevel}
+use Rattle.kinds.specs.declared.NestingLevel.the-variants.{Top}
+use Rattle.kinds.specs.declared.Refusal.the-variants as R
+use Rattle.kinds.proofs.NodeLaws.{SheetSays, sheet-says, packed-walk}
+use Rattle.sheet.specs.Check.{checked}
+use Rattle.sheet.specs.declared.Checked.{Checked}
+use Rattle.sheet.specs.declared.Checked.the-variants.{NotASheet, BadName, Good}
+use Rattle.helper.specs.Answer.{sized, sizeAnswer, compareAnswer}
+use Rattle.helper.specs.Measure.{fit, clip, sizeAt, compareFields, bothChecked}
+use Rattle.helper.specs.declared.Compared.{Compared}
+use Rattle.helper.specs.declared.Compared.the-variants as C
+use Rattle.helper.specs.declared.Measured.{Measured}
+use Rattle.helper.specs.declared.Measured.the-variants.{Nothing, Bytes, TooLarge}
+use Rattle.helper.specs.declared.Sized.{Sized}
+use Rattle.helper.specs.declared.Sized.the-variants as S
+use Rattle.helper.proofs.NodeSizeLaws.{sizes-step}
+use Rattle.helper.proofs.CompareLaws.{fields-some}
+
+-- ---- A sheet that passes.
+
+pub good-sheet : (w s : List ℕ) → checked w s ≡ Good → isSheet w s ≡ true
+unfolding checked
+good-sheet w s h = go (isSheet w s) (goodNames (treeOf w s)) h
+  where
+    go : (x y : Bool) → cond x (cond y Good BadName) NotASheet ≡ Good → x ≡ true
+    go true y e = refl
+    go false y e = absurd (let z : _≡_ {A = ℕ} 0 1 = cc in omega arith)
+
+module _ (w s : List ℕ) (h : isSheet w s ≡ true) where
+  pub sheet-room : 4 ≤ length w
+  sheet-room = let r = sheet-says w s h .head .room in omega arith
+
+  pub sheet-some : 0 < getD w 0 0
+  sheet-some = sheet-says w s h .head .some-nodes
+
+  pub sheet-trees : TreesAt (nodeWords w) 0 (getD w 0 0)
+  sheet-trees =
+      let r = sheet-says w s h in
+      let c = r .count in
+      let m = r .root .room in
+      record { room = omega arith; nested = subst (λ (n : ℕ). nests (nodeWords w) n 0 ≡ true) c (r .root .nested) }
+
+  pub sheet-walk : KindsAndNames (nodeWords w) (length s) 0 (getD w 0 0)
+  sheet-walk = let r = sheet-says w s h in packed-walk (nodeWords w) (length s) (getD w 0 0) 0 0 (getD w 2 0) (r .head .bytes) (r .packs)
+
+  sheet-size : size (treeOf w s) ≡ sizeAt s (nodeWords w) 0 Top
+  unfolding size treeOf only
+  sheet-size =
+      let r = sheet-says w s h in
+      let c = r .count in
+      ap only (sizes-step s (nodeWords w) 0 Top (getD w 0 0) (r .root .some-node) (omega arith))
+
+-- ---- `size`.
+
+abbrev pub measured : Measured → Sized
+measured Nothing = S.Nothing
+measured (Bytes n) = S.Bytes n
+measured TooLarge = S.Refused R.SizeTooLarge
+
+measured-clip : (x : Option ℕ) → sized x ≡ measured (clip x)
+unfolding sized clip fit
+measured-clip none = refl
+measured-clip (some n) = go (leb n maxU64)
+  where
+    go : (t : Bool) → cond t (S.Bytes n) (S.Refused R.SizeTooLarge) ≡ measured (cond t (Bytes n) TooLarge)
+    go true = refl
+    go false = refl
+
+abbrev pub sizeOn : Checked → Sized → Sized
+sizeOn NotASheet x = S.Refused R.NotASheet
+sizeOn BadName x = S.Refused R.BadName
+sizeOn Good x = x
+
+pub size-checked : (w s : List ℕ) (k : Checked) → checked w s ≡ k → sizeOn k (sized (size (treeOf w s))) ≡ sizeAnswer w s
+unfolding checked sizeAnswer
+size-checked w s k h = ap (λ x. sizeOn x (sized (size (treeOf w s)))) (sym h) ∙ go (isSheet w s) (goodNames (treeOf w s))
+  where
+    go : (x y : Bool) → sizeOn (cond x (cond y Good BadName) NotASheet) (sized (size (treeOf w s))) ≡ cond x (cond y (sized (size (treeOf w s))) (S.Refused R.BadName)) (S.Refused R.NotASheet)
+    go true true = refl
+    go true false = refl
+    go false y = refl
+
+pub size-measured : (w s v : List ℕ) → checked w s ≡ Good → v ≡ nodeWords w → (l : NestingLevel) → l ≡ Top → (m : Measured) → m ≡ clip (sizeAt s v 0 l) → measured m ≡ sizeAnswer w s
+size-measured w s v h e l f m d =
+    ap measured (d ∙ ap₂ (λ (u : List ℕ) (x : NestingLevel). clip (sizeAt s u 0 x)) e f)
+    ∙ sym (measured-clip (sizeAt s (nodeWords w) 0 Top))
+    ∙ ap sized (sym (sheet-size w s (good-sheet w s h)))
+    ∙ size-checked w s Good h
+
+-- ---- `compare_encodings`.
+
+abbrev pub compareOn : Checked → Compared → Compared
+compareOn NotASheet x = C.Refused R.NotASheet
+compareOn BadName x = C.Refused R.BadName
+compareOn Good x = x
+
+pub both-good : (x y : Checked) → bothChecked x y ≡ Good → (x ≡ Good) × (y ≡ Good)
+both-good NotASheet y h = absurd (let z : _≡_ {A = ℕ} 0 1 = cc in omega arith)
+both-good BadName NotASheet h = absurd (let z : _≡_ {A = ℕ} 0 1 = cc in omega arith)
+both-good BadName BadName h = absurd (let z : _≡_ {A = ℕ} 0 1 = cc in omega arith)
+both-good BadName Good h = absurd (let z : _≡_ {A = ℕ} 0 1 = cc in omega arith)
+both-good Good y h = (refl, h)
+
+module _ (all : Bool) (aw an bw bn : List ℕ) where
+  pub compare-checked : (k : Checked) → bothChecked (checked aw an) (checked bw bn) ≡ k → compareOn k (C.Decided (compareEncodings all Top (treeOf aw an) (treeOf bw bn))) ≡ compareAnswer all aw an bw bn
+  unfolding checked compareAnswer
+  compare-checked k h = ap (λ x. compareOn x (C.Decided (compareEncodings all Top (treeOf aw an) (treeOf bw bn)))) (sym h) ∙ go (isSheet aw an) (goodNames (treeOf aw an)) (isSheet bw bn) (goodNames (treeOf bw bn))
+    where
+      go : (x y p q : Bool) → compareOn (bothChecked (cond x (cond y Good BadName) NotASheet) (cond p (cond q Good BadName) NotASheet)) (C.Decided (compareEncodings all Top (treeOf aw an) (treeOf bw bn)))
+          ≡ cond (x && p) (cond (y && q) (C.Decided (compareEncodings all Top (treeOf aw an) (treeOf bw bn))) (C.Refused R.BadName)) (C.Refused R.NotASheet)
+      go true true true true = refl
+      go true true true false = refl
+      go true true false q = refl
+      go true false true true = refl
+      go true false true false = refl
+      go true false false q = refl
+      go false y p q = refl
+
+  pub compare-decided : bothChecked (checked aw an) (checked bw bn) ≡ Good → (v u : List ℕ) → v ≡ nodeWords aw → u ≡ nodeWords bw → (l : NestingLevel) → l ≡ Top → (r : Bool)
+      → r ≡ compareFields all l (trees an v (getD aw 0 0) 0) (trees bn u (getD bw 0 0) 0) → C.Decided r ≡ compareAnswer all aw an bw bn
+  unfolding treeOf
+  compare-decided h v u ev eu l f r d =
+      let g = both-good (checked aw an) (checked bw bn) h in
+      ap C.Decided (d
+      ∙ ap (λ (x : NestingLevel). compareFields all x (trees an v (getD aw 0 0) 0) (trees bn u (getD bw 0 0) 0)) f
+      ∙ ap₂ (λ (x y : List ℕ). compareFields all Top (trees an x (getD aw 0 0) 0) (trees bn y (getD bw 0 0) 0)) ev eu
+      ∙ fields-some all Top an (nodeWords aw) bn (nodeWords bw) (getD aw 0 0) (getD bw 0 0) 0 0 (sheet-some aw an (good-sheet aw an (g .0))) (sheet-some bw bn (good-sheet bw bn (g .1))))
+      ∙ compare-checked Good h

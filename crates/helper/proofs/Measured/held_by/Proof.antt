@@ -1,0 +1,38 @@
+use borrow.Author.Needs.{needs}
+use Rattle.helper.proofs.Measured.held_by.Statement.{statement}
+use Rattle.helper.proofs.Measured.held_by.Tie as tie
+use Rattle.helper.proofs.Measured.held_by.Reads as reads
+use Rattle.helper.proofs.Measured.held_by.Lts as lts
+use Rattle.helper.proofs.Measured.larger.Reads as larger-reads
+use Rattle.helper.proofs.Measured.times.Reads as times-reads
+use Rattle.helper.proofs.bit_bytes.Reads as bit-bytes-reads
+use borrow.Author.Tests.{le-leb, lt-leb, eq-eqb, ne-eqb, not-true, not-false}
+use mathlib.Core.Path.{_≡_, refl, sym, ap, ap₂, _∙_}
+use Rattle.helper.specs.Measure.{holdingMeasured, largerMeasured}
+use Rattle.helper.specs.declared.Measured.the-variants.{Bytes}
+
+bit-bytes-requires : tie.Need-bit-bytes-requires
+bit-bytes-requires c κs = search needs
+
+larger-requires : tie.Need-larger-requires
+larger-requires c κs = search needs
+
+returns : tie.Need-returns
+unfolding holdingMeasured
+returns c = rw (eq-eqb _ _ (c .before .before .if1 .taken)) (c .larger .ensures ∙ ap (λ x. largerMeasured (Bytes x) (c .before .before .before .args .self)) (c .before .bit-bytes .ensures))
+
+times-requires : tie.Need-times-requires
+times-requires c κs = search needs
+
+returns-2 : tie.Need-returns-2
+unfolding holdingMeasured
+returns-2 c = rw (ne-eqb _ _ (c .before .before .if1 .left), eq-eqb _ _ (c .before .if2 .taken)) (c .times .ensures)
+
+returns-3 : tie.Need-returns-3
+unfolding holdingMeasured
+returns-3 c = rw (ne-eqb _ _ (c .before .if1 .left), ne-eqb _ _ (c .if2 .left))
+
+pub held-by-spec : {M : Type 1} → statement M
+held-by-spec =
+    tie.close
+    (tie.spec bit-bytes-requires larger-requires returns times-requires returns-2 returns-3)

@@ -1,0 +1,71 @@
+use borrow.Author.Needs.{needs}
+use Rattle.helper.proofs.Measured.larger.Statement.{statement}
+use Rattle.helper.proofs.Measured.larger.Tie as tie
+use Rattle.helper.proofs.Measured.larger.Reads as reads
+use Rattle.helper.proofs.Measured.larger.Lts as lts
+use borrow.Author.Tests.{le-leb, lt-leb, leb-true, leb-false, eq-eqb, ne-eqb, eqb-true, eqb-false, not-true, not-false, ltb-true, ltb-false}
+use mathlib.Core.Path.{_≡_, refl, sym, ap, ap₂, _∙_, subst}
+use native.Mathlib.Omega.{arith}
+use Prim.Native.Nat.{ℕ, zero, suc, _+_, _-_, _*_, _≤_, _<_, max}
+use Rattle.helper.specs.Measure.{plusMeasured, largerMeasured, timesMeasured, joinMeasured, fit, clip, fold}
+use Rattle.helper.specs.declared.Measured.the-variants.{Bytes}
+use Rattle.helper.proofs.SizeLaws.{fit-le, fit-gt, product-fits, product-over}
+
+enum-told : tie.Need-enum-told
+enum-told c = search needs
+
+enum-told-2 : tie.Need-enum-told-2
+enum-told-2 c = search needs
+
+enum-known-self : tie.Need-enum-known-self
+enum-known-self c = search needs
+
+enum-told-3 : tie.Need-enum-told-3
+enum-told-3 c = search needs
+
+enum-told-4 : tie.Need-enum-told-4
+enum-told-4 c = search needs
+
+enum-known-other : tie.Need-enum-known-other
+enum-known-other c = search needs
+
+returns : tie.Need-returns
+unfolding largerMeasured
+returns c = rw ((c .enum-told .given) .1)
+
+returns-2 : tie.Need-returns-2
+unfolding largerMeasured
+returns-2 c = rw ((c .enum-told2 .given) .1)
+
+returns-3 : tie.Need-returns-3
+unfolding largerMeasured
+returns-3 c = rw ((c .before .before .before .self .given) .1, (c .enum-told3 .given) .1)
+
+returns-4 : tie.Need-returns-4
+unfolding largerMeasured
+returns-4 c = rw ((c .before .before .before .self .given) .1, (c .enum-told4 .given) .1)
+
+returns-5 : tie.Need-returns-5
+unfolding largerMeasured
+returns-5 c = rw ((c .before .before .before .before .before .self .given) .1, (c .before .before .other .given) .1) (ap Bytes (omega arith))
+
+returns-6 : tie.Need-returns-6
+unfolding largerMeasured
+returns-6 c = rw ((c .before .before .before .before .before .self .given) .1, (c .before .before .other .given) .1) (ap Bytes (omega arith))
+
+pub larger-spec : {M : Type 1} → statement M
+larger-spec =
+    tie.close
+    (tie.spec
+    enum-told
+    enum-told-2
+    enum-known-self
+    enum-told-3
+    enum-told-4
+    enum-known-other
+    returns
+    returns-2
+    returns-3
+    returns-4
+    returns-5
+    returns-6)

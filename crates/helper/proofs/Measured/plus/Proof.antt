@@ -1,0 +1,101 @@
+use borrow.Author.Needs.{needs}
+use Rattle.helper.proofs.Measured.plus.Statement.{statement}
+use Rattle.helper.proofs.Measured.plus.Tie as tie
+use Rattle.helper.proofs.Measured.plus.Reads as reads
+use Rattle.helper.proofs.Measured.plus.Lts as lts
+use borrow.Author.Tests.{le-leb, lt-leb, leb-true, leb-false, eq-eqb, ne-eqb, eqb-true, eqb-false, not-true, not-false, ltb-true, ltb-false}
+use mathlib.Core.Path.{_≡_, refl, sym, ap, ap₂, _∙_, subst}
+use native.Mathlib.Omega.{arith}
+use Prim.Native.Nat.{ℕ, zero, suc, _+_, _-_, _*_, _≤_, _<_, max}
+use Rattle.helper.specs.Measure.{plusMeasured, largerMeasured, timesMeasured, joinMeasured, fit, clip, fold}
+use Rattle.helper.specs.declared.Measured.the-variants.{Bytes}
+use Rattle.helper.proofs.SizeLaws.{fit-le, fit-gt, product-fits, product-over}
+
+enum-told : tie.Need-enum-told
+enum-told c = search needs
+
+enum-told-2 : tie.Need-enum-told-2
+enum-told-2 c = search needs
+
+enum-told-3 : tie.Need-enum-told-3
+enum-told-3 c = search needs
+
+enum-told-4 : tie.Need-enum-told-4
+enum-told-4 c = search needs
+
+enum-told-5 : tie.Need-enum-told-5
+enum-told-5 c = search needs
+
+enum-known-self : tie.Need-enum-known-self
+enum-known-self c = search needs
+
+enum-told-6 : tie.Need-enum-told-6
+enum-told-6 c = search needs
+
+enum-told-7 : tie.Need-enum-told-7
+enum-told-7 c = search needs
+
+enum-known-other : tie.Need-enum-known-other
+enum-known-other c = search needs
+
+sub-if1 : tie.Need-sub-if1
+sub-if1 c = search needs
+
+add-t11 : tie.Need-add-t11
+add-t11 c = search needs
+
+returns : tie.Need-returns
+unfolding plusMeasured
+returns c = rw ((c .enum-told .given) .1)
+
+returns-2 : tie.Need-returns-2
+unfolding plusMeasured
+returns-2 c = rw ((c .before .before .enum-told2 .given) .1, (c .enum-told3 .given) .1)
+
+returns-3 : tie.Need-returns-3
+unfolding plusMeasured
+returns-3 c = rw ((c .before .before .enum-told2 .given) .1, (c .enum-told4 .given) .1)
+
+returns-4 : tie.Need-returns-4
+unfolding plusMeasured
+returns-4 c = rw ((c .before .before .enum-told2 .given) .1, (c .enum-told5 .given) .1)
+
+returns-5 : tie.Need-returns-5
+unfolding plusMeasured
+returns-5 c = rw ((c .before .before .before .self .given) .1, (c .enum-told6 .given) .1)
+
+returns-6 : tie.Need-returns-6
+unfolding plusMeasured
+returns-6 c = rw ((c .before .before .before .self .given) .1, (c .enum-told7 .given) .1)
+
+returns-7 : tie.Need-returns-7
+unfolding plusMeasured
+returns-7 c = rw ((c .before .before .before .before .before .self .given) .1, (c .before .before .other .given) .1) (sym (fit-le _ (omega arith)))
+
+returns-8 : tie.Need-returns-8
+unfolding plusMeasured
+returns-8 c = rw ((c .before .before .before .before .before .self .given) .1, (c .before .before .other .given) .1) (sym (fit-gt _ (omega arith)))
+
+pub plus-spec : {M : Type 1} → statement M
+plus-spec =
+    tie.close
+    (tie.spec
+    enum-told
+    enum-told-2
+    enum-told-3
+    enum-told-4
+    enum-told-5
+    enum-known-self
+    enum-told-6
+    enum-told-7
+    enum-known-other
+    sub-if1
+    add-t11
+    returns
+    returns-2
+    returns-3
+    returns-4
+    returns-5
+    returns-6
+    returns-7
+    returns-8)

@@ -1,0 +1,68 @@
+use borrow.Author.Needs.{needs}
+use Rattle.helper.proofs.Measured.times.Statement.{statement}
+use Rattle.helper.proofs.Measured.times.Tie as tie
+use Rattle.helper.proofs.Measured.times.Reads as reads
+use Rattle.helper.proofs.Measured.times.Lts as lts
+use borrow.Author.Tests.{le-leb, lt-leb, leb-true, leb-false, eq-eqb, ne-eqb, eqb-true, eqb-false, not-true, not-false, ltb-true, ltb-false}
+use mathlib.Core.Path.{_≡_, refl, sym, ap, ap₂, _∙_, subst}
+use native.Mathlib.Omega.{arith}
+use Prim.Native.Nat.{ℕ, zero, suc, _+_, _-_, _*_, _≤_, _<_, max}
+use native.Mathlib.Nat.{zero-mul}
+use Rattle.helper.specs.Measure.{plusMeasured, largerMeasured, timesMeasured, joinMeasured, fit, clip, fold}
+use Rattle.helper.specs.declared.Measured.the-variants.{Bytes}
+use Rattle.helper.proofs.SizeLaws.{fit-le, fit-gt, product-fits, product-over}
+
+enum-told : tie.Need-enum-told
+enum-told c = search needs
+
+enum-told-2 : tie.Need-enum-told-2
+enum-told-2 c = search needs
+
+enum-known-self : tie.Need-enum-known-self
+enum-known-self c = search needs
+
+returns : tie.Need-returns
+unfolding timesMeasured
+returns c = rw ((c .before .before .self .given) .1, (c .if2 .taken)) (sym (ap fit (zero-mul _) ∙ fit-le 0 (omega arith)))
+
+div-if3 : tie.Need-div-if3
+div-if3 c = search needs
+
+mul-t10 : tie.Need-mul-t10
+mul-t10 c = let h = product-fits _ _ (c .before .if2 .left) (c .if3 .taken) in omega arith
+
+returns-2 : tie.Need-returns-2
+unfolding timesMeasured
+returns-2 c = rw ((c .enum-told .given) .1)
+
+returns-3 : tie.Need-returns-3
+unfolding timesMeasured
+returns-3 c = rw ((c .before .enum-told2 .given) .1, eq-eqb _ _ (c .if1 .taken))
+
+returns-4 : tie.Need-returns-4
+unfolding timesMeasured
+returns-4 c = rw ((c .before .enum-told2 .given) .1, ne-eqb _ _ (c .if1 .left))
+
+returns-5 : tie.Need-returns-5
+unfolding timesMeasured
+returns-5 c = rw ((c .before .before .before .self .given) .1) (sym (fit-le _ (product-fits _ _ (c .before .if2 .left) (c .if3 .taken))))
+
+returns-6 : tie.Need-returns-6
+unfolding timesMeasured
+returns-6 c = rw ((c .before .before .before .self .given) .1) (sym (fit-gt _ (product-over _ _ (c .before .if2 .left) (c .if3 .left))))
+
+pub times-spec : {M : Type 1} → statement M
+times-spec =
+    tie.close
+    (tie.spec
+    enum-told
+    enum-told-2
+    enum-known-self
+    returns
+    div-if3
+    mul-t10
+    returns-2
+    returns-3
+    returns-4
+    returns-5
+    returns-6)

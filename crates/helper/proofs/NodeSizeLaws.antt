@@ -1,0 +1,152 @@
+-- The size of each kind of node, and the walk over a container's fields.
+use Prim.Native.Nat.{ℕ, zero, suc, _+_, _-_, _*_, _≤_, _<_, max}
+use native.Mathlib.Omega.{arith}
+use mathlib.Core.Path.{_≡_, refl, ap, sym, _∙_}
+use mathlib.Core.List.{List, [], _∷_}
+use mathlib.Core.Option.{Option, some, none}
+use mathlib.Core.Bool.{Bool, true, false, cond, _||_, false≢true}
+use borrow.Author.Tests.{ne-eqb, eqb-true, eqb-false}
+use lib.Dec.{leb, eqb}
+use Rattle.kinds.specs.Level.{showsFields, containerIncludeFields}
+use Rattle.kinds.specs.Parse.{maxU64}
+use Rattle.kinds.specs.Primitive.{primitiveSize}
+use Rattle.kinds.specs.Sheet.{kindAt, firstAt, secondAt, countAt, labelAt, isContainerKind, read, trees}
+use Rattle.kinds.specs.Size.{bitBytes, plus, larger, times, orZero, sum, largest, only, nodeSize, sizes}
+use Rattle.kinds.specs.Tree.{inside}
+use Rattle.kinds.specs.Walk.{NodeAt}
+use Rattle.kinds.specs.declared.Fields.{Fields}
+use Rattle.kinds.specs.declared.Fields.the-variants.{Included, Dropped}
+use Rattle.kinds.specs.declared.NestingLevel.{NestingLevel}
+use Rattle.kinds.specs.declared.NestingLevel.the-variants.{Top, Within, Bottom}
+use Rattle.kinds.proofs.SheetLaws.{trees-step}
+use Rattle.kinds.proofs.NodeLaws.{child-count, node-child, label-primitive, label-bits, label-typed, label-pointer, label-atomic, label-array, label-struct, label-union, label-none}
+use Rattle.helper.specs.Measure.{clip, join, fold, holding, sizeAt}
+use Rattle.helper.specs.declared.Measured.the-variants.{Bytes}
+use Rattle.helper.proofs.SizeLaws.{clip-some, join-assoc, fold-cons, larger-some}
+
+module _ (s w : List ℕ) (at : ℕ) where
+  -- the trees of `n` nodes, by their sizes
+  pub sizes-step : (v : NestingLevel) (n : ℕ) → 1 ≤ countAt w at → countAt w at ≤ n → sizes v (trees s w n at) ≡ sizeAt s w at v ∷ sizes v (trees s w (n - countAt w at) (at + 4 * countAt w at))
+  unfolding sizes sizeAt
+  sizes-step v n p q = rw (trees-step s w n at p q)
+
+  pub size-primitive : (v : NestingLevel) → kindAt w at < 24 → sizeAt s w at v ≡ primitiveSize (kindAt w at)
+  unfolding sizeAt nodeSize
+  size-primitive v p = rw (label-primitive s (kindAt w at) (firstAt w at) (secondAt w at) p)
+
+  pub size-bits : (v : NestingLevel) → kindAt w at ≡ 24 → sizeAt s w at v ≡ some (bitBytes (secondAt w at))
+  unfolding sizeAt nodeSize
+  size-bits v p = rw (label-bits s (kindAt w at) (firstAt w at) (secondAt w at) p)
+
+  pub size-pointer : (v : NestingLevel) → kindAt w at ≡ 26 → sizeAt s w at v ≡ some 8
+  unfolding sizeAt nodeSize
+  size-pointer v p = rw (label-pointer s (kindAt w at) (firstAt w at) (secondAt w at) p)
+
+  pub size-none : (v : NestingLevel) → 30 < kindAt w at → sizeAt s w at v ≡ none
+  unfolding sizeAt nodeSize
+  size-none v p = rw (label-none s (kindAt w at) (firstAt w at) (secondAt w at) p)
+
+  size-container : (v : NestingLevel) → isContainerKind (kindAt w at) ≡ true → sizeAt s w at v ≡ cond (showsFields v) (fold (kindAt w at) (sizes Within (trees s w (countAt w at - 1) (at + 4)))) none
+  unfolding sizeAt nodeSize fold
+  size-container v p = go (eqb (kindAt w at) 29) refl (eqb (kindAt w at) 30) refl p
+    where
+      go : (t : Bool) → eqb (kindAt w at) 29 ≡ t → (u : Bool) → eqb (kindAt w at) 30 ≡ u → (t || u) ≡ true → sizeAt s w at v ≡ cond (showsFields v) (cond (eqb (kindAt w at) 29) (sum (sizes Within (trees s w (countAt w at - 1) (at + 4)))) (largest (sizes Within (trees s w (countAt w at - 1) (at + 4))))) none
+      go true e u d r = rw (label-struct s (kindAt w at) (firstAt w at) (secondAt w at) (eqb-true (kindAt w at) 29 e), e)
+      go false e true d r = rw (label-union s (kindAt w at) (firstAt w at) (secondAt w at) (eqb-true (kindAt w at) 30 d), e)
+      go false e false d r = absurd (false≢true r)
+
+  -- a typed bitfield, an atomic, an array
+  module _ (h : NodeAt w at) (lo : 25 ≤ kindAt w at) (hi : kindAt w at ≤ 28) where
+    only-child : (v : NestingLevel) → only (sizes v (trees s w (countAt w at - 1) (at + 4))) ≡ sizeAt s w (at + 4) v
+    unfolding sizes sizeAt only
+    only-child v =
+        let e = child-count w at h lo hi in
+        rw (trees-step s w (countAt w at - 1) (at + 4) (node-child w at h lo hi .some-node) (omega arith))
+
+    pub size-held : (v : NestingLevel) → (kindAt w at ≡ 26 → ⊥) → sizeAt s w at v ≡ holding (kindAt w at) (firstAt w at) (secondAt w at) (sizeAt s w (at + 4) (inside (labelAt s w at) v))
+    unfolding sizeAt nodeSize holding
+    size-held v other = go (eqb (kindAt w at) 25) refl (eqb (kindAt w at) 28) refl
+      where
+        last : (kindAt w at ≡ 25 → ⊥) → (kindAt w at ≡ 28 → ⊥) → kindAt w at ≡ 27
+        last p q = omega arith
+
+        go : (t : Bool) → eqb (kindAt w at) 25 ≡ t → (u : Bool) → eqb (kindAt w at) 28 ≡ u → sizeAt s w at v ≡ holding (kindAt w at) (firstAt w at) (secondAt w at) (sizeAt s w (at + 4) (inside (labelAt s w at) v))
+        go true e u d =
+            rw (label-typed s (kindAt w at) (firstAt w at) (secondAt w at) (eqb-true (kindAt w at) 25 e), e)
+            (ap (λ (x : Option ℕ). some (max (bitBytes (secondAt w at)) (orZero x))) (only-child v) ∙ larger-some (bitBytes (secondAt w at)) (sizeAt s w (at + 4) v))
+        go false e true d =
+            rw (label-array s (kindAt w at) (firstAt w at) (secondAt w at) (eqb-true (kindAt w at) 28 d), e, d) (ap (times (firstAt w at)) (only-child v))
+        go false e false d =
+            rw (label-atomic s (kindAt w at) (firstAt w at) (secondAt w at) (last (eqb-false (kindAt w at) 25 e) (eqb-false (kindAt w at) 28 d)), e, d) (only-child Bottom)
+
+  -- a turn of the walk over a container's fields
+  pub fold-turn : (k : ℕ) (v : NestingLevel) (n : ℕ) (e : Option ℕ) → 1 ≤ countAt w at → countAt w at ≤ n
+      → join k e (fold k (sizes v (trees s w n at))) ≡ join k (join k e (sizeAt s w at v)) (fold k (sizes v (trees s w (n - countAt w at) (at + 4 * countAt w at))))
+  fold-turn k v n e p q =
+      ap (λ l. join k e (fold k l)) (sizes-step v n p q)
+      ∙ ap (join k e) (fold-cons k (sizeAt s w at v) (sizes v (trees s w (n - countAt w at) (at + 4 * countAt w at))))
+      ∙ sym (join-assoc k e (sizeAt s w at v) (fold k (sizes v (trees s w (n - countAt w at) (at + 4 * countAt w at)))))
+
+plus-end : (e : Option ℕ) → plus e (some 0) ≡ e
+unfolding plus
+plus-end none = refl
+plus-end (some n) = ap some (omega arith)
+
+larger-end : (e : Option ℕ) → larger e none ≡ e
+unfolding larger
+larger-end none = refl
+larger-end (some n) = refl
+
+pub fold-end : (s w : List ℕ) (at k : ℕ) (v : NestingLevel) (n : ℕ) (e : Option ℕ) → n ≤ 0 → join k e (fold k (sizes v (trees s w n at))) ≡ e
+unfolding join fold sizes trees read sum largest
+fold-end s w at k v zero e p = go (eqb k 29)
+  where
+    go : (t : Bool) → cond t (plus e (cond t (some 0) none)) (larger e (cond t (some 0) none)) ≡ e
+    go true = plus-end e
+    go false = larger-end e
+fold-end s w at k v (suc n) e p = absurd (omega arith)
+
+pub bits-fit : (n : ℕ) → bitBytes n ≤ maxU64
+unfolding bitBytes
+bits-fit n = go (leb n 8) (leb n 16) (leb n 32) (leb n 64) (leb n 128)
+  where
+    go : (a b c d e : Bool) → cond a 1 (cond b 2 (cond c 4 (cond d 8 (cond e 16 32)))) ≤ maxU64
+    go true b c d e = omega arith
+    go false true c d e = omega arith
+    go false false true d e = omega arith
+    go false false false true e = omega arith
+    go false false false false true = omega arith
+    go false false false false false = omega arith
+
+pub clip-bits : (b : ℕ) → clip (some (bitBytes b)) ≡ Bytes (bitBytes b)
+clip-bits b = clip-some (bitBytes b) (bits-fit b)
+
+-- kinds 29 and 30
+pub container-kind : (k : ℕ) → 29 ≤ k → k ≤ 30 → isContainerKind k ≡ true
+container-kind k p q = go (eqb k 29) refl
+  where
+    other : (k ≡ 29 → ⊥) → k ≡ 30
+    other r = omega arith
+
+    go : (t : Bool) → eqb k 29 ≡ t → isContainerKind k ≡ true
+    go true e = rw (eqb-true k 29 e)
+    go false e = rw (other (eqb-false k 29 e))
+
+pub dropped : (v : NestingLevel) → containerIncludeFields v ≡ Dropped → showsFields v ≡ false
+dropped Top h = absurd (let z : _≡_ {A = ℕ} 0 1 = cc in omega arith)
+dropped Within h = absurd (let z : _≡_ {A = ℕ} 0 1 = cc in omega arith)
+dropped Bottom h = refl
+
+pub included : (v u : NestingLevel) → containerIncludeFields v ≡ Included u → (showsFields v ≡ true) × (u ≡ Within)
+included Top u h = (refl, cc)
+included Within u h = (refl, cc)
+included Bottom u h = absurd (let z : _≡_ {A = ℕ} 0 1 = cc in omega arith)
+
+module _ (s w : List ℕ) (at : ℕ) (v : NestingLevel) (p : isContainerKind (kindAt w at) ≡ true) where
+  pub size-dropped : containerIncludeFields v ≡ Dropped → sizeAt s w at v ≡ none
+  size-dropped h = size-container s w at v p ∙ rw (dropped v h)
+
+  pub size-included : (u : NestingLevel) → containerIncludeFields v ≡ Included u → fold (kindAt w at) (sizes u (trees s w (countAt w at - 1) (at + 4))) ≡ sizeAt s w at v
+  size-included u h =
+      ap (λ x. fold (kindAt w at) (sizes x (trees s w (countAt w at - 1) (at + 4)))) (included v u h .1)
+      ∙ sym (size-container s w at v p ∙ rw (included v u h .0))

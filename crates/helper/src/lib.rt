@@ -1,0 +1,427 @@
+// The size of a tree, and tree against tree (helper.rs, `Helper::size` and `compare_encodings`).
+ghost use Prim.Native.Nat.{ℕ, _+_, _-_, _*_, _≤_, _<_};
+ghost use mathlib.Core.Path.{_≡_};
+ghost use mathlib.Core.Bool.{true, false};
+ghost use mathlib.Core.List.{List, []};
+ghost use lib.ListN.{length, take, drop};
+ghost use Rattle.kinds.specs.Byte.{sameBytes};
+ghost use Rattle.kinds.specs.Compare.{compareLabels, levelFor};
+ghost use Rattle.kinds.specs.Primitive.{primitiveSize};
+ghost use Rattle.kinds.specs.Sheet.{label, labelAt, kindAt, firstAt, secondAt, isContainerKind, hasOneChild, trees};
+ghost use Rattle.kinds.specs.Size.{bitBytes};
+ghost use Rattle.kinds.specs.Tree.{inside};
+ghost use Rattle.kinds.specs.Walk.{NodeAt, TreesAt, KindAndName, KindsAndNames};
+ghost use Rattle.helper.specs.Answer.{sizeAnswer, compareAnswer};
+ghost use Rattle.helper.specs.Measure.{clip, plusMeasured, largerMeasured, timesMeasured, joinMeasured, fold, holdingMeasured, sizeAt, compareFields, shownCount, levelAfter, bothChecked};
+
+use sheet::{Checked, check};
+use kinds::{NestingLevel, IndirectionKind, Fields, PrimitiveSize, Refusal, primitive_size, equivalent_kinds};
+
+// A size: none, a count of bytes, or one above 2^64 - 1.
+pub enum Measured {
+    Nothing,
+    Bytes(u64),
+    TooLarge,
+}
+
+// What `size` answers.
+pub enum Sized {
+    Refused(Refusal),
+    Nothing,
+    Bytes(u64),
+}
+
+// What a comparison answers.
+pub enum Compared {
+    Refused(Refusal),
+    Decided(bool),
+}
+
+impl Measured {
+    fn plus(self, other: Measured) -> Measured
+        ensures { λ r. ⌜ r ≡ plusMeasured self other ⌝ }
+    {
+        match self {
+            Measured::Nothing => Measured::Nothing,
+            Measured::TooLarge => match other {
+                Measured::Nothing => Measured::Nothing,
+                Measured::Bytes(_) => Measured::TooLarge,
+                Measured::TooLarge => Measured::TooLarge,
+            },
+            Measured::Bytes(a) => match other {
+                Measured::Nothing => Measured::Nothing,
+                Measured::TooLarge => Measured::TooLarge,
+                Measured::Bytes(b) => {
+                    if a <= 18446744073709551615 - b {
+                        Measured::Bytes(a + b)
+                    } else {
+                        Measured::TooLarge
+                    }
+                }
+            },
+        }
+    }
+
+    fn larger(self, other: Measured) -> Measured
+        ensures { λ r. ⌜ r ≡ largerMeasured self other ⌝ }
+    {
+        match self {
+            Measured::Nothing => other,
+            Measured::TooLarge => Measured::TooLarge,
+            Measured::Bytes(a) => match other {
+                Measured::Nothing => Measured::Bytes(a),
+                Measured::TooLarge => Measured::TooLarge,
+                Measured::Bytes(b) => {
+                    if a <= b {
+                        Measured::Bytes(b)
+                    } else {
+                        Measured::Bytes(a)
+                    }
+                }
+            },
+        }
+    }
+
+    fn times(self, n: u64) -> Measured
+        ensures { λ r. ⌜ r ≡ timesMeasured n self ⌝ }
+    {
+        match self {
+            Measured::Nothing => Measured::Nothing,
+            Measured::TooLarge => {
+                if n == 0 {
+                    Measured::Bytes(0)
+                } else {
+                    Measured::TooLarge
+                }
+            }
+            Measured::Bytes(a) => {
+                if n == 0 {
+                    return Measured::Bytes(0);
+                }
+                if a <= 18446744073709551615 / n {
+                    Measured::Bytes(n * a)
+                } else {
+                    Measured::TooLarge
+                }
+            }
+        }
+    }
+
+    fn of_primitive(kind: u64) -> Measured
+        ensures { λ r. ⌜ r ≡ clip (primitiveSize kind) ⌝ }
+    {
+        match primitive_size(kind) {
+            PrimitiveSize::Nothing => Measured::Nothing,
+            PrimitiveSize::Bytes(n) => Measured::Bytes(n),
+        }
+    }
+
+    fn of_no_fields(kind: u64) -> Measured
+        ensures { λ r. ⌜ r ≡ clip (fold kind []) ⌝ }
+    {
+        if kind == 29 {
+            return Measured::Bytes(0);
+        }
+        Measured::Nothing
+    }
+
+    // What a container of this kind makes of its fields' sizes.
+    fn join(self, kind: u64, other: Measured) -> Measured
+        ensures { λ r. ⌜ r ≡ joinMeasured kind self other ⌝ }
+    {
+        if kind == 29 {
+            self.plus(other)
+        } else {
+            self.larger(other)
+        }
+    }
+
+    // What a typed bitfield, an atomic or an array makes of the size of what it holds.
+    fn held_by(self, kind: u64, first: u64, second: u64) -> Measured
+        ensures { λ r. ⌜ r ≡ holdingMeasured kind first second self ⌝ }
+    {
+        if kind == 25 {
+            return Measured::Bytes(bit_bytes(second)).larger(self);
+        }
+        if kind == 28 {
+            return self.times(first);
+        }
+        self
+    }
+}
+
+// The bits raised to a power of two, at least 8, in bytes.
+fn bit_bytes(n: u64) -> u64
+    ensures { λ r. ⌜ r ≡ bitBytes n ⌝ }
+{
+    if n <= 8 {
+        return 1;
+    }
+    if n <= 16 {
+        return 2;
+    }
+    if n <= 32 {
+        return 4;
+    }
+    if n <= 64 {
+        return 8;
+    }
+    if n <= 128 {
+        return 16;
+    }
+    32
+}
+
+// The level of what a node with one child holds.
+fn level_below(kind: u64, level: NestingLevel) -> NestingLevel
+    requires { ⌜ (25 ≤ kind) × (kind ≤ 28) ⌝ }
+    ensures { λ r. ⌜ ((s : List ℕ) (x y : ℕ) → r ≡ inside (label s kind x y) level) ⌝ }
+{
+    if kind == 26 {
+        return level.indirection(IndirectionKind::Pointer);
+    }
+    if kind == 27 {
+        return level.indirection(IndirectionKind::Atomic);
+    }
+    if kind == 28 {
+        return level.array();
+    }
+    level.bitfield()
+}
+
+// The size of the node at `at`, from the sizes of its children.
+fn size_of(nodes: &[u64], at: usize, level: NestingLevel) -> Measured
+    requires { ⌜ NodeAt (now nodes) at ⌝ }
+    ensures { λ r. ⌜ ((s : List ℕ) → r ≡ clip (sizeAt s (now (nodes .entry)) at level)) ⌝ }
+{
+    let kind = nodes[at];
+    if kind < 24 {
+        return Measured::of_primitive(kind);
+    }
+    if kind == 24 {
+        return Measured::Bytes(bit_bytes(nodes[at + 2]));
+    }
+    if kind == 26 {
+        return Measured::Bytes(8);
+    }
+    if kind < 29 {
+        let item = size_of(nodes, at + 4, level_below(kind, level));
+        return item.held_by(kind, nodes[at + 1], nodes[at + 2]);
+    }
+    if 30 < kind {
+        return Measured::Nothing;
+    }
+    let Fields::Included(inner) = level.container_include_fields() else {
+        return Measured::Nothing;
+    };
+    let mut child = at + 4;
+    let mut left = (nodes[at + 3] as usize) - 1;
+    let mut all = Measured::of_no_fields(kind);
+    while 0 < left {
+        all = all.join(kind, size_of(nodes, child, inner));
+        let count = nodes[child + 3] as usize;
+        child = child + 4 * count;
+        left = left - count;
+    }
+    all
+}
+
+fn is_container(kind: u64) -> bool
+    ensures { λ r. ⌜ r ≡ isContainerKind kind ⌝ }
+{
+    if kind == 29 {
+        return true;
+    }
+    kind == 30
+}
+
+fn same_bytes(a: &[u8], b: &[u8]) -> bool
+    ensures { λ r. ⌜ r ≡ sameBytes (now (a .entry)) (now (b .entry)) ⌝ }
+{
+    if a.len() != b.len() {
+        return false;
+    }
+    let mut i = 0;
+    while i < a.len() {
+        if a[i] != b[i] {
+            return false;
+        }
+        i += 1;
+    }
+    true
+}
+
+fn same_name(a: &[u64], an: &[u8], at: usize, b: &[u64], bn: &[u8], bt: usize) -> bool
+    requires { ⌜ (at + 4 ≤ length (now a)) × (bt + 4 ≤ length (now b)) ⌝ }
+    requires { ⌜ (firstAt (now a) at + secondAt (now a) at ≤ length (now an)) × (firstAt (now b) bt + secondAt (now b) bt ≤ length (now bn)) ⌝ }
+    ensures { λ r. ⌜ r ≡ sameBytes (take (secondAt (now (a .entry)) at) (drop (firstAt (now (a .entry)) at) (now (an .entry)))) (take (secondAt (now (b .entry)) bt) (drop (firstAt (now (b .entry)) bt) (now (bn .entry)))) ⌝ }
+{
+    let af = a[at + 1] as usize;
+    let al = a[at + 2] as usize;
+    let bf = b[bt + 1] as usize;
+    let bl = b[bt + 2] as usize;
+    let ae = af + al;
+    let be = bf + bl;
+    same_bytes(&an[af..ae], &bn[bf..be])
+}
+
+// Whether the numbers of two nodes of this kind, which is no container's, match.
+fn same_numbers(kind: u64, af: u64, al: u64, bf: u64, bl: u64) -> bool
+    requires { ⌜ (24 ≤ kind) × (kind ≤ 31) × (isContainerKind kind ≡ false) ⌝ }
+    ensures { λ r. ⌜ ((s t : List ℕ) → r ≡ compareLabels (label s kind af al) (label t kind bf bl)) ⌝ }
+{
+    if kind == 24 {
+        return al == bl;
+    }
+    if kind == 25 {
+        if af != bf {
+            return false;
+        }
+        return al == bl;
+    }
+    if kind == 28 {
+        return af == bf;
+    }
+    true
+}
+
+// Whether two nodes match, their children aside: kind, numbers, name.
+fn compare_labels(a: &[u64], an: &[u8], at: usize, b: &[u64], bn: &[u8], bt: usize) -> bool
+    requires { ⌜ (at + 4 ≤ length (now a)) × (bt + 4 ≤ length (now b)) ⌝ }
+    requires { ⌜ KindAndName (now a) (length (now an)) at × KindAndName (now b) (length (now bn)) bt ⌝ }
+    ensures { λ r. ⌜ r ≡ compareLabels (labelAt (now (an .entry)) (now (a .entry)) at) (labelAt (now (bn .entry)) (now (b .entry)) bt) ⌝ }
+{
+    let kind = a[at];
+    if !equivalent_kinds(kind, b[bt]) {
+        return false;
+    }
+    if kind < 24 {
+        return true;
+    }
+    if is_container(kind) {
+        return same_name(a, an, at, b, bn, bt);
+    }
+    same_numbers(kind, a[at + 1], a[at + 2], b[bt + 1], b[bt + 2])
+}
+
+fn level_for(all: bool, level: NestingLevel) -> NestingLevel
+    ensures { λ r. ⌜ r ≡ levelFor all level ⌝ }
+{
+    if all {
+        return NestingLevel::new();
+    }
+    level
+}
+
+// The level after a node that is no container: that of what it holds, or `level`, at which the trees side by side are.
+fn level_after(all: bool, kind: u64, level: NestingLevel, here: NestingLevel) -> NestingLevel
+    ensures { λ r. ⌜ r ≡ levelAfter all kind level here ⌝ }
+{
+    if kind < 25 {
+        return level;
+    }
+    if 28 < kind {
+        return level;
+    }
+    level_below(kind, level_for(all, here))
+}
+
+// How many of a container's `n` field nodes are compared.
+fn shown_count(level: NestingLevel, n: usize) -> usize
+    ensures { λ r. ⌜ r ≡ shownCount level n ⌝ }
+{
+    match level.container_include_fields() {
+        Fields::Included(_) => n,
+        Fields::Dropped => 0,
+    }
+}
+
+// Whether the fields match: the trees of the `n` nodes from `from` on and those of the `m` nodes from `start` on. One that has none matches any.
+// A node with one child is followed by that child, so only containers need a call of their own.
+fn compare_fields(a: &[u64], an: &[u8], from: usize, n: usize, b: &[u64], bn: &[u8], start: usize, m: usize, level: NestingLevel, all: bool) -> bool
+    requires { ⌜ TreesAt (now a) from n × TreesAt (now b) start m ⌝ }
+    requires { ⌜ KindsAndNames (now a) (length (now an)) from n × KindsAndNames (now b) (length (now bn)) start m ⌝ }
+    ensures { λ r. ⌜ r ≡ compareFields all level (trees (now (an .entry)) (now (a .entry)) n from) (trees (now (bn .entry)) (now (b .entry)) m start) ⌝ }
+{
+    if n == 0 {
+        return true;
+    }
+    if m == 0 {
+        return true;
+    }
+    let mut at = from;
+    let mut left = n;
+    let mut bt = start;
+    let mut more = m;
+    let mut here = level;
+    while 0 < left {
+        if more == 0 {
+            return false;
+        }
+        if !compare_labels(a, an, at, b, bn, bt) {
+            return false;
+        }
+        let kind = a[at];
+        let mut c = 1;
+        let mut d = 1;
+        if is_container(kind) {
+            c = a[at + 3] as usize;
+            d = b[bt + 3] as usize;
+            let shown = shown_count(level_for(all, here), c - 1);
+            if !compare_fields(a, an, at + 4, shown, b, bn, bt + 4, d - 1, NestingLevel::Within, all) {
+                return false;
+            }
+        }
+        at += 4 * c;
+        left -= c;
+        bt += 4 * d;
+        more -= d;
+        here = level_after(all, kind, level, here);
+    }
+    more == 0
+}
+
+// The check of two sheets: that a sheet breaks the layout goes before a bad name of either.
+fn both(a: Checked, b: Checked) -> Checked
+    ensures { λ r. ⌜ r ≡ bothChecked a b ⌝ }
+{
+    match a {
+        Checked::NotASheet => Checked::NotASheet,
+        Checked::BadName => match b {
+            Checked::NotASheet => Checked::NotASheet,
+            Checked::BadName => Checked::BadName,
+            Checked::Good => Checked::BadName,
+        },
+        Checked::Good => b,
+    }
+}
+
+// The size of the tree in a sheet.
+pub fn size(words: &[u64], names: &[u8]) -> Sized
+    ensures { λ r. ⌜ r ≡ sizeAnswer (now (words .entry)) (now (names .entry)) ⌝ }
+{
+    match check(words, names) {
+        Checked::NotASheet => Sized::Refused(Refusal::NotASheet),
+        Checked::BadName => Sized::Refused(Refusal::BadName),
+        Checked::Good => match size_of(&words[4..], 0, NestingLevel::new()) {
+            Measured::Nothing => Sized::Nothing,
+            Measured::Bytes(n) => Sized::Bytes(n),
+            Measured::TooLarge => Sized::Refused(Refusal::SizeTooLarge),
+        },
+    }
+}
+
+// Whether the trees in two sheets match, by levels or with `all` fields.
+pub fn compare_encodings(aw: &[u64], an: &[u8], bw: &[u64], bn: &[u8], all: bool) -> Compared
+    ensures { λ r. ⌜ r ≡ compareAnswer all (now (aw .entry)) (now (an .entry)) (now (bw .entry)) (now (bn .entry)) ⌝ }
+{
+    match both(check(aw, an), check(bw, bn)) {
+        Checked::NotASheet => Compared::Refused(Refusal::NotASheet),
+        Checked::BadName => Compared::Refused(Refusal::BadName),
+        Checked::Good => {
+            let n = aw[0] as usize;
+            let m = bw[0] as usize;
+            Compared::Decided(compare_fields(&aw[4..], an, 0, n, &bw[4..], bn, 0, m, NestingLevel::new(), all))
+        }
+    }
+}

@@ -1,0 +1,197 @@
+use mathlib.Core.Path.{_≡_, refl, sym, _∙_}
+use borrow.Author.Needs.{needs}
+use borrow.Author.Tests.{not-true, not-false}
+use native.Mathlib.Omega.{arith}
+use Rattle.sheet.specs.Walked.{walked}
+use Rattle.sheet.proofs.WalkLaws.{container-says, walked-bad, walked-plain, walked-broken, walked-next, walked-none, walked-le}
+use Prim.Native.Nat.{ℕ, _+_, _*_, _≤_, _<_}
+use borrow.Fn.Kinds.{In}
+use borrow.Fn.PlainCycle.{Measures, is, falls, and}
+use Rattle.sheet.proofs.check_nodes.Reads as check-nodes
+use Rattle.sheet.proofs.check_nodes.Kinds as check-nodes-kinds
+use Rattle.sheet.proofs.+check_nodes.Lts-check_nodes as check-nodes-lts
+use Rattle.sheet.proofs.container_ok.Reads as container-ok-reads
+use Rattle.sheet.proofs.is_container.Reads as is-container-reads
+use Rattle.sheet.proofs.name_good.Reads as name-good-reads
+use Rattle.sheet.proofs.plain_ok.Reads as plain-ok-reads
+use Rattle.sheet.proofs.+check_nodes.{statement}
+use Rattle.sheet.proofs.+check_nodes.Tie.{close}
+
+abbrev μ-check-nodes : Measures 2 check-nodes-kinds.ps ℕ
+μ-check-nodes κs a = a .1 .1 .1 .0
+
+abbrev check-nodes-at : ℕ → In 2 check-nodes-kinds.ps
+check-nodes-at t =
+    and 2 check-nodes-kinds.ps (is 2 check-nodes-kinds.ps μ-check-nodes t) check-nodes.Pre
+
+abbrev check-nodes-below : ℕ → In 2 check-nodes-kinds.ps
+check-nodes-below t =
+    and 2 check-nodes-kinds.ps (falls 2 check-nodes-kinds.ps _<_ μ-check-nodes t) check-nodes.Pre
+
+abbrev claims : ℕ → check-nodes-lts.Claims
+claims t = (
+  is-container-reads.Asked,
+  is-container-reads.Learnt,
+  plain-ok-reads.Asked,
+  plain-ok-reads.Learnt,
+  container-ok-reads.Asked,
+  container-ok-reads.Learnt,
+  name-good-reads.Asked,
+  name-good-reads.Learnt,
+  check-nodes-below t,
+  check-nodes.Post,
+)
+
+abbrev check-nodes-Inv-loop : check-nodes-lts.InvT-loop
+check-nodes-Inv-loop nodes names from n start end before at₀ left₀ name₀ good₀ at left name good =
+    (at + 4 * left ≡ from + 4 * n) × (left ≤ n) × (name ≤ end) × (walked names nodes n from start end before ≡ walked names nodes left at name end good)
+
+abbrev check-nodes-μ-loop : check-nodes-lts.MeasureT-loop
+check-nodes-μ-loop nodes names from n start end before at₀ left₀ name₀ good₀ at left name good = left
+
+check-nodes-loop-holds : (t : ℕ) → check-nodes-lts.Need-loop-holds (claims t) (check-nodes-at t) check-nodes.Post check-nodes-Inv-loop check-nodes-μ-loop
+check-nodes-loop-holds t c = (refl, omega arith, omega arith, refl)
+
+check-nodes-mul-is-container : (t : ℕ) → check-nodes-lts.Need-mul-is-container (claims t) (check-nodes-at t) check-nodes.Post check-nodes-Inv-loop check-nodes-μ-loop
+check-nodes-mul-is-container t c = search needs
+
+check-nodes-shared-slice-read-is-container :
+    (t : ℕ) → check-nodes-lts.Need-shared-slice-read-is-container (
+      is-container-reads.Asked,
+      is-container-reads.Learnt,
+      plain-ok-reads.Asked,
+      plain-ok-reads.Learnt,
+      container-ok-reads.Asked,
+      container-ok-reads.Learnt,
+      name-good-reads.Asked,
+      name-good-reads.Learnt,
+      check-nodes-below t,
+      check-nodes.Post,
+    ) (check-nodes-at t) check-nodes.Post check-nodes-Inv-loop check-nodes-μ-loop
+check-nodes-shared-slice-read-is-container t c = search needs
+
+check-nodes-is-container-requires : (t : ℕ) → check-nodes-lts.Need-is-container-requires (claims t) (check-nodes-at t) check-nodes.Post check-nodes-Inv-loop check-nodes-μ-loop
+check-nodes-is-container-requires t c κs = search needs
+
+check-nodes-plain-ok-requires : (t : ℕ) → check-nodes-lts.Need-plain-ok-requires (claims t) (check-nodes-at t) check-nodes.Post check-nodes-Inv-loop check-nodes-μ-loop
+check-nodes-plain-ok-requires t c κs = ((sym (c .before .is-container .ensures) ∙ not-true _ (c .if1 .taken)), omega arith, omega arith)
+
+check-nodes-returns : (t : ℕ) → check-nodes-lts.Need-returns (claims t) (check-nodes-at t) check-nodes.Post check-nodes-Inv-loop check-nodes-μ-loop
+check-nodes-returns t c = sym (c .before .before .before .before .before .before .loop .inv .3 ∙ walked-bad _ _ _ _ _ _ _ (c .before .before .before .before .before .loop-test .taken) (sym (c .before .plain-ok .ensures _ _) ∙ not-true _ (c .if2 .taken)))
+
+check-nodes-add-at : (t : ℕ) → check-nodes-lts.Need-add-at (claims t) (check-nodes-at t) check-nodes.Post check-nodes-Inv-loop check-nodes-μ-loop
+check-nodes-add-at t c = search needs
+
+check-nodes-sub-left : (t : ℕ) → check-nodes-lts.Need-sub-left (claims t) (check-nodes-at t) check-nodes.Post check-nodes-Inv-loop check-nodes-μ-loop
+check-nodes-sub-left t c = search needs
+
+check-nodes-loop-less : (t : ℕ) → check-nodes-lts.Need-loop-less (claims t) (check-nodes-at t) check-nodes.Post check-nodes-Inv-loop check-nodes-μ-loop
+check-nodes-loop-less t c = search needs
+
+check-nodes-loop-again : (t : ℕ) → check-nodes-lts.Need-loop-again (claims t) (check-nodes-at t) check-nodes.Post check-nodes-Inv-loop check-nodes-μ-loop
+check-nodes-loop-again t c = (omega arith, omega arith, omega arith, c .before .before .before .before .before .before .loop .inv .3 ∙ walked-plain _ _ _ _ _ _ _ (c .before .before .before .before .before .loop-test .taken) (sym (c .before .plain-ok .ensures _ _) ∙ not-false _ (c .if2 .left)) (sym (c .before .before .before .is-container .ensures) ∙ not-true _ (c .before .before .if1 .taken)))
+
+check-nodes-container-ok-requires : (t : ℕ) → check-nodes-lts.Need-container-ok-requires (claims t) (check-nodes-at t) check-nodes.Post check-nodes-Inv-loop check-nodes-μ-loop
+check-nodes-container-ok-requires t c κs = ((sym (c .before .is-container .ensures) ∙ not-false _ (c .if1 .left)), omega arith, omega arith, omega arith)
+
+check-nodes-returns-2 : (t : ℕ) → check-nodes-lts.Need-returns-2 (claims t) (check-nodes-at t) check-nodes.Post check-nodes-Inv-loop check-nodes-μ-loop
+check-nodes-returns-2 t c = sym (c .before .before .before .before .before .before .loop .inv .3 ∙ walked-bad _ _ _ _ _ _ _ (c .before .before .before .before .before .loop-test .taken) (sym (c .before .container-ok .ensures) ∙ not-true _ (c .if3 .taken)))
+
+check-nodes-add-size : (t : ℕ) → check-nodes-lts.Need-add-size (claims t) (check-nodes-at t) check-nodes.Post check-nodes-Inv-loop check-nodes-μ-loop
+check-nodes-add-size t c = search needs
+
+check-nodes-mul-size : (t : ℕ) → check-nodes-lts.Need-mul-size (claims t) (check-nodes-at t) check-nodes.Post check-nodes-Inv-loop check-nodes-μ-loop
+check-nodes-mul-size t c = search needs
+
+check-nodes-shared-slice-read-size : (t : ℕ) → check-nodes-lts.Need-shared-slice-read-size (claims t) (check-nodes-at t) check-nodes.Post check-nodes-Inv-loop check-nodes-μ-loop
+check-nodes-shared-slice-read-size t c = search needs
+
+check-nodes-add-count : (t : ℕ) → check-nodes-lts.Need-add-count (claims t) (check-nodes-at t) check-nodes.Post check-nodes-Inv-loop check-nodes-μ-loop
+check-nodes-add-count t c = search needs
+
+check-nodes-mul-count : (t : ℕ) → check-nodes-lts.Need-mul-count (claims t) (check-nodes-at t) check-nodes.Post check-nodes-Inv-loop check-nodes-μ-loop
+check-nodes-mul-count t c = search needs
+
+check-nodes-shared-slice-read-count : (t : ℕ) → check-nodes-lts.Need-shared-slice-read-count (claims t) (check-nodes-at t) check-nodes.Post check-nodes-Inv-loop check-nodes-μ-loop
+check-nodes-shared-slice-read-count t c = search needs
+
+check-nodes-name-good-requires : (t : ℕ) → check-nodes-lts.Need-name-good-requires (claims t) (check-nodes-at t) check-nodes.Post check-nodes-Inv-loop check-nodes-μ-loop
+check-nodes-name-good-requires t c κs = let k = container-says _ _ _ _ _ (sym (c .before .before .before .before .before .is-container .ensures) ∙ not-false _ (c .before .before .before .before .if1 .left)) (sym (c .before .before .before .container-ok .ensures) ∙ not-false _ (c .before .before .if3 .left)) in omega arith
+
+check-nodes-add-check-nodes : (t : ℕ) → check-nodes-lts.Need-add-check-nodes (claims t) (check-nodes-at t) check-nodes.Post check-nodes-Inv-loop check-nodes-μ-loop
+check-nodes-add-check-nodes t c = search needs
+
+check-nodes-sub-check-nodes : (t : ℕ) → check-nodes-lts.Need-sub-check-nodes (claims t) (check-nodes-at t) check-nodes.Post check-nodes-Inv-loop check-nodes-μ-loop
+check-nodes-sub-check-nodes t c = let k = container-says _ _ _ _ _ (sym (c .before .before .before .before .before .before .is-container .ensures) ∙ not-false _ (c .before .before .before .before .before .if1 .left)) (sym (c .before .before .before .before .container-ok .ensures) ∙ not-false _ (c .before .before .before .if3 .left)) in omega arith
+
+check-nodes-add-check-nodes-2 : (t : ℕ) → check-nodes-lts.Need-add-check-nodes-2 (claims t) (check-nodes-at t) check-nodes.Post check-nodes-Inv-loop check-nodes-μ-loop
+check-nodes-add-check-nodes-2 t c = let k = container-says _ _ _ _ _ (sym (c .before .before .before .before .before .before .is-container .ensures) ∙ not-false _ (c .before .before .before .before .before .if1 .left)) (sym (c .before .before .before .before .container-ok .ensures) ∙ not-false _ (c .before .before .before .if3 .left)) in record { fits = omega arith }
+
+check-nodes-check-nodes-requires : (t : ℕ) → check-nodes-lts.Need-check-nodes-requires (claims t) (check-nodes-at t) check-nodes.Post check-nodes-Inv-loop check-nodes-μ-loop
+check-nodes-check-nodes-requires t c κs = let k = container-says _ _ _ _ _ (sym (c .before .before .before .before .before .before .is-container .ensures) ∙ not-false _ (c .before .before .before .before .before .if1 .left)) (sym (c .before .before .before .before .container-ok .ensures) ∙ not-false _ (c .before .before .before .if3 .left)) in (omega arith, (omega arith, omega arith, omega arith))
+
+check-nodes-enum-told : (t : ℕ) → check-nodes-lts.Need-enum-told (claims t) (check-nodes-at t) check-nodes.Post check-nodes-Inv-loop check-nodes-μ-loop
+check-nodes-enum-told t c = search needs
+
+check-nodes-returns-3 : (t : ℕ) → check-nodes-lts.Need-returns-3 (claims t) (check-nodes-at t) check-nodes.Post check-nodes-Inv-loop check-nodes-μ-loop
+check-nodes-returns-3 t c = sym (c .before .before .before .before .before .before .before .before .before .before .before .before .loop .inv .3 ∙ walked-broken _ _ _ _ _ _ _ (c .before .before .before .before .before .before .before .before .before .before .before .loop-test .taken) (sym (c .before .before .before .before .before .before .before .container-ok .ensures) ∙ not-false _ (c .before .before .before .before .before .before .if3 .left)) (sym (c .before .before .before .before .before .before .before .before .before .is-container .ensures) ∙ not-false _ (c .before .before .before .before .before .before .before .before .if1 .left)) _ (c .before .before .before .name-good .ensures) _ (c .before .before .check-nodes .ensures) (c .enum-told .given .1))
+
+check-nodes-enum-known-inner : (t : ℕ) → check-nodes-lts.Need-enum-known-inner (claims t) (check-nodes-at t) check-nodes.Post check-nodes-Inv-loop check-nodes-μ-loop
+check-nodes-enum-known-inner t c = search needs
+
+check-nodes-mul-at : (t : ℕ) → check-nodes-lts.Need-mul-at (claims t) (check-nodes-at t) check-nodes.Post check-nodes-Inv-loop check-nodes-μ-loop
+check-nodes-mul-at t c = let k = container-says _ _ _ _ _ (sym (c .before .before .before .before .before .before .before .before .before .before .is-container .ensures) ∙ not-false _ (c .before .before .before .before .before .before .before .before .before .if1 .left)) (sym (c .before .before .before .before .before .before .before .before .container-ok .ensures) ∙ not-false _ (c .before .before .before .before .before .before .before .if3 .left)) in search needs
+
+check-nodes-add-at-2 : (t : ℕ) → check-nodes-lts.Need-add-at-2 (claims t) (check-nodes-at t) check-nodes.Post check-nodes-Inv-loop check-nodes-μ-loop
+check-nodes-add-at-2 t c = let k = container-says _ _ _ _ _ (sym (c .before .before .before .before .before .before .before .before .before .before .is-container .ensures) ∙ not-false _ (c .before .before .before .before .before .before .before .before .before .if1 .left)) (sym (c .before .before .before .before .before .before .before .before .container-ok .ensures) ∙ not-false _ (c .before .before .before .before .before .before .before .if3 .left)) in search needs
+
+check-nodes-sub-left-2 : (t : ℕ) → check-nodes-lts.Need-sub-left-2 (claims t) (check-nodes-at t) check-nodes.Post check-nodes-Inv-loop check-nodes-μ-loop
+check-nodes-sub-left-2 t c = let k = container-says _ _ _ _ _ (sym (c .before .before .before .before .before .before .before .before .before .before .is-container .ensures) ∙ not-false _ (c .before .before .before .before .before .before .before .before .before .if1 .left)) (sym (c .before .before .before .before .before .before .before .before .container-ok .ensures) ∙ not-false _ (c .before .before .before .before .before .before .before .if3 .left)) in omega arith
+
+check-nodes-loop-less-2 : (t : ℕ) → check-nodes-lts.Need-loop-less-2 (claims t) (check-nodes-at t) check-nodes.Post check-nodes-Inv-loop check-nodes-μ-loop
+check-nodes-loop-less-2 t c = let k = container-says _ _ _ _ _ (sym (c .before .before .before .before .before .before .before .before .before .before .is-container .ensures) ∙ not-false _ (c .before .before .before .before .before .before .before .before .before .if1 .left)) (sym (c .before .before .before .before .before .before .before .before .container-ok .ensures) ∙ not-false _ (c .before .before .before .before .before .before .before .if3 .left)) in omega arith
+
+check-nodes-loop-again-2 : (t : ℕ) → check-nodes-lts.Need-loop-again-2 (claims t) (check-nodes-at t) check-nodes.Post check-nodes-Inv-loop check-nodes-μ-loop
+check-nodes-loop-again-2 t c = let k = container-says _ _ _ _ _ (sym (c .before .before .before .before .before .before .before .before .before .before .is-container .ensures) ∙ not-false _ (c .before .before .before .before .before .before .before .before .before .if1 .left)) (sym (c .before .before .before .before .before .before .before .before .container-ok .ensures) ∙ not-false _ (c .before .before .before .before .before .before .before .if3 .left)) in (omega arith, omega arith, walked-le _ _ _ _ _ _ _ _ _ (k .name-fits) (sym (c .before .inner .given .1) ∙ c .before .before .before .check-nodes .ensures), c .before .before .before .before .before .before .before .before .before .before .before .before .before .loop .inv .3 ∙ walked-next _ _ _ _ _ _ _ (c .before .before .before .before .before .before .before .before .before .before .before .before .loop-test .taken) (sym (c .before .before .before .before .before .before .before .before .container-ok .ensures) ∙ not-false _ (c .before .before .before .before .before .before .before .if3 .left)) (sym (c .before .before .before .before .before .before .before .before .before .before .is-container .ensures) ∙ not-false _ (c .before .before .before .before .before .before .before .before .before .if1 .left)) _ (c .before .before .before .before .name-good .ensures) _ (c .before .before .before .check-nodes .ensures) _ _ (c .before .inner .given .1))
+
+check-nodes-returns-4 : (t : ℕ) → check-nodes-lts.Need-returns-4 (claims t) (check-nodes-at t) check-nodes.Post check-nodes-Inv-loop check-nodes-μ-loop
+check-nodes-returns-4 t c = sym (c .before .loop .inv .3 ∙ walked-none _ _ _ _ _ _ _ (c .loop-test .left))
+
+pub +check-nodes-spec : {M : Type 1} → statement M
++check-nodes-spec = close μ-check-nodes λ t. check-nodes-lts.spec (claims t)
+    (check-nodes-at t)
+    check-nodes.Post
+    check-nodes-Inv-loop
+    check-nodes-μ-loop
+    (check-nodes-loop-holds t)
+    (check-nodes-mul-is-container t)
+    (check-nodes-shared-slice-read-is-container t)
+    (check-nodes-is-container-requires t)
+    (check-nodes-plain-ok-requires t)
+    (check-nodes-returns t)
+    (check-nodes-add-at t)
+    (check-nodes-sub-left t)
+    (check-nodes-loop-less t)
+    (check-nodes-loop-again t)
+    (check-nodes-container-ok-requires t)
+    (check-nodes-returns-2 t)
+    (check-nodes-add-size t)
+    (check-nodes-mul-size t)
+    (check-nodes-shared-slice-read-size t)
+    (check-nodes-add-count t)
+    (check-nodes-mul-count t)
+    (check-nodes-shared-slice-read-count t)
+    (check-nodes-name-good-requires t)
+    (check-nodes-add-check-nodes t)
+    (check-nodes-sub-check-nodes t)
+    (check-nodes-add-check-nodes-2 t)
+    (check-nodes-check-nodes-requires t)
+    (check-nodes-enum-told t)
+    (check-nodes-returns-3 t)
+    (check-nodes-enum-known-inner t)
+    (check-nodes-mul-at t)
+    (check-nodes-add-at-2 t)
+    (check-nodes-sub-left-2 t)
+    (check-nodes-loop-less-2 t)
+    (check-nodes-loop-again-2 t)
+    (check-nodes-returns-4 t)

@@ -1,0 +1,241 @@
+// The check of a sheet: a tree in a lent list of words and a lent list of name bytes.
+ghost use Prim.Native.Nat.{ℕ, _+_, _-_, _*_, _≤_, _<_};
+ghost use mathlib.Core.Path.{_≡_};
+ghost use mathlib.Core.Bool.{true, false, _&&_};
+ghost use lib.Dec.{leb, eqb};
+ghost use lib.ListN.{length, take, drop};
+ghost use Rattle.kinds.specs.Name.{verifyName};
+ghost use Rattle.kinds.specs.Sheet.{kindAt, countAt, isContainerKind, numbers, header};
+ghost use Rattle.sheet.specs.Check.{checked};
+ghost use Rattle.sheet.specs.Walked.{walked, fits, nodeFits, answer};
+
+// Document 01's refusals 3 and 4, or neither.
+pub enum Checked {
+    NotASheet,
+    BadName,
+    Good,
+}
+
+// What a pass over nodes finds: that they are no part of a sheet, or the place of the next name and whether all names are good.
+enum Walked {
+    Broken,
+    Next(u64, bool),
+}
+
+fn is_container(kind: u64) -> bool
+    ensures { λ r. ⌜ r ≡ isContainerKind kind ⌝ }
+{
+    if kind == 29 {
+        return true;
+    }
+    kind == 30
+}
+
+// Whether the name at `first` is the next one and ends within the names.
+fn name_ok(first: u64, second: u64, name: u64, end: u64) -> bool
+    requires { ⌜ name ≤ end ⌝ }
+    ensures { λ r. ⌜ r ≡ (eqb first name && leb (name + second) end) ⌝ }
+{
+    if first != name {
+        return false;
+    }
+    second <= end - name
+}
+
+// Whether the two numbers of a node that has no name are those that its kind takes.
+fn numbers_ok(kind: u64, first: u64, second: u64) -> bool
+    requires { ⌜ isContainerKind kind ≡ false ⌝ }
+    ensures { λ r. ⌜ ((p e : ℕ) → r ≡ numbers kind first second p e) ⌝ }
+{
+    if kind == 25 {
+        return second <= 255;
+    }
+    if kind == 28 {
+        return second == 0;
+    }
+    if first != 0 {
+        return false;
+    }
+    if kind == 24 {
+        return second <= 255;
+    }
+    if 31 < kind {
+        return false;
+    }
+    second == 0
+}
+
+// Whether a subtree of `count` nodes, whose root is no container and stands at `at`, lies within the `left` nodes from there on
+// and has as many children as the root's kind takes.
+fn arity_ok(nodes: &[u64], at: usize, kind: u64, count: u64, left: usize) -> bool
+    requires { ⌜ (isContainerKind kind ≡ false) × (0 < left) × (at + 4 * left ≤ length (now nodes)) ⌝ }
+    ensures { λ r. ⌜ r ≡ fits left kind count (countAt (now (nodes .entry)) (at + 4)) ⌝ }
+{
+    if kind < 25 {
+        return count == 1;
+    }
+    if 28 < kind {
+        return count == 1;
+    }
+    if count < 2 {
+        return false;
+    }
+    if (left as u64) < count {
+        return false;
+    }
+    let child = at + 4;
+    nodes[child + 3] == count - 1
+}
+
+// Whether the node at `at`, no container, can stand first among the `left` nodes from there on.
+fn plain_ok(nodes: &[u64], at: usize, left: usize) -> bool
+    requires { ⌜ (isContainerKind (kindAt (now nodes) at) ≡ false) × (0 < left) × (at + 4 * left ≤ length (now nodes)) ⌝ }
+    ensures { λ r. ⌜ ((p e : ℕ) → r ≡ nodeFits (now (nodes .entry)) left at p e) ⌝ }
+{
+    let kind = nodes[at];
+    if !numbers_ok(kind, nodes[at + 1], nodes[at + 2]) {
+        return false;
+    }
+    arity_ok(nodes, at, kind, nodes[at + 3], left)
+}
+
+// Whether the container at `at` can stand first among the `left` nodes from there on, where `name` is the place of the next name.
+fn container_ok(nodes: &[u64], at: usize, left: usize, name: u64, end: u64) -> bool
+    requires { ⌜ (isContainerKind (kindAt (now nodes) at) ≡ true) × (0 < left) × (at + 4 * left ≤ length (now nodes)) × (name ≤ end) ⌝ }
+    ensures { λ r. ⌜ r ≡ nodeFits (now (nodes .entry)) left at name end ⌝ }
+{
+    if !name_ok(nodes[at + 1], nodes[at + 2], name, end) {
+        return false;
+    }
+    let count = nodes[at + 3];
+    if count < 1 {
+        return false;
+    }
+    count <= left as u64
+}
+
+// Whether the names so far are good, and the one of `size` bytes from `from` on.
+fn name_good(names: &[u8], from: u64, size: u64, good: bool) -> bool
+    requires { ⌜ from + size ≤ length (now names) ⌝ }
+    ensures { λ r. ⌜ r ≡ (good && verifyName (take size (drop from (now (names .entry))))) ⌝ }
+{
+    if !good {
+        return false;
+    }
+    let a = from as usize;
+    let b = a + size as usize;
+    kinds::verify_name(&names[a..b])
+}
+
+// One pass over the `n` nodes from `from` on. Only a container makes a call: a kind with one child ends where its child ends,
+// so that the child can stand as the next of the nodes.
+fn check_nodes(
+    nodes: &[u64],
+    names: &[u8],
+    from: usize,
+    n: usize,
+    start: u64,
+    end: u64,
+    before: bool,
+) -> Walked
+    requires { ⌜ (from + 4 * n ≤ length (now nodes)) × (start ≤ end) × (end ≤ length (now names)) ⌝ }
+    ensures { λ r. ⌜ r ≡ walked (now (names .entry)) (now (nodes .entry)) n from start end before ⌝ }
+{
+    let mut at = from;
+    let mut left = n;
+    let mut name = start;
+    let mut good = before;
+    while 0 < left {
+        if !is_container(nodes[at]) {
+            if !plain_ok(nodes, at, left) {
+                return Walked::Broken;
+            }
+            at = at + 4;
+            left = left - 1;
+            continue;
+        }
+        if !container_ok(nodes, at, left, name, end) {
+            return Walked::Broken;
+        }
+        let size = nodes[at + 2];
+        let count = nodes[at + 3] as usize;
+        let named = name_good(names, name, size, good);
+        let inner = check_nodes(nodes, names, at + 4, count - 1, name + size, end, named);
+        match inner {
+            Walked::Broken => {
+                return Walked::Broken;
+            }
+            Walked::Next(p, g) => {
+                name = p;
+                good = g;
+            }
+        }
+        at = at + 4 * count;
+        left = left - count;
+    }
+    Walked::Next(name, good)
+}
+
+fn header_ok(words: &[u64], room: usize) -> bool
+    ensures { λ r. ⌜ r ≡ header (now (words .entry)) room ⌝ }
+{
+    if words.len() < 4 {
+        return false;
+    }
+    let nodes = words[0];
+    let bytes = words[2];
+    let used = words[3];
+    if nodes < 1 {
+        return false;
+    }
+    if 2001 < nodes {
+        return false;
+    }
+    if words[1] != 4 {
+        return false;
+    }
+    if 2000 < bytes {
+        return false;
+    }
+    if used != 4 + 4 * nodes {
+        return false;
+    }
+    if (words.len() as u64) < used {
+        return false;
+    }
+    bytes <= room as u64
+}
+
+// What a whole pass says of a sheet whose names end at `end`.
+fn answer_of(end: u64, pass: Walked) -> Checked
+    ensures { λ r. ⌜ r ≡ answer end pass ⌝ }
+{
+    match pass {
+        Walked::Broken => Checked::NotASheet,
+        Walked::Next(p, good) => {
+            if p != end {
+                return Checked::NotASheet;
+            }
+            if good {
+                return Checked::Good;
+            }
+            Checked::BadName
+        }
+    }
+}
+
+// Whether the two lists begin with a sheet, and then whether each container of it has a good name.
+pub fn check(words: &[u64], names: &[u8]) -> Checked
+    ensures { λ r. ⌜ r ≡ checked (now (words .entry)) (now (names .entry)) ⌝ }
+{
+    if !header_ok(words, names.len()) {
+        return Checked::NotASheet;
+    }
+    let nodes = words[0];
+    if words[7] != nodes {
+        return Checked::NotASheet;
+    }
+    let end = words[2];
+    let pass = check_nodes(&words[4..], names, 0, nodes as usize, 0, end, true);
+    answer_of(end, pass)
+}

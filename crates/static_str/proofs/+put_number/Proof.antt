@@ -1,0 +1,80 @@
+use Prim.Native.Nat.{ℕ, _+_, _/_, _%_, _≤_, _<_}
+use mathlib.Core.Path.{sym, subst, _∙_}
+use mathlib.Core.List.{List, [], _∷_}
+use native.Mathlib.Omega.{arith}
+use borrow.Author.Needs.{needs}
+use lib.ListN.{length}
+use Rattle.kinds.specs.Print.{decimal}
+use Rattle.static_str.proofs.OutputLaws.{wrote-same, wrote-append}
+use Rattle.static_str.proofs.NumberLaws.{decimal-low, decimal-high, decimal-one, decimal-more}
+use borrow.Fn.Kinds.{In}
+use borrow.Fn.PlainCycle.{Measures, is, falls, and}
+use Rattle.static_str.proofs.put_number.Reads as put-number
+use Rattle.static_str.proofs.put_number.Kinds as put-number-kinds
+use Rattle.static_str.proofs.+put_number.Lts-put_number as put-number-lts
+use Rattle.static_str.proofs.put.Reads as put-reads
+use Rattle.static_str.proofs.+put_number.{statement}
+use Rattle.static_str.proofs.+put_number.Tie.{close}
+
+abbrev μ-put-number : Measures 1 put-number-kinds.ps ℕ
+μ-put-number κs a = a .1 .1 .0
+
+abbrev put-number-at : ℕ → In 1 put-number-kinds.ps
+put-number-at t =
+    and 1 put-number-kinds.ps (is 1 put-number-kinds.ps μ-put-number t) put-number.Pre
+
+abbrev put-number-below : ℕ → In 1 put-number-kinds.ps
+put-number-below t =
+    and 1 put-number-kinds.ps (falls 1 put-number-kinds.ps _<_ μ-put-number t) put-number.Pre
+
+abbrev put-number-claims : ℕ → put-number-lts.Claims
+put-number-claims t = (put-reads.Asked, put-reads.Learnt, put-number-below t, put-number.Post)
+
+put-number-cast-put : (t : ℕ) → put-number-lts.Need-cast-put (put-number-claims t) (put-number-at t) put-number.Post
+put-number-cast-put t c = search needs
+
+put-number-add-put : (t : ℕ) → put-number-lts.Need-add-put (put-number-claims t) (put-number-at t) put-number.Post
+put-number-add-put t c = search needs
+
+put-number-put-requires : (t : ℕ) → put-number-lts.Need-put-requires (put-number-claims t) (put-number-at t) put-number.Post
+put-number-put-requires t c κs = omega (arith, decimal-one (c .before .before .before .args .n) (c .before .if1 .taken), c .before .before .before .pre .1)
+
+put-number-same-length : (t : ℕ) → put-number-lts.Need-same-length (put-number-claims t) (put-number-at t) put-number.Post
+put-number-same-length t c = search needs
+
+put-number-returns : (t : ℕ) → put-number-lts.Need-returns (put-number-claims t) (put-number-at t) put-number.Post
+put-number-returns t c = wrote-same (sym (decimal-low (c .before .before .before .before .before .before .args .n) (c .before .before .before .before .if1 .taken))) (c .before .before .put .ensures)
+
+put-number-put-number-requires : (t : ℕ) → put-number-lts.Need-put-number-requires (put-number-claims t) (put-number-at t) put-number.Post
+put-number-put-number-requires t c κs = let l = decimal-more (c .before .before .before .args .n) (c .before .if1 .left) in let h = c .before .before .before .pre .1 in (omega arith, omega arith)
+
+put-number-cast-digit : (t : ℕ) → put-number-lts.Need-cast-digit (put-number-claims t) (put-number-at t) put-number.Post
+put-number-cast-digit t c = search needs
+
+put-number-add-put-2 : (t : ℕ) → put-number-lts.Need-add-put-2 (put-number-claims t) (put-number-at t) put-number.Post
+put-number-add-put-2 t c = search needs
+
+put-number-put-requires-2 : (t : ℕ) → put-number-lts.Need-put-requires-2 (put-number-claims t) (put-number-at t) put-number.Post
+put-number-put-requires-2 t c κs = omega (arith, decimal-more (c .before .before .before .before .before .before .before .args .n) (c .before .before .before .before .before .if1 .left), c .before .before .before .before .before .before .before .pre .1, c .before .before .before .put-number .ensures .place, c .before .before .before .put-number .kept .0)
+
+put-number-same-length-2 : (t : ℕ) → put-number-lts.Need-same-length-2 (put-number-claims t) (put-number-at t) put-number.Post
+put-number-same-length-2 t c = c .before .before .put2 .kept .0 ∙ c .before .before .before .before .before .before .put-number .kept .0
+
+put-number-returns-2 : (t : ℕ) → put-number-lts.Need-returns-2 (put-number-claims t) (put-number-at t) put-number.Post
+put-number-returns-2 t c = let hi = decimal-high (c .before .before .before .before .before .before .before .before .before .before .args .n) (c .before .before .before .before .before .before .before .before .if1 .left) in wrote-same (sym hi) (wrote-append (decimal (c .before .before .before .before .before .before .before .before .before .before .args .n / 10)) ((48 + c .before .before .before .before .before .before .before .before .before .before .args .n % 10) ∷ []) (subst (λ (xs : List ℕ). c .before .before .before .before .before .before .before .before .before .before .args .at + length xs ≤ length (c .before .before .before .before .before .before .before .before .before .before .args .out .now)) hi (c .before .before .before .before .before .before .before .before .before .before .pre .1)) (c .before .before .before .before .before .before .put-number .ensures) (c .before .before .put2 .ensures))
+
+pub +put-number-spec : {M : Type 1} → statement M
++put-number-spec = close μ-put-number λ t. put-number-lts.spec (put-number-claims t)
+    (put-number-at t)
+    put-number.Post
+    (put-number-cast-put t)
+    (put-number-add-put t)
+    (put-number-put-requires t)
+    (put-number-same-length t)
+    (put-number-returns t)
+    (put-number-put-number-requires t)
+    (put-number-cast-digit t)
+    (put-number-add-put-2 t)
+    (put-number-put-requires-2 t)
+    (put-number-same-length-2 t)
+    (put-number-returns-2 t)

@@ -1,0 +1,125 @@
+-- The parts of a node's text at each kind, and their lengths.
+use Prim.Native.Nat.{ℕ, _+_, _-_, _≤_, _<_}
+use native.Mathlib.Omega.{arith}
+use mathlib.Core.Path.{_≡_, refl, ap, ap₂, sym, _∙_}
+use mathlib.Core.Bool.{Bool, true, false, false≢true}
+use mathlib.Core.List.{List, [], _∷_, _++_}
+use borrow.Author.Tests.{le-leb, lt-leb, ne-eqb}
+use lib.ListN.{length, take, drop, length-append, length-drop}
+use lib.Seq.{length-take-le}
+use Rattle.kinds.specs.Container.{startByte, endByte}
+use Rattle.kinds.specs.Level.{containerIncludeFields}
+use Rattle.kinds.specs.Primitive.{code, codeBytes}
+use Rattle.kinds.specs.Print.{decimal, fields}
+use Rattle.kinds.specs.Sheet.{isContainerKind}
+use Rattle.kinds.specs.declared.ContainerKind.{ContainerKind}
+use Rattle.kinds.specs.declared.Fields.{Fields}
+use Rattle.kinds.specs.declared.Fields.the-variants.{Included, Dropped}
+use Rattle.kinds.specs.declared.NestingLevel.{NestingLevel}
+use Rattle.kinds.specs.declared.NestingLevel.the-variants.{Top, Within, Bottom}
+use Rattle.static_str.specs.Parts.{containerOf, opening, closing}
+
+-- `=` stands where fields are included
+pub fields-shown : (v u : NestingLevel) → containerIncludeFields v ≡ Included u → fields v [] ≡ 61 ∷ []
+unfolding fields
+fields-shown Top u e = refl
+fields-shown Within u e = refl
+fields-shown Bottom u e = let z : _≡_ {A = ℕ} 0 1 = cc in absurd (omega arith)
+
+pub fields-hidden : (v : NestingLevel) → containerIncludeFields v ≡ Dropped → fields v [] ≡ []
+unfolding fields
+fields-hidden Top e = let z : _≡_ {A = ℕ} 0 1 = cc in absurd (omega arith)
+fields-hidden Within e = let z : _≡_ {A = ℕ} 0 1 = cc in absurd (omega arith)
+fields-hidden Bottom e = refl
+
+low-no-container : (k : ℕ) → k < 29 → isContainerKind k ≡ false
+low-no-container k p = rw (ne-eqb k 29 (λ d. omega arith), ne-eqb k 30 (λ d. omega arith))
+
+module _ (k b : ℕ) where
+  pub closing-typed : k ≡ 25 → closing k b ≡ decimal b
+  unfolding closing
+  closing-typed p = rw p
+
+  pub closing-array : k ≡ 28 → closing k b ≡ 93 ∷ []
+  unfolding closing
+  closing-array p = rw p
+
+  pub closing-container : (k ≡ 25 → ⊥) → (k ≡ 28 → ⊥) → isContainerKind k ≡ true → closing k b ≡ endByte (containerOf k) ∷ []
+  unfolding closing
+  closing-container p q h = rw (ne-eqb k 25 p, ne-eqb k 28 q, h)
+
+  pub closing-none : (k ≡ 25 → ⊥) → (k ≡ 28 → ⊥) → isContainerKind k ≡ false → closing k b ≡ []
+  unfolding closing
+  closing-none p q h = rw (ne-eqb k 25 p, ne-eqb k 28 q, h)
+
+module _ (s : List ℕ) (k a b : ℕ) (v : NestingLevel) where
+  pub opening-primitive : k < 24 → opening s k a b v ≡ code k
+  unfolding opening
+  opening-primitive p = rw (le-leb k 23 (omega arith))
+
+  pub opening-container : 24 ≤ k → isContainerKind k ≡ true → opening s k a b v ≡ startByte (containerOf k) ∷ (take b (drop a s) ++ fields v [])
+  unfolding opening
+  opening-container p h = rw (lt-leb k 23 p, h)
+
+  pub opening-bits : k ≡ 24 → opening s k a b v ≡ 98 ∷ decimal b
+  unfolding opening
+  opening-bits p = rw p
+
+  pub opening-typed : k ≡ 25 → opening s k a b v ≡ 98 ∷ decimal a
+  unfolding opening
+  opening-typed p = rw p
+
+  pub opening-pointer : k ≡ 26 → opening s k a b v ≡ 94 ∷ []
+  unfolding opening
+  opening-pointer p = rw p
+
+  pub opening-atomic : k ≡ 27 → opening s k a b v ≡ 65 ∷ []
+  unfolding opening
+  opening-atomic p = rw p
+
+  pub opening-array : k ≡ 28 → opening s k a b v ≡ 91 ∷ decimal a
+  unfolding opening
+  opening-array p = rw p
+
+  pub opening-none : 24 ≤ k → isContainerKind k ≡ false → (k ≡ 24 → ⊥) → (k ≡ 25 → ⊥) → (k ≡ 26 → ⊥) → (k ≡ 27 → ⊥) → (k ≡ 28 → ⊥) → opening s k a b v ≡ []
+  unfolding opening
+  opening-none p h d e f g i = rw (lt-leb k 23 p, h, ne-eqb k 24 d, ne-eqb k 25 e, ne-eqb k 26 f, ne-eqb k 27 g, ne-eqb k 28 i)
+
+  -- the length of the two together
+  pub own-primitive : k < 24 → length (code k) ≡ length (opening s k a b v) + length (closing k b)
+  own-primitive p = rw (opening-primitive p, closing-none k b (λ d. omega arith) (λ d. omega arith) (low-no-container k (omega arith))) (omega arith)
+
+  pub own-container : 24 ≤ k → isContainerKind k ≡ true → a + b ≤ length s → 2 + b + length (fields v []) ≡ length (opening s k a b v) + length (closing k b)
+  own-container p h q =
+      let l = length-drop a s in
+      let t = length-take-le b (drop a s) (omega arith) in
+      let n = length-append (take b (drop a s)) (fields v []) in
+      rw (opening-container p h, closing-container k b (λ d. not-container-at 25 refl d h) (λ d. not-container-at 28 refl d h) h) (omega arith)
+    where
+      not-container-at : (j : ℕ) → isContainerKind j ≡ false → k ≡ j → isContainerKind k ≡ true → ⊥
+      not-container-at j f e t = false≢true (sym f ∙ ap isContainerKind (sym e) ∙ t)
+
+  pub own-bits : k ≡ 24 → 1 + length (decimal b) ≡ length (opening s k a b v) + length (closing k b)
+  own-bits p = rw (opening-bits p, closing-none k b (λ d. omega arith) (λ d. omega arith) (low-no-container k (omega arith))) (omega arith)
+
+  pub own-typed : k ≡ 25 → 1 + length (decimal a) + length (decimal b) ≡ length (opening s k a b v) + length (closing k b)
+  own-typed p = rw (opening-typed p, closing-typed k b p) (omega arith)
+
+  pub own-pointer : k ≡ 26 → 1 ≡ length (opening s k a b v) + length (closing k b)
+  own-pointer p = rw (opening-pointer p, closing-none k b (λ d. omega arith) (λ d. omega arith) (low-no-container k (omega arith)))
+
+  pub own-atomic : k ≡ 27 → 1 ≡ length (opening s k a b v) + length (closing k b)
+  own-atomic p = rw (opening-atomic p, closing-none k b (λ d. omega arith) (λ d. omega arith) (low-no-container k (omega arith)))
+
+  pub own-array : k ≡ 28 → 2 + length (decimal a) ≡ length (opening s k a b v) + length (closing k b)
+  own-array p = rw (opening-array p, closing-array k b p) (omega arith)
+
+  pub own-none : 24 ≤ k → isContainerKind k ≡ false → (k ≡ 24 → ⊥) → (k ≡ 25 → ⊥) → (k ≡ 26 → ⊥) → (k ≡ 27 → ⊥) → (k ≡ 28 → ⊥) → 0 ≡ length (opening s k a b v) + length (closing k b)
+  own-none p h d e f g i = rw (opening-none p h d e f g i, closing-none k b e i h)
+
+  -- the name as the code takes it out of the names
+  pub opening-slice : (x : ContainerKind) → x ≡ containerOf k → 24 ≤ k → isContainerKind k ≡ true → startByte x ∷ (take (a + b - a) (drop a s) ++ fields v []) ≡ opening s k a b v
+  opening-slice x e p h = ap₂ (λ (c : ContainerKind) (n : ℕ). startByte c ∷ (take n (drop a s) ++ fields v [])) e (plain a b) ∙ sym (opening-container p h)
+    where
+      plain : (m n : ℕ) → m + n - m ≡ n
+      plain m n = omega arith

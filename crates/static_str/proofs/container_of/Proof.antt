@@ -1,0 +1,15 @@
+-- `static_str::container_of` meets its contract. Assumes nothing.
+use borrow.Author.Tests.{eq-eqb, ne-eqb}
+use Rattle.static_str.proofs.container_of.Statement.{statement}
+use Rattle.static_str.proofs.container_of.Tie as tie
+use Rattle.static_str.proofs.container_of.Reads as reads
+use Rattle.static_str.proofs.container_of.Lts as lts
+
+returns : tie.Need-returns
+returns c = simp (eq-eqb _ _ (c .if1 .taken))
+
+returns-2 : tie.Need-returns-2
+returns-2 c = simp (ne-eqb _ _ (c .if1 .left))
+
+pub container-of-spec : {M : Type 1} → statement M
+container-of-spec = tie.close (tie.spec returns returns-2)

@@ -1,0 +1,15 @@
+-- `static_str::is_container` meets its contract. Assumes nothing.
+use borrow.Author.Tests.{eq-eqb, ne-eqb}
+use Rattle.static_str.proofs.is_container.Statement.{statement}
+use Rattle.static_str.proofs.is_container.Tie as tie
+use Rattle.static_str.proofs.is_container.Reads as reads
+use Rattle.static_str.proofs.is_container.Lts as lts
+
+returns : tie.Need-returns
+returns c = simp (eq-eqb _ _ (c .if1 .taken))
+
+returns-2 : tie.Need-returns-2
+returns-2 c = simp (ne-eqb _ _ (c .if1 .left))
+
+pub is-container-spec : {M : Type 1} → statement M
+is-container-spec = tie.close (tie.spec returns returns-2)

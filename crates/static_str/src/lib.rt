@@ -1,0 +1,367 @@
+// Printing (static_str.rs): the text of a number and of a tree, into an output that the caller lends.
+ghost use Prim.Native.Nat.{ℕ, _+_, _-_, _*_, _≤_, _<_};
+ghost use mathlib.Core.Path.{_≡_};
+ghost use mathlib.Core.List.{List, [], _∷_, _++_};
+ghost use lib.ListN.{length};
+ghost use mathlib.Core.Bool.{true};
+ghost use Rattle.kinds.specs.Container.{startByte};
+ghost use Rattle.kinds.specs.Primitive.{code};
+ghost use Rattle.kinds.specs.Print.{decimal, fields, print};
+ghost use Rattle.kinds.specs.Sheet.{countAt, isContainerKind, trees, maxNodes, maxNames};
+ghost use Rattle.kinds.specs.Walk.{NodeAt, TreesAt, KindsAndNames};
+ghost use Rattle.static_str.specs.Output.{Wrote};
+ghost use Rattle.static_str.specs.Outcome.{fitted, placed, encodingLen, encodingArray, encodingOutput};
+ghost use Rattle.static_str.specs.Parts.{containerOf, opening, closing, childrenLevel, childrenText, maxNodeText, OwnLength, ChildrenLength, TreesLength};
+use sheet::{check, Checked};
+use kinds::{primitive_code, Code, ContainerKind, Fields, IndirectionKind, NestingLevel, Refusal};
+
+// The count of bytes of a text, or why there is none.
+pub enum Printed {
+    Refused(Refusal),
+    Bytes(usize),
+}
+
+// The count of decimal digits.
+pub fn static_int_str_len(n: u64) -> usize
+    ensures { λ r. ⌜ r ≡ length (decimal n) ⌝ }
+{
+    let mut rest = n;
+    let mut len = 1;
+    while 10 <= rest {
+        rest = rest / 10;
+        len += 1;
+    }
+    len
+}
+
+// Writes one byte; the next place.
+fn put(out: &mut [u8], at: usize, b: u8) -> usize
+    requires { ⌜ at < length (now out) ⌝ }
+    ensures { λ r. ⌜ Wrote (now (out .entry)) at (b ∷ []) (now (out .exit)) r ⌝ }
+{
+    out[at] = b;
+    at + 1
+}
+
+// Writes bytes; the next place.
+fn put_bytes(out: &mut [u8], at: usize, s: &[u8]) -> usize
+    requires { ⌜ at + length (now s) ≤ length (now out) ⌝ }
+    ensures { λ r. ⌜ Wrote (now (out .entry)) at (now (s .entry)) (now (out .exit)) r ⌝ }
+{
+    let mut i = 0;
+    while i < s.len() {
+        out[at + i] = s[i];
+        i += 1;
+    }
+    at + i
+}
+
+// Writes a number in decimal, without surplus zeros; the next place.
+fn put_number(out: &mut [u8], at: usize, n: u64) -> usize
+    requires { ⌜ at + length (decimal n) ≤ length (now out) ⌝ }
+    ensures { λ r. ⌜ Wrote (now (out .entry)) at (decimal n) (now (out .exit)) r ⌝ }
+{
+    if n < 10 {
+        return put(out, at, b'0' + (n as u8));
+    }
+    let next = put_number(out, at, n / 10);
+    let digit = (n % 10) as u8;
+    put(out, next, b'0' + digit)
+}
+
+// Writes a byte and a number; the next place.
+fn put_tagged(out: &mut [u8], at: usize, b: u8, n: u64) -> usize
+    requires { ⌜ at + length (b ∷ decimal n) ≤ length (now out) ⌝ }
+    ensures { λ r. ⌜ Wrote (now (out .entry)) at (b ∷ decimal n) (now (out .exit)) r ⌝ }
+{
+    let next = put(out, at, b);
+    put_number(out, next, n)
+}
+
+// Writes the code of a primitive; the next place.
+fn put_code(out: &mut [u8], at: usize, kind: u64) -> usize
+    requires { ⌜ at + length (code kind) ≤ length (now out) ⌝ }
+    ensures { λ r. ⌜ Wrote (now (out .entry)) at (code kind) (now (out .exit)) r ⌝ }
+{
+    match primitive_code(kind) {
+        Code::Empty => at,
+        Code::One(b) => put(out, at, b),
+        Code::Two(b, c) => {
+            let next = put(out, at, b);
+            put(out, next, c)
+        }
+    }
+}
+
+// Writes a number in decimal at the front of the output.
+pub fn static_int_str_array(n: u64, out: &mut [u8]) -> Printed
+    ensures answers { λ r. ⌜ r ≡ fitted (decimal n) (length (now (out .entry))) ⌝ }
+    ensures writes { λ _. ⌜ now (out .exit) ≡ placed (decimal n) (now (out .entry)) ⌝ }
+{
+    let len = static_int_str_len(n);
+    if out.len() < len {
+        return Printed::Refused(Refusal::OutputTooShort);
+    }
+    put_number(out, 0, n);
+    Printed::Bytes(len)
+}
+
+fn is_container(kind: u64) -> bool
+    ensures { λ r. ⌜ r ≡ isContainerKind kind ⌝ }
+{
+    if kind == 29 {
+        return true;
+    }
+    kind == 30
+}
+
+fn container_of(kind: u64) -> ContainerKind
+    ensures { λ r. ⌜ r ≡ containerOf kind ⌝ }
+{
+    if kind == 29 {
+        return ContainerKind::Struct;
+    }
+    ContainerKind::Union
+}
+
+// The level of a node's children, or that they are not shown.
+fn children_level(kind: u64, level: NestingLevel) -> Fields
+    ensures { λ r. ⌜ r ≡ childrenLevel kind level ⌝ }
+{
+    if is_container(kind) {
+        return level.container_include_fields();
+    }
+    if kind == 26 {
+        return Fields::Included(level.indirection(IndirectionKind::Pointer));
+    }
+    if kind == 27 {
+        return Fields::Included(level.indirection(IndirectionKind::Atomic));
+    }
+    Fields::Included(level)
+}
+
+fn code_len(kind: u64) -> usize
+    ensures { λ r. ⌜ (r ≡ length (code kind)) × (r ≤ 2) ⌝ }
+{
+    match primitive_code(kind) {
+        Code::Empty => 0,
+        Code::One(_) => 1,
+        Code::Two(_, _) => 2,
+    }
+}
+
+// The length of a container's own text.
+fn container_len(name: u64, level: NestingLevel) -> usize
+    requires { ⌜ name ≤ 2000 ⌝ }
+    ensures { λ r. ⌜ (r ≡ 2 + name + length (fields level [])) × (r ≤ maxNodeText) ⌝ }
+{
+    let len = 2 + name as usize;
+    match level.container_include_fields() {
+        Fields::Included(_) => len + 1,
+        Fields::Dropped => len,
+    }
+}
+
+// The length of a node's own text, without its children's.
+fn node_len(kind: u64, first: u64, second: u64, level: NestingLevel) -> usize
+    requires { ⌜ (isContainerKind kind ≡ true → second ≤ 2000) ⌝ }
+    ensures { λ r. ⌜ OwnLength kind first second level r × (r ≤ maxNodeText) ⌝ }
+{
+    if kind < 24 {
+        return code_len(kind);
+    }
+    if is_container(kind) {
+        return container_len(second, level);
+    }
+    if kind == 24 {
+        return 1 + static_int_str_len(second);
+    }
+    if kind == 25 {
+        return 1 + static_int_str_len(first) + static_int_str_len(second);
+    }
+    if kind == 26 {
+        return 1;
+    }
+    if kind == 27 {
+        return 1;
+    }
+    if kind == 28 {
+        return 2 + static_int_str_len(first);
+    }
+    0
+}
+
+// The length of the text of the children of the node at `at`.
+fn children_len(nodes: &[u64], at: usize, level: NestingLevel) -> usize
+    requires { ⌜ NodeAt (now nodes) at × (countAt (now nodes) at ≤ maxNodes) ⌝ }
+    requires { ⌜ KindsAndNames (now nodes) maxNames at (countAt (now nodes) at) ⌝ }
+    ensures { λ r. ⌜ ChildrenLength (now (nodes .entry)) at level r × (r + maxNodeText ≤ maxNodeText * countAt (now (nodes .entry)) at) ⌝ }
+{
+    let count = nodes[at + 3] as usize;
+    if count == 1 {
+        return 0;
+    }
+    match children_level(nodes[at], level) {
+        Fields::Dropped => 0,
+        Fields::Included(inner) => trees_len(nodes, at + 4, count - 1, inner),
+    }
+}
+
+// The length of the text of the trees of the `n` nodes from `from` on.
+fn trees_len(nodes: &[u64], from: usize, n: usize, level: NestingLevel) -> usize
+    requires { ⌜ TreesAt (now nodes) from n × (n ≤ maxNodes) ⌝ }
+    requires { ⌜ KindsAndNames (now nodes) maxNames from n ⌝ }
+    ensures { λ r. ⌜ TreesLength (now (nodes .entry)) from n level r × (r ≤ maxNodeText * n) ⌝ }
+{
+    let mut at = from;
+    let mut left = n;
+    let mut len = 0;
+    while 0 < left {
+        len = len + node_len(nodes[at], nodes[at + 1], nodes[at + 2], level);
+        len = len + children_len(nodes, at, level);
+        let count = nodes[at + 3] as usize;
+        at = at + 4 * count;
+        left = left - count;
+    }
+    len
+}
+
+// Writes `=` where a container shows its fields; the next place.
+fn put_equals(out: &mut [u8], at: usize, level: NestingLevel) -> usize
+    requires { ⌜ at + length (fields level []) ≤ length (now out) ⌝ }
+    ensures { λ r. ⌜ Wrote (now (out .entry)) at (fields level []) (now (out .exit)) r ⌝ }
+{
+    match level.container_include_fields() {
+        Fields::Included(_) => put(out, at, b'='),
+        Fields::Dropped => at,
+    }
+}
+
+// Writes a container's text up to its fields; the next place.
+fn open_container(kind: ContainerKind, name: &[u8], level: NestingLevel, out: &mut [u8], at: usize) -> usize
+    requires { ⌜ at + length (startByte kind ∷ (now name ++ fields level [])) ≤ length (now out) ⌝ }
+    ensures { λ r. ⌜ Wrote (now (out .entry)) at (startByte kind ∷ (now (name .entry) ++ fields level [])) (now (out .exit)) r ⌝ }
+{
+    let after_start = put(out, at, kind.start_byte());
+    let after_name = put_bytes(out, after_start, name);
+    put_equals(out, after_name, level)
+}
+
+// Writes a node's text up to its children's; the next place.
+fn open_node(kind: u64, first: u64, second: u64, names: &[u8], level: NestingLevel, out: &mut [u8], at: usize) -> usize
+    requires { ⌜ (isContainerKind kind ≡ true → first + second ≤ length (now names)) ⌝ }
+    requires { ⌜ at + length (opening (now names) kind first second level) ≤ length (now out) ⌝ }
+    ensures { λ r. ⌜ Wrote (now (out .entry)) at (opening (now (names .entry)) kind first second level) (now (out .exit)) r ⌝ }
+{
+    if kind < 24 {
+        return put_code(out, at, kind);
+    }
+    if is_container(kind) {
+        let from = first as usize;
+        let to = from + second as usize;
+        return open_container(container_of(kind), &names[from..to], level, out, at);
+    }
+    if kind == 24 {
+        return put_tagged(out, at, b'b', second);
+    }
+    if kind == 25 {
+        return put_tagged(out, at, b'b', first);
+    }
+    if kind == 26 {
+        return put(out, at, IndirectionKind::Pointer.prefix_byte());
+    }
+    if kind == 27 {
+        return put(out, at, IndirectionKind::Atomic.prefix_byte());
+    }
+    if kind == 28 {
+        return put_tagged(out, at, b'[', first);
+    }
+    at
+}
+
+// Writes a node's text after its children's; the next place.
+fn close_node(kind: u64, second: u64, out: &mut [u8], at: usize) -> usize
+    requires { ⌜ at + length (closing kind second) ≤ length (now out) ⌝ }
+    ensures { λ r. ⌜ Wrote (now (out .entry)) at (closing kind second) (now (out .exit)) r ⌝ }
+{
+    if kind == 25 {
+        return put_number(out, at, second);
+    }
+    if kind == 28 {
+        return put(out, at, b']');
+    }
+    if is_container(kind) {
+        return put(out, at, container_of(kind).end_byte());
+    }
+    at
+}
+
+// Writes the text of the children of the node at `at`; the next place.
+fn print_children(nodes: &[u64], names: &[u8], at: usize, level: NestingLevel, out: &mut [u8], to: usize) -> usize
+    requires { ⌜ NodeAt (now nodes) at × KindsAndNames (now nodes) (length (now names)) at (countAt (now nodes) at) ⌝ }
+    requires { ⌜ to + length (childrenText (now names) (now nodes) at level) ≤ length (now out) ⌝ }
+    ensures { λ r. ⌜ Wrote (now (out .entry)) to (childrenText (now (names .entry)) (now (nodes .entry)) at level) (now (out .exit)) r ⌝ }
+{
+    let count = nodes[at + 3] as usize;
+    if count == 1 {
+        return to;
+    }
+    match children_level(nodes[at], level) {
+        Fields::Dropped => to,
+        Fields::Included(inner) => print_trees(nodes, names, at + 4, count - 1, inner, out, to),
+    }
+}
+
+// Writes the text of the trees of the `n` nodes from `from` on; the next place.
+fn print_trees(nodes: &[u64], names: &[u8], from: usize, n: usize, level: NestingLevel, out: &mut [u8], start: usize) -> usize
+    requires { ⌜ TreesAt (now nodes) from n × KindsAndNames (now nodes) (length (now names)) from n ⌝ }
+    requires { ⌜ start + length (print level (trees (now names) (now nodes) n from)) ≤ length (now out) ⌝ }
+    ensures { λ r. ⌜ Wrote (now (out .entry)) start (print level (trees (now (names .entry)) (now (nodes .entry)) n from)) (now (out .exit)) r ⌝ }
+{
+    let mut at = from;
+    let mut left = n;
+    let mut to = start;
+    while 0 < left {
+        let kind = nodes[at];
+        let second = nodes[at + 2];
+        to = open_node(kind, nodes[at + 1], second, names, level, out, to);
+        to = print_children(nodes, names, at, level, out, to);
+        to = close_node(kind, second, out, to);
+        let count = nodes[at + 3] as usize;
+        at = at + 4 * count;
+        left = left - count;
+    }
+    to
+}
+
+// The length of the text of the tree that the lists hold.
+pub fn static_encoding_str_len(words: &[u64], names: &[u8]) -> Printed
+    ensures { λ r. ⌜ r ≡ encodingLen (now (words .entry)) (now (names .entry)) ⌝ }
+{
+    match check(words, names) {
+        Checked::NotASheet => Printed::Refused(Refusal::NotASheet),
+        Checked::BadName => Printed::Refused(Refusal::BadName),
+        Checked::Good => {
+            let n = words[0] as usize;
+            Printed::Bytes(trees_len(&words[4..], 0, n, NestingLevel::new()))
+        }
+    }
+}
+
+// Writes the text of the tree that the lists hold at the front of the output.
+pub fn static_encoding_str_array(words: &[u64], names: &[u8], out: &mut [u8]) -> Printed
+    ensures answers { λ r. ⌜ r ≡ encodingArray (now (words .entry)) (now (names .entry)) (length (now (out .entry))) ⌝ }
+    ensures writes { λ _. ⌜ now (out .exit) ≡ encodingOutput (now (words .entry)) (now (names .entry)) (now (out .entry)) ⌝ }
+{
+    match static_encoding_str_len(words, names) {
+        Printed::Refused(refusal) => Printed::Refused(refusal),
+        Printed::Bytes(len) => {
+            if out.len() < len {
+                return Printed::Refused(Refusal::OutputTooShort);
+            }
+            let n = words[0] as usize;
+            print_trees(&words[4..], names, 0, n, NestingLevel::new(), out, 0);
+            Printed::Bytes(len)
+        }
+    }
+}
