@@ -443,10 +443,11 @@ module _ (all : Bool) (v : NestingLevel) (s w s' w' : List ℕ) (at n bt m : ℕ
               let b = first-within w' bt m (l .second) q in
               let x = first-some w at n (l .first) p in
               let y = first-some w' bt m (l .second) q in
-              let z = shown-le u (countAt w at - 1) in
-              (omega arith,
+              let z = shown-le u (countAt w at - 1) in (
+                omega arith,
                 (subst (TreesAt w (at + 4)) (sym lk) (shown-trees u w (at + 4) (countAt w at - 1) (node-inner w at (first-node w at n (l .first) p))), node-inner w' bt (first-node w' bt m (l .second) q)),
-                (walk-inner w (length s) at n (l .first-walk) k (omega arith), walk-inner w' (length s') bt m (l .second-walk) (countAt w' bt - 1) (omega arith)))
+                (walk-inner w (length s) at n (l .first-walk) k (omega arith), walk-inner w' (length s') bt m (l .second-walk) (countAt w' bt - 1) (omega arith)),
+              )
 
         pub left-next : isContainerKind (kindAt w at) ≡ false → (i j : ℕ) → i ≡ 1 → j ≡ 1 → (x : NestingLevel) → x ≡ levelAfter all (kindAt w at) v here → Left all v s w s' w' (at + 4 * i) (n - i) (bt + 4 * j) (m - j) x r
         left-next c i j ei ej x ex = left-moved 1 1 (levelAfter all (kindAt w at) v here) i j ei ej x ex (record {

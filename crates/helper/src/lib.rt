@@ -13,9 +13,15 @@ ghost use Rattle.kinds.specs.Tree.{inside};
 ghost use Rattle.kinds.specs.Walk.{NodeAt, TreesAt, KindAndName, KindsAndNames};
 ghost use Rattle.helper.specs.Answer.{sizeAnswer, compareAnswer};
 ghost use Rattle.helper.specs.Measure.{clip, plusMeasured, largerMeasured, timesMeasured, joinMeasured, fold, holdingMeasured, sizeAt, compareFields, shownCount, levelAfter, bothChecked};
-
-use sheet::{Checked, check};
-use kinds::{NestingLevel, IndirectionKind, Fields, PrimitiveSize, Refusal, primitive_size, equivalent_kinds};
+use kinds::Fields;
+use kinds::IndirectionKind;
+use kinds::NestingLevel;
+use kinds::PrimitiveSize;
+use kinds::Refusal;
+use kinds::equivalent_kinds;
+use kinds::primitive_size;
+use sheet::Checked;
+use sheet::check;
 
 // A size: none, a count of bytes, or one above 2^64 - 1.
 pub enum Measured {
@@ -338,7 +344,18 @@ fn shown_count(level: NestingLevel, n: usize) -> usize
 
 // Whether the fields match: the trees of the `n` nodes from `from` on and those of the `m` nodes from `start` on. One that has none matches any.
 // A node with one child is followed by that child, so only containers need a call of their own.
-fn compare_fields(a: &[u64], an: &[u8], from: usize, n: usize, b: &[u64], bn: &[u8], start: usize, m: usize, level: NestingLevel, all: bool) -> bool
+fn compare_fields(
+    a: &[u64],
+    an: &[u8],
+    from: usize,
+    n: usize,
+    b: &[u64],
+    bn: &[u8],
+    start: usize,
+    m: usize,
+    level: NestingLevel,
+    all: bool,
+) -> bool
     requires { ⌜ TreesAt (now a) from n × TreesAt (now b) start m ⌝ }
     requires { ⌜ KindsAndNames (now a) (length (now an)) from n × KindsAndNames (now b) (length (now bn)) start m ⌝ }
     ensures { λ r. ⌜ r ≡ compareFields all level (trees (now (an .entry)) (now (a .entry)) n from) (trees (now (bn .entry)) (now (b .entry)) m start) ⌝ }
@@ -368,7 +385,18 @@ fn compare_fields(a: &[u64], an: &[u8], from: usize, n: usize, b: &[u64], bn: &[
             c = a[at + 3] as usize;
             d = b[bt + 3] as usize;
             let shown = shown_count(level_for(all, here), c - 1);
-            if !compare_fields(a, an, at + 4, shown, b, bn, bt + 4, d - 1, NestingLevel::Within, all) {
+            if !compare_fields(
+                a,
+                an,
+                at + 4,
+                shown,
+                b,
+                bn,
+                bt + 4,
+                d - 1,
+                NestingLevel::Within,
+                all,
+            ) {
                 return false;
             }
         }
@@ -421,7 +449,18 @@ pub fn compare_encodings(aw: &[u64], an: &[u8], bw: &[u64], bn: &[u8], all: bool
         Checked::Good => {
             let n = aw[0] as usize;
             let m = bw[0] as usize;
-            Compared::Decided(compare_fields(&aw[4..], an, 0, n, &bw[4..], bn, 0, m, NestingLevel::new(), all))
+            Compared::Decided(compare_fields(
+                &aw[4..],
+                an,
+                0,
+                n,
+                &bw[4..],
+                bn,
+                0,
+                m,
+                NestingLevel::new(),
+                all,
+            ))
         }
     }
 }

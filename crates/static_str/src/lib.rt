@@ -12,8 +12,15 @@ ghost use Rattle.kinds.specs.Walk.{NodeAt, TreesAt, KindsAndNames};
 ghost use Rattle.static_str.specs.Output.{Wrote};
 ghost use Rattle.static_str.specs.Outcome.{fitted, placed, encodingLen, encodingArray, encodingOutput};
 ghost use Rattle.static_str.specs.Parts.{containerOf, opening, closing, childrenLevel, childrenText, maxNodeText, OwnLength, ChildrenLength, TreesLength};
-use sheet::{check, Checked};
-use kinds::{primitive_code, Code, ContainerKind, Fields, IndirectionKind, NestingLevel, Refusal};
+use kinds::Code;
+use kinds::ContainerKind;
+use kinds::Fields;
+use kinds::IndirectionKind;
+use kinds::NestingLevel;
+use kinds::Refusal;
+use kinds::primitive_code;
+use sheet::Checked;
+use sheet::check;
 
 // The count of bytes of a text, or why there is none.
 pub enum Printed {
@@ -238,7 +245,13 @@ fn put_equals(out: &mut [u8], at: usize, level: NestingLevel) -> usize
 }
 
 // Writes a container's text up to its fields; the next place.
-fn open_container(kind: ContainerKind, name: &[u8], level: NestingLevel, out: &mut [u8], at: usize) -> usize
+fn open_container(
+    kind: ContainerKind,
+    name: &[u8],
+    level: NestingLevel,
+    out: &mut [u8],
+    at: usize,
+) -> usize
     requires { ⌜ at + length (startByte kind ∷ (now name ++ fields level [])) ≤ length (now out) ⌝ }
     ensures { λ r. ⌜ Wrote (now (out .entry)) at (startByte kind ∷ (now (name .entry) ++ fields level [])) (now (out .exit)) r ⌝ }
 {
@@ -248,7 +261,15 @@ fn open_container(kind: ContainerKind, name: &[u8], level: NestingLevel, out: &m
 }
 
 // Writes a node's text up to its children's; the next place.
-fn open_node(kind: u64, first: u64, second: u64, names: &[u8], level: NestingLevel, out: &mut [u8], at: usize) -> usize
+fn open_node(
+    kind: u64,
+    first: u64,
+    second: u64,
+    names: &[u8],
+    level: NestingLevel,
+    out: &mut [u8],
+    at: usize,
+) -> usize
     requires { ⌜ (isContainerKind kind ≡ true → first + second ≤ length (now names)) ⌝ }
     requires { ⌜ at + length (opening (now names) kind first second level) ≤ length (now out) ⌝ }
     ensures { λ r. ⌜ Wrote (now (out .entry)) at (opening (now (names .entry)) kind first second level) (now (out .exit)) r ⌝ }
@@ -297,7 +318,14 @@ fn close_node(kind: u64, second: u64, out: &mut [u8], at: usize) -> usize
 }
 
 // Writes the text of the children of the node at `at`; the next place.
-fn print_children(nodes: &[u64], names: &[u8], at: usize, level: NestingLevel, out: &mut [u8], to: usize) -> usize
+fn print_children(
+    nodes: &[u64],
+    names: &[u8],
+    at: usize,
+    level: NestingLevel,
+    out: &mut [u8],
+    to: usize,
+) -> usize
     requires { ⌜ NodeAt (now nodes) at × KindsAndNames (now nodes) (length (now names)) at (countAt (now nodes) at) ⌝ }
     requires { ⌜ to + length (childrenText (now names) (now nodes) at level) ≤ length (now out) ⌝ }
     ensures { λ r. ⌜ Wrote (now (out .entry)) to (childrenText (now (names .entry)) (now (nodes .entry)) at level) (now (out .exit)) r ⌝ }
@@ -313,7 +341,15 @@ fn print_children(nodes: &[u64], names: &[u8], at: usize, level: NestingLevel, o
 }
 
 // Writes the text of the trees of the `n` nodes from `from` on; the next place.
-fn print_trees(nodes: &[u64], names: &[u8], from: usize, n: usize, level: NestingLevel, out: &mut [u8], start: usize) -> usize
+fn print_trees(
+    nodes: &[u64],
+    names: &[u8],
+    from: usize,
+    n: usize,
+    level: NestingLevel,
+    out: &mut [u8],
+    start: usize,
+) -> usize
     requires { ⌜ TreesAt (now nodes) from n × KindsAndNames (now nodes) (length (now names)) from n ⌝ }
     requires { ⌜ start + length (print level (trees (now names) (now nodes) n from)) ≤ length (now out) ⌝ }
     ensures { λ r. ⌜ Wrote (now (out .entry)) start (print level (trees (now (names .entry)) (now (nodes .entry)) n from)) (now (out .exit)) r ⌝ }

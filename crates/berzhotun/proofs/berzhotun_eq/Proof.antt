@@ -1,0 +1,19 @@
+use borrow.Author.Needs.{needs}
+use Rattle.berzhotun.proofs.berzhotun_eq.Statement.{statement}
+use Rattle.berzhotun.proofs.berzhotun_eq.Tie as tie
+use Rattle.berzhotun.proofs.berzhotun_eq.Reads as reads
+use Rattle.berzhotun.proofs.berzhotun_eq.Lts as lts
+use Rattle.berzhotun.proofs.give_compared.Reads as give-compared-reads
+use Rattle.encoding_box.proofs.eq.Reads as eq-reads
+
+eq-requires : tie.Need-eq-requires
+eq-requires c κs = search needs
+
+give-compared-requires : tie.Need-give-compared-requires
+give-compared-requires c κs = search needs
+
+returns : tie.Need-returns
+returns c = rw (← c .before .before .eq .ensures) (c .give-compared .ensures)
+
+pub berzhotun-eq-spec : {M : Type 1} → statement M
+berzhotun-eq-spec = tie.close (tie.spec eq-requires give-compared-requires returns)

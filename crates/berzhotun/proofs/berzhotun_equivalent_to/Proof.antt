@@ -1,0 +1,20 @@
+use borrow.Author.Needs.{needs}
+use Rattle.berzhotun.proofs.berzhotun_equivalent_to.Statement.{statement}
+use Rattle.berzhotun.proofs.berzhotun_equivalent_to.Tie as tie
+use Rattle.berzhotun.proofs.berzhotun_equivalent_to.Reads as reads
+use Rattle.berzhotun.proofs.berzhotun_equivalent_to.Lts as lts
+use Rattle.berzhotun.proofs.give_compared.Reads as give-compared-reads
+use Rattle.encoding.proofs.equivalent_to.Reads as equivalent-to-reads
+
+equivalent-to-requires : tie.Need-equivalent-to-requires
+equivalent-to-requires c κs = search needs
+
+give-compared-requires : tie.Need-give-compared-requires
+give-compared-requires c κs = search needs
+
+returns : tie.Need-returns
+returns c = rw (← c .before .before .equivalent-to .ensures) (c .give-compared .ensures)
+
+pub berzhotun-equivalent-to-spec : {M : Type 1} → statement M
+berzhotun-equivalent-to-spec =
+    tie.close (tie.spec equivalent-to-requires give-compared-requires returns)

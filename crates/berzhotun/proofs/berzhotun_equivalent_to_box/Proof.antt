@@ -1,0 +1,20 @@
+use borrow.Author.Needs.{needs}
+use Rattle.berzhotun.proofs.berzhotun_equivalent_to_box.Statement.{statement}
+use Rattle.berzhotun.proofs.berzhotun_equivalent_to_box.Tie as tie
+use Rattle.berzhotun.proofs.berzhotun_equivalent_to_box.Reads as reads
+use Rattle.berzhotun.proofs.berzhotun_equivalent_to_box.Lts as lts
+use Rattle.berzhotun.proofs.give_compared.Reads as give-compared-reads
+use Rattle.encoding.proofs.equivalent_to_box.Reads as equivalent-to-box-reads
+
+equivalent-to-box-requires : tie.Need-equivalent-to-box-requires
+equivalent-to-box-requires c κs = search needs
+
+give-compared-requires : tie.Need-give-compared-requires
+give-compared-requires c κs = search needs
+
+returns : tie.Need-returns
+returns c = rw (← c .before .before .equivalent-to-box .ensures) (c .give-compared .ensures)
+
+pub berzhotun-equivalent-to-box-spec : {M : Type 1} → statement M
+berzhotun-equivalent-to-box-spec =
+    tie.close (tie.spec equivalent-to-box-requires give-compared-requires returns)

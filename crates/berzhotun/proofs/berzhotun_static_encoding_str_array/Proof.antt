@@ -1,0 +1,26 @@
+use borrow.Author.Needs.{needs}
+use Rattle.berzhotun.proofs.berzhotun_static_encoding_str_array.Statement.{statement}
+use Rattle.berzhotun.proofs.berzhotun_static_encoding_str_array.Tie as tie
+use Rattle.berzhotun.proofs.berzhotun_static_encoding_str_array.Reads as reads
+use Rattle.berzhotun.proofs.berzhotun_static_encoding_str_array.Lts as lts
+use Rattle.berzhotun.proofs.give_printed.Reads as give-printed-reads
+use Rattle.static_str.proofs.static_encoding_str_array.Reads as static-encoding-str-array-reads
+
+static-encoding-str-array-requires : tie.Need-static-encoding-str-array-requires
+static-encoding-str-array-requires c κs = search needs
+
+give-printed-requires : tie.Need-give-printed-requires
+give-printed-requires c κs = search needs
+
+same-length : tie.Need-same-length
+same-length c = search needs
+
+returns : tie.Need-returns
+returns c =
+    let a = c .before .before .before .before .static-encoding-str-array .ensures in
+    rw (← a .0) (c .give-printed .ensures .0, (c .give-printed .ensures .1, a .1))
+
+pub berzhotun-static-encoding-str-array-spec : {M : Type 1} → statement M
+berzhotun-static-encoding-str-array-spec =
+    tie.close
+    (tie.spec static-encoding-str-array-requires give-printed-requires same-length returns)

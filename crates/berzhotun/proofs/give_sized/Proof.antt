@@ -1,0 +1,33 @@
+use mathlib.Core.Path.{refl}
+use borrow.Author.Needs.{needs}
+use Rattle.berzhotun.proofs.give_sized.Statement.{statement}
+use Rattle.berzhotun.proofs.give_sized.Tie as tie
+use Rattle.berzhotun.proofs.give_sized.Reads as reads
+use Rattle.berzhotun.proofs.give_sized.Lts as lts
+use Rattle.kinds.proofs.Refusal.number.Reads as number-reads
+
+enum-known-s : tie.Need-enum-known-s
+enum-known-s c = search needs
+
+number-requires : tie.Need-number-requires
+number-requires c κs = search needs
+
+enum-told : tie.Need-enum-told
+enum-told c = search needs
+
+enum-known-s-2 : tie.Need-enum-known-s-2
+enum-known-s-2 c = search needs
+
+returns : tie.Need-returns
+returns c = search needs
+
+returns-2 : tie.Need-returns-2
+returns-2 c = search needs
+
+returns-3 : tie.Need-returns-3
+returns-3 c = rw (c .before .before .s2 .given .1) (refl, refl)
+
+pub give-sized-spec : {M : Type 1} → statement M
+give-sized-spec =
+    tie.close
+    (tie.spec enum-known-s number-requires enum-told enum-known-s-2 returns returns-2 returns-3)

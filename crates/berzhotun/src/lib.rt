@@ -1,0 +1,149 @@
+// The functions that programs in C and Rust call: thin layers over the crates below. Each returns 0 where the input is accepted, else document 01's
+// number of the refusal; the other values go into a lent array.
+ghost use mathlib.Core.Path.{_≡_};
+ghost use mathlib.Core.Bool.{true, false};
+ghost use lib.ListN.{length};
+ghost use Rattle.helper.specs.Answer.{sizeAnswer, compareAnswer};
+ghost use Rattle.static_str.specs.Outcome.{encodingLen, encodingArray, encodingOutput};
+ghost use Rattle.berzhotun.specs.Numbers.{sizeNumber, sizeValues, compareNumber, compareValues, printNumber, printValues};
+use helper::Compared;
+use helper::Sized;
+use static_str::Printed;
+
+// A comparison's answer as numbers.
+fn give_compared(c: Compared, answer: &mut [u64; 1]) -> u64
+    ensures returns { λ r. ⌜ r ≡ compareNumber c ⌝ }
+    ensures answers { λ _. ⌜ now (answer .exit) ≡ compareValues c ⌝ }
+{
+    match c {
+        Compared::Refused(why) => {
+            *answer = [0];
+            why.number()
+        }
+        Compared::Decided(yes) => {
+            if yes {
+                *answer = [1];
+            } else {
+                *answer = [0];
+            }
+            0
+        }
+    }
+}
+
+// A length as numbers.
+fn give_printed(p: Printed, answer: &mut [u64; 1]) -> u64
+    ensures returns { λ r. ⌜ r ≡ printNumber p ⌝ }
+    ensures answers { λ _. ⌜ now (answer .exit) ≡ printValues p ⌝ }
+{
+    match p {
+        Printed::Refused(why) => {
+            *answer = [0];
+            why.number()
+        }
+        Printed::Bytes(n) => {
+            *answer = [n as u64];
+            0
+        }
+    }
+}
+
+// A size as numbers.
+fn give_sized(s: Sized, answer: &mut [u64; 2]) -> u64
+    ensures returns { λ r. ⌜ r ≡ sizeNumber s ⌝ }
+    ensures answers { λ _. ⌜ now (answer .exit) ≡ sizeValues s ⌝ }
+{
+    match s {
+        Sized::Refused(why) => {
+            *answer = [0, 0];
+            why.number()
+        }
+        Sized::Nothing => {
+            *answer = [0, 0];
+            0
+        }
+        Sized::Bytes(n) => {
+            *answer = [1, n];
+            0
+        }
+    }
+}
+
+#[no_mangle]
+pub extern "C" fn berzhotun_size(words: &[u64], names: &[u8], answer: &mut [u64; 2]) -> u64
+    ensures returns { λ r. ⌜ r ≡ sizeNumber (sizeAnswer (now (words .entry)) (now (names .entry))) ⌝ }
+    ensures answers { λ _. ⌜ now (answer .exit) ≡ sizeValues (sizeAnswer (now (words .entry)) (now (names .entry))) ⌝ }
+{
+    give_sized(encoding::size(words, names), answer)
+}
+
+#[no_mangle]
+pub extern "C" fn berzhotun_equivalent_to(
+    aw: &[u64],
+    an: &[u8],
+    bw: &[u64],
+    bn: &[u8],
+    answer: &mut [u64; 1],
+) -> u64
+    ensures returns { λ r. ⌜ r ≡ compareNumber (compareAnswer false (now (aw .entry)) (now (an .entry)) (now (bw .entry)) (now (bn .entry))) ⌝ }
+    ensures answers { λ _. ⌜ now (answer .exit) ≡ compareValues (compareAnswer false (now (aw .entry)) (now (an .entry)) (now (bw .entry)) (now (bn .entry))) ⌝ }
+{
+    give_compared(encoding::equivalent_to(aw, an, bw, bn), answer)
+}
+
+#[no_mangle]
+pub extern "C" fn berzhotun_equivalent_to_box(
+    aw: &[u64],
+    an: &[u8],
+    bw: &[u64],
+    bn: &[u8],
+    answer: &mut [u64; 1],
+) -> u64
+    ensures returns { λ r. ⌜ r ≡ compareNumber (compareAnswer false (now (aw .entry)) (now (an .entry)) (now (bw .entry)) (now (bn .entry))) ⌝ }
+    ensures answers { λ _. ⌜ now (answer .exit) ≡ compareValues (compareAnswer false (now (aw .entry)) (now (an .entry)) (now (bw .entry)) (now (bn .entry))) ⌝ }
+{
+    give_compared(encoding::equivalent_to_box(aw, an, bw, bn), answer)
+}
+
+#[no_mangle]
+pub extern "C" fn berzhotun_eq(
+    aw: &[u64],
+    an: &[u8],
+    bw: &[u64],
+    bn: &[u8],
+    answer: &mut [u64; 1],
+) -> u64
+    ensures returns { λ r. ⌜ r ≡ compareNumber (compareAnswer true (now (aw .entry)) (now (an .entry)) (now (bw .entry)) (now (bn .entry))) ⌝ }
+    ensures answers { λ _. ⌜ now (answer .exit) ≡ compareValues (compareAnswer true (now (aw .entry)) (now (an .entry)) (now (bw .entry)) (now (bn .entry))) ⌝ }
+{
+    give_compared(encoding_box::eq(aw, an, bw, bn), answer)
+}
+
+#[no_mangle]
+pub extern "C" fn berzhotun_static_encoding_str_len(
+    words: &[u64],
+    names: &[u8],
+    answer: &mut [u64; 1],
+) -> u64
+    ensures returns { λ r. ⌜ r ≡ printNumber (encodingLen (now (words .entry)) (now (names .entry))) ⌝ }
+    ensures answers { λ _. ⌜ now (answer .exit) ≡ printValues (encodingLen (now (words .entry)) (now (names .entry))) ⌝ }
+{
+    give_printed(static_str::static_encoding_str_len(words, names), answer)
+}
+
+#[no_mangle]
+pub extern "C" fn berzhotun_static_encoding_str_array(
+    words: &[u64],
+    names: &[u8],
+    out: &mut [u8],
+    answer: &mut [u64; 1],
+) -> u64
+    ensures returns { λ r. ⌜ r ≡ printNumber (encodingArray (now (words .entry)) (now (names .entry)) (length (now (out .entry)))) ⌝ }
+    ensures answers { λ _. ⌜ now (answer .exit) ≡ printValues (encodingArray (now (words .entry)) (now (names .entry)) (length (now (out .entry)))) ⌝ }
+    ensures writes { λ _. ⌜ now (out .exit) ≡ encodingOutput (now (words .entry)) (now (names .entry)) (now (out .entry)) ⌝ }
+{
+    give_printed(
+        static_str::static_encoding_str_array(words, names, out),
+        answer,
+    )
+}

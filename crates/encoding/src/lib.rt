@@ -1,0 +1,28 @@
+// The tree's own operations (encoding.rs, `Encoding`).
+ghost use mathlib.Core.Path.{_≡_};
+ghost use mathlib.Core.Bool.{false};
+ghost use Rattle.helper.specs.Answer.{sizeAnswer, compareAnswer};
+use helper::Compared;
+use helper::Sized;
+use helper::compare_encodings;
+
+// Whether the tree in the first sheet matches that in the second, by levels.
+pub fn equivalent_to(aw: &[u64], an: &[u8], bw: &[u64], bn: &[u8]) -> Compared
+    ensures { λ r. ⌜ r ≡ compareAnswer false (now (aw .entry)) (now (an .entry)) (now (bw .entry)) (now (bn .entry)) ⌝ }
+{
+    compare_encodings(aw, an, bw, bn, false)
+}
+
+// The same; in Rust the second tree is then an `EncodingBox`, which is a sheet too.
+pub fn equivalent_to_box(aw: &[u64], an: &[u8], bw: &[u64], bn: &[u8]) -> Compared
+    ensures { λ r. ⌜ r ≡ compareAnswer false (now (aw .entry)) (now (an .entry)) (now (bw .entry)) (now (bn .entry)) ⌝ }
+{
+    compare_encodings(aw, an, bw, bn, false)
+}
+
+// The size of the tree in a sheet.
+pub fn size(words: &[u64], names: &[u8]) -> Sized
+    ensures { λ r. ⌜ r ≡ sizeAnswer (now (words .entry)) (now (names .entry)) ⌝ }
+{
+    helper::size(words, names)
+}
