@@ -1,0 +1,2 @@
+-- What the statements are made of.
+pub mod Sheets

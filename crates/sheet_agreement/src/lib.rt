@@ -1,0 +1,1 @@
+// Statements over the answers of the calls; there is nothing to run.
