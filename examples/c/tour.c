@@ -1,0 +1,167 @@
+/* A tour of the library: each function once, and what a refusal looks like. */
+#include <inttypes.h>
+#include <stdio.h>
+#include <string.h>
+
+#include "berzhotun.h"
+
+/* Room for any tree that a text can make. */
+struct tree {
+    uint64_t words[BERZHOTUN_MAX_WORDS];
+    uint8_t names[BERZHOTUN_MAX_NAMES];
+};
+
+/* A struct tree as the two lists that the functions take. */
+#define LENT(tree) (tree).words, BERZHOTUN_MAX_WORDS, (tree).names, BERZHOTUN_MAX_NAMES
+
+static const char *const in_words[] = {
+    "accepted",
+    "the text has more than 2,000 bytes",
+    "a lent list is too short",
+    "the lists are no sheet",
+    "a struct or union has a name that is none",
+    "the output is too short",
+    "the size is above 2^64 - 1",
+    "the text ends where something must follow",
+    "no type starts with this byte, or nothing is open that it closes",
+    "this byte does not make a complex number",
+    "a number must stand here",
+    "the number is too large",
+    "the array is not closed",
+    "the struct or union is not closed",
+    "this is no name for a struct or union",
+    "something follows the type",
+};
+
+static const char *yes_or_no(uint64_t answer) {
+    return answer ? "yes" : "no";
+}
+
+/* Refusal 8 has its place right behind the byte; the mark goes under the byte. */
+static int column(uint64_t refusal, uint64_t place) {
+    return (int)(refusal == BERZHOTUN_UNKNOWN_BYTE ? place - 1 : place);
+}
+
+static void show_refusal(const char *text, uint64_t refusal, const uint64_t values[3]) {
+    printf("  %s\n  %*s^ refusal %" PRIu64 " at place %" PRIu64 ": %s\n", text,
+           column(refusal, values[0]), "", refusal, values[0], in_words[refusal]);
+}
+
+/* Whether the text was read; what was wrong is printed. */
+static int read_text(const char *text, struct tree *tree) {
+    uint64_t values[3];
+    uint64_t refusal = berzhotun_from_str((const uint8_t *)text, strlen(text), LENT(*tree), values);
+    if (refusal != 0) {
+        show_refusal(text, refusal, values);
+    }
+    return refusal == 0;
+}
+
+static void show_print(const struct tree *tree) {
+    uint8_t out[256];
+    uint64_t length[1], written[1];
+    uint64_t refusal = berzhotun_static_encoding_str_len(LENT(*tree), length);
+    if (refusal == 0) {
+        refusal = berzhotun_static_encoding_str_array(LENT(*tree), out, sizeof out, written);
+    }
+    if (refusal != 0) {
+        printf("  %s\n", in_words[refusal]);
+    } else {
+        printf("  prints %" PRIu64 " bytes: %.*s\n", length[0], (int)written[0], (const char *)out);
+    }
+}
+
+static void show_size(const struct tree *tree) {
+    uint64_t size[2];
+    uint64_t refusal = berzhotun_size(LENT(*tree), size);
+    if (refusal != 0) {
+        printf("  %s\n", in_words[refusal]);
+    } else if (size[0] == 0) {
+        printf("  has no size\n");
+    } else {
+        printf("  takes  %" PRIu64 " bytes\n", size[1]);
+    }
+}
+
+static void show_words(const struct tree *tree) {
+    uint64_t i;
+    for (i = 0; i < tree->words[3]; i++) {
+        printf(i % 4 == 0 ? "\n    %" PRIu64 : " %" PRIu64, tree->words[i]);
+    }
+    printf("\n");
+}
+
+static void read_print_size(void) {
+    static const char *const texts[] = {"{R=i^v}", "^^{R=i}", "[12^f]", "(U=vi)", "b16i3", "rn@\"Rate\""};
+    static struct tree tree;
+    size_t i;
+    for (i = 0; i < sizeof texts / sizeof texts[0]; i++) {
+        printf("%s\n", texts[i]);
+        if (read_text(texts[i], &tree)) {
+            show_print(&tree);
+            show_size(&tree);
+        }
+    }
+    if (read_text("{R=i^v}", &tree)) {
+        printf("\nThe words of {R=i^v}: the header, then each node's kind, two numbers, nodes below and itself");
+        show_words(&tree);
+    }
+}
+
+static void compare(const char *first, const char *second) {
+    static struct tree a, b;
+    uint64_t levels[1], all_fields[1], text[1];
+    if (!read_text(first, &a) || !read_text(second, &b)) {
+        return;
+    }
+    if (berzhotun_equivalent_to(LENT(a), LENT(b), levels) == 0 &&
+        berzhotun_eq(LENT(a), LENT(b), all_fields) == 0 &&
+        berzhotun_equivalent_to_str(LENT(a), (const uint8_t *)second, strlen(second), text) == 0) {
+        printf("%-10s %-10s %-12s %-12s %s\n", first, second, yes_or_no(levels[0]), yes_or_no(all_fields[0]),
+               yes_or_no(text[0]));
+    }
+}
+
+static void compare_some(void) {
+    printf("\n%-10s %-10s %-12s %-12s %s\n", "tree", "other", "equivalent", "all fields", "matches text");
+    compare("i", "d");
+    compare("{R=i}", "{R=i}");
+    compare("{R=i}", "{R}");
+    compare("{R=i}", "{R=}");
+    compare("^^{R=i}", "^^{R=d}");
+    compare("^^{R=i}", "^^{R}");
+    compare("@", "@\"Rate\"");
+    compare("@?", "@\"Rate\"");
+}
+
+/* A method's signature: one type after the other, each with a number behind it. */
+static void take_apart(const char *signature) {
+    const uint8_t *text = (const uint8_t *)signature;
+    size_t length = strlen(signature), at = 0;
+    static struct tree tree;
+    uint64_t values[3];
+    printf("\n%s\n", signature);
+    while (at < length && berzhotun_from_start_of_str(text + at, length - at, LENT(tree), values) == 0) {
+        show_print(&tree);
+        at += values[0];
+        at += strspn(signature + at, "0123456789");
+    }
+}
+
+static void refuse_some(void) {
+    static const char *const texts[] = {"{R=ix}", "[3i", "{a-b=i}", "{R=i", "jx", "b256", "ii"};
+    static struct tree tree;
+    size_t i;
+    printf("\n");
+    for (i = 0; i < sizeof texts / sizeof texts[0]; i++) {
+        read_text(texts[i], &tree);
+    }
+}
+
+int main(void) {
+    read_print_size();
+    compare_some();
+    take_apart("d24@0:8i16");
+    refuse_some();
+    return 0;
+}

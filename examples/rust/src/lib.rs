@@ -1,0 +1,208 @@
+//! A safe wrapper around Berzhotun's static library: Objective-C type encodings.
+//!
+//! A call needs up to 512 KiB of stack for the deepest of trees.
+//!
+//! ```
+//! let rate = berzhotun::parse(b"{Rate=id}").unwrap();
+//! assert_eq!(rate.size(), Ok(Some(12)));
+//! assert!(rate.equivalent_to(&berzhotun::parse(b"{Rate}").unwrap()));
+//! assert_eq!(rate.to_bytes(), b"{Rate=id}");
+//! ```
+
+mod exported;
+mod refusal;
+
+pub use refusal::{Container, Refusal};
+
+/// The most bytes of a text.
+pub const MAX_TEXT: usize = 2000;
+
+/// A type: a sheet that the library has accepted, so that only sizes and texts can be refused later.
+#[derive(Clone, Debug)]
+pub struct Tree {
+    words: Vec<u64>,
+    names: Vec<u8>,
+}
+
+/// Reads the whole text as one type.
+pub fn parse(text: &[u8]) -> Result<Tree, Refusal> {
+    read(exported::berzhotun_from_str, text).map(|(tree, _)| tree)
+}
+
+/// Reads one type from the start of the text and returns it with the rest of the text.
+///
+/// A digit where a type must begin is eaten and gives the tree None: pass over the numbers of a method's
+/// signature before asking for the next type.
+pub fn parse_start(text: &[u8]) -> Result<(Tree, &[u8]), Refusal> {
+    read(exported::berzhotun_from_start_of_str, text).map(|(tree, place)| (tree, &text[place..]))
+}
+
+type Reader =
+    unsafe extern "C" fn(*const u8, usize, *mut u64, usize, *mut u8, usize, *mut [u64; 3]) -> u64;
+
+fn read(reader: Reader, text: &[u8]) -> Result<(Tree, usize), Refusal> {
+    // A text that is too long is refused whatever is lent.
+    let length = text.len().min(MAX_TEXT);
+    let mut words = vec![0; 4 + 4 * (length + 1)];
+    let mut names = vec![0; length];
+    let mut values = [0; 3];
+    // SAFETY: each pointer goes with its own list's length; the lists that are written are new.
+    let number = unsafe {
+        reader(
+            text.as_ptr(),
+            text.len(),
+            words.as_mut_ptr(),
+            words.len(),
+            names.as_mut_ptr(),
+            names.len(),
+            &mut values,
+        )
+    };
+    if number != 0 {
+        return Err(Refusal::new(number, values));
+    }
+    words.truncate(words[3] as usize);
+    names.truncate(words[2] as usize);
+    Ok((Tree { words, names }, values[0] as usize))
+}
+
+type Pair = unsafe extern "C" fn(
+    *const u64,
+    usize,
+    *const u8,
+    usize,
+    *const u64,
+    usize,
+    *const u8,
+    usize,
+    *mut [u64; 1],
+) -> u64;
+
+impl Tree {
+    /// The tree of a sheet that was made elsewhere; refusals 3 and 4.
+    pub fn from_sheet(words: Vec<u64>, names: Vec<u8>) -> Result<Tree, Refusal> {
+        let tree = Tree { words, names };
+        tree.printed_length().map(|_| tree)
+    }
+
+    /// The words of the sheet, laid out as in include/berzhotun.h.
+    pub fn words(&self) -> &[u64] {
+        &self.words
+    }
+
+    /// The name bytes of the sheet.
+    pub fn names(&self) -> &[u8] {
+        &self.names
+    }
+
+    /// Whether the two are equivalent, by levels. This is not transitive.
+    pub fn equivalent_to(&self, other: &Tree) -> bool {
+        self.compare(exported::berzhotun_equivalent_to, other)
+    }
+
+    /// Whether the two are equivalent with all fields, also those behind several pointers.
+    pub fn equal(&self, other: &Tree) -> bool {
+        self.compare(exported::berzhotun_eq, other)
+    }
+
+    fn compare(&self, pair: Pair, other: &Tree) -> bool {
+        let mut answer = [0];
+        // SAFETY: each pointer goes with its own list's length, and only the answer is written.
+        let number = unsafe {
+            pair(
+                self.words.as_ptr(),
+                self.words.len(),
+                self.names.as_ptr(),
+                self.names.len(),
+                other.words.as_ptr(),
+                other.words.len(),
+                other.names.as_ptr(),
+                other.names.len(),
+                &mut answer,
+            )
+        };
+        assert_eq!(number, 0, "a tree is a good sheet");
+        answer[0] == 1
+    }
+
+    /// Whether the tree matches the text, by levels; only a text that is too long is refused.
+    pub fn matches(&self, text: &[u8]) -> Result<bool, Refusal> {
+        let mut answer = [0];
+        // SAFETY: as in `compare`.
+        let number = unsafe {
+            exported::berzhotun_equivalent_to_str(
+                self.words.as_ptr(),
+                self.words.len(),
+                self.names.as_ptr(),
+                self.names.len(),
+                text.as_ptr(),
+                text.len(),
+                &mut answer,
+            )
+        };
+        accepted(number, answer[0] == 1)
+    }
+
+    /// The bytes that the type takes on 64-bit Apple ARM without padding, if it has a size.
+    pub fn size(&self) -> Result<Option<u64>, Refusal> {
+        let mut answer = [0; 2];
+        // SAFETY: as in `compare`.
+        let number = unsafe {
+            exported::berzhotun_size(
+                self.words.as_ptr(),
+                self.words.len(),
+                self.names.as_ptr(),
+                self.names.len(),
+                &mut answer,
+            )
+        };
+        accepted(number, (answer[0] == 1).then_some(answer[1]))
+    }
+
+    /// The printed text.
+    pub fn to_bytes(&self) -> Vec<u8> {
+        let length = self.printed_length().expect("a tree is a good sheet");
+        let mut out = vec![0; length];
+        let mut answer = [0];
+        // SAFETY: as in `compare`; the output is new.
+        let number = unsafe {
+            exported::berzhotun_static_encoding_str_array(
+                self.words.as_ptr(),
+                self.words.len(),
+                self.names.as_ptr(),
+                self.names.len(),
+                out.as_mut_ptr(),
+                out.len(),
+                &mut answer,
+            )
+        };
+        assert_eq!(
+            (number, answer[0] as usize),
+            (0, length),
+            "the output has the printed length"
+        );
+        out
+    }
+
+    fn printed_length(&self) -> Result<usize, Refusal> {
+        let mut answer = [0];
+        // SAFETY: as in `compare`.
+        let number = unsafe {
+            exported::berzhotun_static_encoding_str_len(
+                self.words.as_ptr(),
+                self.words.len(),
+                self.names.as_ptr(),
+                self.names.len(),
+                &mut answer,
+            )
+        };
+        accepted(number, answer[0] as usize)
+    }
+}
+
+fn accepted<T>(number: u64, answer: T) -> Result<T, Refusal> {
+    match number {
+        0 => Ok(answer),
+        _ => Err(Refusal::new(number, [0; 3])),
+    }
+}

@@ -1,0 +1,236 @@
+//! Cases of the scope document, through the wrapper.
+
+use berzhotun::{parse, parse_start, Container, Refusal, Tree, MAX_TEXT};
+
+fn tree(text: &str) -> Tree {
+    parse(text.as_bytes()).unwrap_or_else(|refusal| panic!("{text}: {refusal}"))
+}
+
+fn print(text: &str) -> String {
+    String::from_utf8(tree(text).to_bytes()).expect("ASCII")
+}
+
+fn refusal(text: &str) -> Refusal {
+    parse(text.as_bytes()).expect_err(text)
+}
+
+#[test]
+fn a_record_becomes_a_sheet() {
+    let record = tree("{R=i^v}");
+    assert_eq!(
+        record.words(),
+        [4, 4, 1, 20, 29, 0, 1, 4, 2, 0, 0, 1, 26, 0, 0, 2, 17, 0, 0, 1]
+    );
+    assert_eq!(record.names(), b"R");
+}
+
+#[test]
+fn prints() {
+    for text in [
+        "",
+        "c",
+        "jD",
+        "@?",
+        "b0i7",
+        "[3]",
+        "^^{R}",
+        "(U=vi)",
+        "{R=i^v}",
+        "[18446744073709551615c]",
+    ] {
+        assert_eq!(print(text), text);
+    }
+    assert_eq!(print("rnc"), "c");
+    assert_eq!(print("^^{R=i}"), "^^{R}");
+    assert_eq!(print("{x}"), "{x=}");
+    assert_eq!(print("b0i007"), "b0i7");
+    assert_eq!(print("@\"Rate\""), "@");
+}
+
+#[test]
+fn sizes() {
+    let sizes = [
+        ("{x=}", Some(0)),
+        ("(x=)", None),
+        ("(U=vi)", Some(4)),
+        ("{R=i^v}", Some(12)),
+        ("b0", Some(1)),
+    ];
+    for (text, size) in sizes {
+        assert_eq!(tree(text).size(), Ok(size), "{text}");
+    }
+    for (text, size) in [
+        ("b255", Some(32)),
+        ("b0i3", Some(4)),
+        ("A{R=i}", None),
+        ("[0v]", None),
+    ] {
+        assert_eq!(tree(text).size(), Ok(size), "{text}");
+    }
+    assert_eq!(
+        tree("[2[9223372036854775808c]]").size(),
+        Err(Refusal::SizeTooLarge)
+    );
+    assert_eq!(tree("[0[2[9223372036854775808c]]]").size(), Ok(Some(0)));
+}
+
+#[test]
+fn comparisons() {
+    assert!(!tree("i").equivalent_to(&tree("d")));
+    assert!(tree("{R=i}").equivalent_to(&tree("{R}")));
+    assert!(tree("@").equivalent_to(&tree("@?")) && tree("#").equivalent_to(&tree("@")));
+    assert!(tree("^^{R=i}").equivalent_to(&tree("^^{R=d}")));
+    assert!(!tree("^^{R=i}").equal(&tree("^^{R=d}")));
+    assert!(!tree("b3").equivalent_to(&tree("b0i3")));
+    let record = tree("{R=i}");
+    assert!(record.equivalent_to(&record) && record.equal(&record));
+}
+
+#[test]
+fn matches() {
+    let cases = [
+        ("{R=i}", "{R=}", true),
+        ("{R=i}", "{R}", false),
+        ("^^{R=i}", "^^{R}", true),
+        ("^^{R=i}", "^^{R=i}", false),
+        ("@", "@\"Rate\"", true),
+        ("@", "#\"Rate\"", true),
+        ("@?", "@\"Rate\"", false),
+        ("@?", "#", true),
+        ("i", "no type", false),
+    ];
+    for (first, text, answer) in cases {
+        assert_eq!(
+            tree(first).matches(text.as_bytes()),
+            Ok(answer),
+            "{first} {text}"
+        );
+    }
+    assert_eq!(
+        tree("i").matches(&[b'i'; MAX_TEXT + 1]),
+        Err(Refusal::TextTooLong)
+    );
+}
+
+#[test]
+fn refusals() {
+    let container = Container::Struct;
+    assert_eq!(refusal("j"), Refusal::UnexpectedEnd { place: 1 });
+    assert_eq!(
+        refusal("^rc"),
+        Refusal::Unknown {
+            place: 2,
+            byte: b'r'
+        }
+    );
+    assert_eq!(
+        refusal("jx"),
+        Refusal::UnknownAfterComplex {
+            place: 1,
+            byte: b'x'
+        }
+    );
+    assert_eq!(refusal("bx"), Refusal::ExpectedInteger { place: 1 });
+    assert_eq!(refusal("b256"), Refusal::IntegerTooLarge { place: 4 });
+    assert_eq!(refusal("[3ii]"), Refusal::WrongEndArray { place: 3 });
+    assert_eq!(
+        refusal("{x)"),
+        Refusal::WrongEndContainer {
+            place: 3,
+            container
+        }
+    );
+    assert_eq!(
+        refusal("{x)}"),
+        Refusal::InvalidIdentifier {
+            place: 3,
+            container
+        }
+    );
+    assert_eq!(
+        refusal("(x"),
+        Refusal::WrongEndContainer {
+            place: 2,
+            container: Container::Union
+        }
+    );
+    assert_eq!(refusal("ii"), Refusal::NotAllConsumed { place: 1 });
+    for text in ["j", "^rc", "jx", "bx", "b256", "[3ii]", "{x)", "{x)}", "ii"] {
+        let refusal = refusal(text);
+        assert!((7..=15).contains(&refusal.number()) && !refusal.to_string().is_empty());
+    }
+}
+
+#[test]
+fn any_bytes_are_read_or_refused() {
+    assert_eq!(
+        parse(b"\xff").unwrap_err(),
+        Refusal::Unknown {
+            place: 1,
+            byte: 0xff
+        }
+    );
+    assert_eq!(
+        parse(b"\0").unwrap_err(),
+        Refusal::Unknown { place: 1, byte: 0 }
+    );
+    assert_eq!(
+        parse(&[b'^'; MAX_TEXT + 1]).unwrap_err(),
+        Refusal::TextTooLong
+    );
+    assert_eq!(parse(&[b'^'; MAX_TEXT]).unwrap().words()[0], 2001);
+}
+
+#[test]
+fn the_rest_is_the_callers_own_text() {
+    let signature = b"i16@";
+    let (int, rest) = parse_start(signature).unwrap();
+    assert_eq!((int.to_bytes(), rest), (b"i".to_vec(), &signature[1..]));
+    assert!(std::ptr::eq(rest, &signature[1..]));
+    let (none, rest) = parse_start(b"16@").unwrap();
+    assert_eq!((none.to_bytes(), rest), (vec![], &b"6@"[..]));
+    let (none, rest) = parse_start(b"{x=5c").unwrap();
+    assert_eq!((none.to_bytes(), rest), (vec![], &b"c"[..]));
+    assert_eq!(
+        parse_start(b"]").unwrap_err(),
+        Refusal::Unknown {
+            place: 1,
+            byte: b']'
+        }
+    );
+}
+
+#[test]
+fn foreign_sheets_are_tested() {
+    let words = vec![1, 4, 3, 8, 29, 0, 3, 1];
+    assert_eq!(
+        Tree::from_sheet(words.clone(), b"abc".to_vec())
+            .unwrap()
+            .to_bytes(),
+        b"{abc=}"
+    );
+    assert_eq!(
+        Tree::from_sheet(words.clone(), b"a-b".to_vec()).unwrap_err(),
+        Refusal::BadName
+    );
+    assert_eq!(
+        Tree::from_sheet(words, b"ab".to_vec()).unwrap_err(),
+        Refusal::BadSheet
+    );
+    assert_eq!(
+        Tree::from_sheet(vec![], vec![]).unwrap_err(),
+        Refusal::BadSheet
+    );
+}
+
+#[test]
+fn the_longest_print() {
+    let mut words = vec![2001, 4, 2000, 8008, 29, 0, 2000, 2001];
+    for nodes in (2..=2000).rev() {
+        words.extend([25, u64::MAX, 255, nodes]);
+    }
+    words.extend([24, 0, 255, 1]);
+    let tree = Tree::from_sheet(words, vec![b'R'; 2000]).unwrap();
+    assert_eq!(tree.to_bytes().len(), 49983);
+    assert_eq!(tree.size(), Ok(Some(32)));
+}

@@ -1,0 +1,271 @@
+#define _GNU_SOURCE
+#include "calls.h"
+
+#include <inttypes.h>
+#include <signal.h>
+#include <stdio.h>
+#include <string.h>
+#include <unistd.h>
+
+#include "lent.h"
+
+enum { OUT_ROOM = 1 << 16 };
+
+const char *const function_names[FUNCTIONS] = {
+    "from_str", "from_start_of_str", "equivalent_to", "equivalent_to_box", "eq",
+    "equivalent_to_str", "size", "static_encoding_str_len", "static_encoding_str_array",
+};
+
+uint64_t counts[FUNCTIONS][16], yeses[FUNCTIONS];
+
+static struct room text_room, words_room[2], names_room[2], read_words_room, read_names_room, out_room, answer_room;
+
+/* The lists as they are lent. */
+static const uint8_t *text, *names[2];
+static const uint64_t *words[2];
+static size_t text_length, words_length[2], names_length[2];
+static enum function running;
+
+static void show_sheet(int which) {
+    size_t i;
+    printf(" s:");
+    for (i = 0; i < words_length[which]; i++) {
+        printf("%s%" PRIu64, i == 0 ? "" : ",", words[which][i]);
+    }
+    printf(":");
+    for (i = 0; i < names_length[which]; i++) {
+        printf("%02x", names[which][i]);
+    }
+}
+
+void fail(const char *what) {
+    size_t i;
+    printf("%s: %s\n", function_names[running], what);
+    if (running == FROM_STR || running == FROM_START || running == MATCHES) {
+        printf(" t:");
+        for (i = 0; i < text_length; i++) {
+            printf("%02x", text[i]);
+        }
+    }
+    if (running != FROM_STR && running != FROM_START) {
+        show_sheet(0);
+    }
+    if (running == EQUIVALENT || running == EQUIVALENT_BOX || running == EQ) {
+        show_sheet(1);
+    }
+    printf("\n");
+    fflush(stdout);
+    _exit(1);
+}
+
+static void on_fault(int signal) {
+    fail(signal == SIGSEGV || signal == SIGBUS ? "touched memory that was not lent to it" : "stopped the program");
+}
+
+void calls_begin(void) {
+    static const int signals[] = {SIGSEGV, SIGBUS, SIGILL, SIGFPE, SIGABRT, SIGTRAP};
+    static uint8_t for_faults[1 << 18];
+    stack_t stack = {.ss_sp = for_faults, .ss_size = sizeof for_faults};
+    struct sigaction action = {.sa_handler = on_fault, .sa_flags = SA_ONSTACK};
+    size_t i;
+    int which;
+    sigaltstack(&stack, NULL);
+    for (i = 0; i < sizeof signals / sizeof signals[0]; i++) {
+        sigaction(signals[i], &action, NULL);
+    }
+    text_room = room_to_read(TEXT_ROOM);
+    for (which = 0; which < 2; which++) {
+        words_room[which] = room_to_read(WORDS_ROOM * sizeof(uint64_t));
+        names_room[which] = room_to_read(NAMES_ROOM);
+    }
+    read_words_room = room_to_write((BERZHOTUN_WORDS_FOR(TEXT_ROOM) + 4) * sizeof(uint64_t));
+    read_names_room = room_to_write(TEXT_ROOM + 4);
+    out_room = room_to_write(OUT_ROOM);
+    answer_room = room_to_write(4 * sizeof(uint64_t));
+}
+
+static const void *lend(const struct room *room, const void *bytes, size_t length) {
+    size_t offset = room_offset(room, length, random_word() & 1);
+    memcpy(room->own + offset, bytes, length);
+    return room->lent + offset;
+}
+
+static void *lend_marked(const struct room *room, size_t length) {
+    uint8_t *lent = room->own + room_offset(room, length, random_word() & 1);
+    memset(lent, MARK, length);
+    return lent;
+}
+
+void lend_text(const struct text *input) {
+    text_length = input->length;
+    text = lend(&text_room, input->bytes, text_length);
+}
+
+void lend_sheet(int which, const struct sheet *sheet) {
+    words_length[which] = sheet->words_length;
+    names_length[which] = sheet->names_length;
+    words[which] = lend(&words_room[which], sheet->words, sheet->words_length * sizeof(uint64_t));
+    names[which] = lend(&names_room[which], sheet->names, sheet->names_length);
+}
+
+/* Whether all bytes of the list from `from` on are `byte`. */
+static int all_are(const void *list, size_t from, size_t length, uint8_t byte) {
+    const uint8_t *bytes = list;
+    return from >= length ||
+           (bytes[from] == byte && memcmp(bytes + from, bytes + from + 1, length - from - 1) == 0);
+}
+
+static uint64_t ends(uint64_t refusal, uint64_t allowed) {
+    if (refusal > 15 || (allowed >> refusal & 1) == 0) {
+        fail("returned a number that it does not have");
+    }
+    counts[running][refusal]++;
+    return refusal;
+}
+
+static void check_values(uint64_t refusal, const uint64_t *values) {
+    int accepted_place = refusal == 0 && running == FROM_START;
+    if (values[0] > (refusal >= 7 || accepted_place ? text_length : 0)) {
+        fail("gave a place outside of the text");
+    }
+    if (values[1] > (refusal == 8 || refusal == 9 ? 255 : 0)) {
+        fail("gave a byte that is none");
+    }
+    if ((refusal == 13 || refusal == 14) ? values[2] != 29 && values[2] != 30 : values[2] != 0) {
+        fail("gave a kind that is none");
+    }
+}
+
+/* The list: `kept` bytes of the tree, 0 up to `filled`, the mark beyond. */
+static void check_written(const void *list, size_t kept, size_t filled, size_t length) {
+    if (!all_are(list, kept, filled, 0)) {
+        fail("left something where 0 must stand");
+    }
+    if (!all_are(list, filled, length, MARK)) {
+        fail("wrote beyond its part of a list");
+    }
+}
+
+static void check_tree(const uint64_t *tree_words) {
+    uint64_t nodes = tree_words[0];
+    if (nodes < 1 || nodes > text_length + 1 || tree_words[1] != 4 || tree_words[2] > text_length ||
+        tree_words[3] != 4 + 4 * nodes || tree_words[7] != nodes) {
+        fail("wrote a header that is none");
+    }
+}
+
+static void keep_tree(struct sheet *tree, const uint64_t *tree_words, const uint8_t *tree_names) {
+    tree->words_length = tree_words[3];
+    tree->names_length = tree_words[2];
+    memcpy(tree->words, tree_words, tree->words_length * sizeof(uint64_t));
+    memcpy(tree->names, tree_names, tree->names_length);
+}
+
+uint64_t call_reader(enum function function, size_t lent_words, size_t lent_names, struct sheet *tree) {
+    size_t needed_words = BERZHOTUN_WORDS_FOR(text_length), needed_names = BERZHOTUN_NAMES_FOR(text_length);
+    uint64_t *tree_words = lend_marked(&read_words_room, lent_words * sizeof(uint64_t));
+    uint8_t *tree_names = lend_marked(&read_names_room, lent_names);
+    uint64_t *values = lend_marked(&answer_room, 3 * sizeof(uint64_t));
+    int is_short = lent_words < needed_words || lent_names < needed_names;
+    uint64_t refusal, due = text_length > BERZHOTUN_MAX_TEXT ? 1 : is_short ? 2 : 0;
+    size_t words_filled, names_filled;
+    running = function;
+    refusal = ends((function == FROM_STR ? berzhotun_from_str : berzhotun_from_start_of_str)(
+                       text, text_length, tree_words, lent_words, tree_names, lent_names, values),
+                   function == FROM_STR ? 0xff87 : 0x7f87);
+    if (due != 0 ? refusal != due : refusal == 1 || refusal == 2) {
+        fail("did not refuse by the lengths");
+    }
+    words_filled = due != 0 ? 0 : needed_words * sizeof(uint64_t);
+    names_filled = due != 0 ? 0 : needed_names;
+    check_values(refusal, values);
+    if (refusal == 0) {
+        check_tree(tree_words);
+        keep_tree(tree, tree_words, tree_names);
+    }
+    check_written(tree_words, refusal == 0 ? tree_words[3] * sizeof(uint64_t) : 0, words_filled,
+                  lent_words * sizeof(uint64_t));
+    check_written(tree_names, refusal == 0 ? tree_words[2] : 0, names_filled, lent_names);
+    return refusal;
+}
+
+static void check_yes_or_no(uint64_t refusal, uint64_t answer) {
+    if (answer > (refusal == 0)) {
+        fail("gave an answer that is neither yes nor no");
+    }
+    yeses[running] += answer;
+}
+
+uint64_t call_pair(enum function function, uint64_t *answer) {
+    uint64_t *lent = lend_marked(&answer_room, sizeof(uint64_t));
+    uint64_t refusal;
+    running = function;
+    refusal = ends((function == EQUIVALENT       ? berzhotun_equivalent_to
+                    : function == EQUIVALENT_BOX ? berzhotun_equivalent_to_box
+                                                 : berzhotun_eq)(words[0], words_length[0], names[0], names_length[0],
+                                                                 words[1], words_length[1], names[1],
+                                                                 names_length[1], lent),
+                   0x19);
+    check_yes_or_no(refusal, *lent);
+    *answer = *lent;
+    return refusal;
+}
+
+uint64_t call_matches(uint64_t *answer) {
+    uint64_t *lent = lend_marked(&answer_room, sizeof(uint64_t));
+    uint64_t refusal;
+    running = MATCHES;
+    refusal = ends(berzhotun_equivalent_to_str(words[0], words_length[0], names[0], names_length[0], text,
+                                               text_length, lent),
+                   0x1b);
+    if ((refusal == 1) != (text_length > BERZHOTUN_MAX_TEXT)) {
+        fail("did not refuse by the length");
+    }
+    check_yes_or_no(refusal, *lent);
+    *answer = *lent;
+    return refusal;
+}
+
+uint64_t call_size(void) {
+    uint64_t *lent = lend_marked(&answer_room, 2 * sizeof(uint64_t));
+    uint64_t refusal;
+    running = SIZE;
+    refusal = ends(berzhotun_size(words[0], words_length[0], names[0], names_length[0], lent), 0x59);
+    check_yes_or_no(refusal, lent[0]);
+    if (lent[0] == 0 && lent[1] != 0) {
+        fail("gave bytes of what has no size");
+    }
+    return refusal;
+}
+
+uint64_t call_length(uint64_t *answer) {
+    uint64_t *lent = lend_marked(&answer_room, sizeof(uint64_t));
+    uint64_t refusal;
+    running = LENGTH;
+    refusal = ends(berzhotun_static_encoding_str_len(words[0], words_length[0], names[0], names_length[0], lent),
+                   0x19);
+    if (refusal != 0 && *lent != 0) {
+        fail("gave a length of what it refused");
+    }
+    *answer = *lent;
+    return refusal;
+}
+
+uint64_t call_print(size_t room, struct text *print) {
+    uint8_t *out = lend_marked(&out_room, room);
+    uint64_t *lent = lend_marked(&answer_room, sizeof(uint64_t));
+    uint64_t refusal;
+    running = PRINT;
+    refusal = ends(berzhotun_static_encoding_str_array(words[0], words_length[0], names[0], names_length[0], out, room,
+                                                       lent),
+                   0x39);
+    if (*lent > (refusal == 0 ? room : 0)) {
+        fail("gave a length of what it did not write");
+    }
+    if (!all_are(out, *lent, room, MARK)) {
+        fail("wrote behind its print");
+    }
+    print->length = *lent <= TEXT_ROOM ? *lent : TEXT_ROOM;
+    memcpy(print->bytes, out, print->length);
+    return refusal;
+}

@@ -1,0 +1,34 @@
+/* The nine functions, each called in guarded memory and held to its contract. */
+#ifndef CALLS_H
+#define CALLS_H
+
+#include "inputs.h"
+
+enum function { FROM_STR, FROM_START, EQUIVALENT, EQUIVALENT_BOX, EQ, MATCHES, SIZE, LENGTH, PRINT, FUNCTIONS };
+
+extern const char *const function_names[FUNCTIONS];
+
+/* Calls of each function by returned number, and those answered by yes. */
+extern uint64_t counts[FUNCTIONS][16], yeses[FUNCTIONS];
+
+/* Makes the guarded memory and catches faults, which are reported with the call that made them. */
+void calls_begin(void);
+
+/* Puts a text, or a sheet as the first (0) or second (1), into the lent memory for the calls below. */
+void lend_text(const struct text *text);
+void lend_sheet(int which, const struct sheet *sheet);
+
+/* Each returns the refusal. A reading is lent so many words and name bytes; if accepted, its tree is put in `tree`. */
+uint64_t call_reader(enum function function, size_t lent_words, size_t lent_names, struct sheet *tree);
+uint64_t call_pair(enum function function, uint64_t *answer);
+uint64_t call_matches(uint64_t *answer);
+uint64_t call_size(void);
+uint64_t call_length(uint64_t *answer);
+
+/* Prints into an output of `room` bytes; as much of the print as has room is copied to `print`. */
+uint64_t call_print(size_t room, struct text *print);
+
+/* Says what went wrong, shows the lent lists, and exits. */
+void fail(const char *what);
+
+#endif

@@ -1,0 +1,176 @@
+/*
+ * Random bytes, texts and sheets through all nine functions. The memory behind and before each lent list may not
+ * be touched, lists that are only to be read cannot be written, and what each call wrote is looked at.
+ *
+ *     fuzz COUNT [SEED]    at least COUNT calls
+ */
+#include <inttypes.h>
+#include <stdio.h>
+#include <stdlib.h>
+#include <string.h>
+
+#include "calls.h"
+
+enum { KEPT = 64 };
+
+/* Trees that were read lately, and what stands there before. */
+static struct sheet kept[KEPT];
+static const struct sheet none = {.words = {1, 4, 0, 8, BERZHOTUN_NONE, 0, 0, 1}, .words_length = 8};
+
+static struct text input, print;
+
+static void copy_sheet(struct sheet *to, const struct sheet *from) {
+    to->words_length = from->words_length;
+    to->names_length = from->names_length;
+    memcpy(to->words, from->words, from->words_length * sizeof(uint64_t));
+    memcpy(to->names, from->names, from->names_length);
+}
+
+/* The tree as it is (half of the time), changed, spoilt, or no tree at all. */
+static void lend_like(int which, const struct sheet *tree) {
+    static struct sheet sheet;
+    size_t form = random_below(16);
+    if (form < 8) {
+        lend_sheet(which, tree);
+        return;
+    }
+    copy_sheet(&sheet, tree);
+    if (form < 12) {
+        vary(&sheet);
+    } else if (form < 15) {
+        damage(&sheet);
+    } else {
+        random_sheet(&sheet);
+    }
+    lend_sheet(which, &sheet);
+}
+
+/* Two trees, which are related more often than not. */
+static void lend_two(void) {
+    const struct sheet *first = &kept[random_below(KEPT)];
+    lend_like(0, first);
+    lend_like(1, random_below(3) == 0 ? &kept[random_below(KEPT)] : first);
+}
+
+/* A length a little or much too short, just enough, or to spare. */
+static size_t length_around(size_t needed) {
+    switch (random_below(16)) {
+    case 0:
+        return random_below(needed + 1);
+    case 1:
+        return needed == 0 ? 0 : needed - 1;
+    case 2:
+    case 3:
+        return needed + 1 + random_below(4);
+    default:
+        return needed;
+    }
+}
+
+static void read_into(enum function function, struct sheet *tree) {
+    size_t lent_words = length_around(BERZHOTUN_WORDS_FOR(input.length));
+    call_reader(function, lent_words, length_around(BERZHOTUN_NAMES_FOR(input.length)), tree);
+}
+
+/* Both readings; a tree that was read takes the place of an older one, and is a sheet that nothing refuses. */
+static void read_input(void) {
+    struct sheet *tree = &kept[random_below(KEPT)];
+    uint64_t length;
+    lend_text(&input);
+    read_into(FROM_START, tree);
+    read_into(FROM_STR, tree);
+    lend_sheet(0, tree);
+    if (call_length(&length) != 0) {
+        fail("refused what a reading wrote");
+    }
+}
+
+static void print_first(void) {
+    uint64_t length, refusal = call_length(&length), printed;
+    size_t room = length + random_below(3);
+    if (random_below(4) == 0) {
+        room = random_below(length + 1);
+    }
+    printed = call_print(room, &print);
+    if (printed != (refusal != 0 ? refusal : room < length ? 5 : 0)) {
+        fail("does not go with the printed length");
+    }
+    if (printed == 0 && print.length != (length < TEXT_ROOM ? length : TEXT_ROOM)) {
+        fail("wrote another length");
+    }
+}
+
+static void compare_both(void) {
+    uint64_t levels, box, all;
+    uint64_t refusal = call_pair(EQUIVALENT, &levels);
+    if (call_pair(EQUIVALENT_BOX, &box) != refusal || box != levels) {
+        fail("is not what equivalent_to says");
+    }
+    if (call_pair(EQ, &all) != refusal || all > levels) {
+        fail("does not go with equivalent_to");
+    }
+}
+
+static void round_of_calls(void) {
+    uint64_t answer;
+    random_text(&input);
+    read_input();
+    lend_two();
+    call_size();
+    print_first();
+    compare_both();
+    if (print.length > 0 && random_below(2) == 0) {
+        lend_text(&print);
+    }
+    call_matches(&answer);
+}
+
+static uint64_t calls_made(void) {
+    uint64_t sum = 0;
+    int function, number;
+    for (function = 0; function < FUNCTIONS; function++) {
+        for (number = 0; number < 16; number++) {
+            sum += counts[function][number];
+        }
+    }
+    return sum;
+}
+
+static void report(void) {
+    int function, number;
+    printf("calls by returned number (0 accepted, else the refusal)\n");
+    for (function = 0; function < FUNCTIONS; function++) {
+        printf("%-26s", function_names[function]);
+        for (number = 0; number < 16; number++) {
+            if (counts[function][number] != 0) {
+                printf("  %d: %" PRIu64, number, counts[function][number]);
+            }
+        }
+        if (yeses[function] != 0) {
+            printf("  yes: %" PRIu64, yeses[function]);
+        }
+        printf("\n");
+    }
+}
+
+int main(int count, char **arguments) {
+    uint64_t calls = count > 1 ? strtoull(arguments[1], NULL, 10) : 0;
+    size_t i;
+    if (count < 2 || count > 3 || calls == 0) {
+        fprintf(stderr, "usage: fuzz COUNT [SEED]\n");
+        return 2;
+    }
+    seed_random(count > 2 ? strtoull(arguments[2], NULL, 10) : 1);
+    calls_begin();
+    for (i = 0; i < KEPT; i++) {
+        kept[i] = none;
+    }
+    while (calls_made() < calls) {
+        for (i = 0; i < 1024; i++) {
+            round_of_calls();
+        }
+    }
+    report();
+    printf("%" PRIu64 " calls, no byte touched that was not lent, no contract broken\n", calls_made());
+    return 0;
+}

@@ -1,0 +1,275 @@
+/*
+ * Berzhotun: Objective-C type encodings read, compared, measured and printed.
+ *
+ * A proved port of the core of the Rust crate objc2-encode 4.1.0. `rt staticlib berzhotun`, at the
+ * repository's root, proves it and writes target/staticlib/libberzhotun.a, for x86-64.
+ *
+ *     cc -I include program.c target/staticlib/libberzhotun.a
+ *
+ * RETURNED NUMBER. Every function returns 0 if it accepts, and otherwise the number of the refusal
+ * (BERZHOTUN_TEXT_TOO_LONG and so on). Where several reasons hold, the one that each function
+ * names first is returned. No function fails in another way, whatever the lent lists contain.
+ *
+ * TEXT. Bytes, at most 2,000, without a final zero: any byte may stand in it. A place is a byte
+ * index into it, from 0.
+ *
+ * TREE. Two lists of the caller, called a sheet: words and name bytes.
+ *
+ *     words[0]  count of nodes, 1 to 2,001         words[2]  count of name bytes, 0 to 2,000
+ *     words[1]  4, where the nodes begin           words[3]  words used, 4 + 4 * count of nodes
+ *
+ * Then four words a node, parent first, children in order:
+ *
+ *     kind               BERZHOTUN_CHAR (0) to BERZHOTUN_NONE (31)
+ *     first number       bitfield with type: offset; array: length; struct, union: where its name
+ *                        begins in the name bytes; otherwise 0
+ *     second number      bitfields: bits, 0 to 255; struct, union: length of its name; otherwise 0
+ *     nodes in subtree   this node and all below it
+ *
+ * Bitfields with type, pointers, atomics and arrays have one child, structs and unions any count,
+ * all others none. Names follow each other in node order without gaps. A name is `?`, or one or
+ * more ASCII letters, digits and underscores. What stands in the lists beyond the words and name
+ * bytes used is not looked at. So `{R=i^v}` is the name byte `R` and the words
+ *
+ *     4 4 1 20,  29 0 1 4,  2 0 0 1,  26 0 0 2,  17 0 0 1
+ *
+ * LEVELS. Printing, measuring and comparing start at the top level. A pointer leads from top to
+ * within, and otherwise to bottom. An atomic leads to bottom. Arrays and bitfields keep the level.
+ * The fields of a struct or union are within. At bottom a struct or union has only its kind and
+ * name: its fields are neither printed nor compared, and its size is not known.
+ *
+ * WHAT THE CALLER MUST RESPECT. Nothing in C can test it, and the proof takes it as given:
+ *  - each pointer is valid for the length that goes with it (or for the count in brackets), aligned
+ *    for its type, and not NULL, even where the length is 0;
+ *  - a list that is written (words, names and values of a reading, out, answer) overlaps no other
+ *    list of the same call. Lists that are only read may: a tree can be compared with itself;
+ *  - no other thread writes to a lent list during the call, nor reads one that is written. Beyond
+ *    that any number of threads may call: the functions keep nothing from call to call;
+ *  - 512 KiB of stack are free. The functions call themselves once for each level of nesting, of
+ *    which there are at most 2,001, and allocate nothing.
+ */
+#ifndef BERZHOTUN_H
+#define BERZHOTUN_H
+
+#include <stddef.h>
+#include <stdint.h>
+
+#ifdef __cplusplus
+extern "C" {
+#endif
+
+/* The most bytes of a text, and the most nodes, words and name bytes of a sheet. */
+#define BERZHOTUN_MAX_TEXT 2000
+#define BERZHOTUN_MAX_NODES 2001
+#define BERZHOTUN_MAX_WORDS 8008
+#define BERZHOTUN_MAX_NAMES 2000
+
+/* The most bytes that any sheet prints: a name of 2,000, 1,999 bitfields with type, and b255. */
+#define BERZHOTUN_MAX_PRINT 49983
+
+/* The words and name bytes that reading a text of `text_len` bytes needs, and fills. */
+#define BERZHOTUN_WORDS_FOR(text_len) (4 + 4 * ((size_t)(text_len) + 1))
+#define BERZHOTUN_NAMES_FOR(text_len) ((size_t)(text_len))
+
+/* The kinds of nodes, each with its code in a text. */
+#define BERZHOTUN_CHAR 0u                 /* c */
+#define BERZHOTUN_SHORT 1u                /* s */
+#define BERZHOTUN_INT 2u                  /* i */
+#define BERZHOTUN_LONG 3u                 /* l */
+#define BERZHOTUN_LONG_LONG 4u            /* q */
+#define BERZHOTUN_UCHAR 5u                /* C */
+#define BERZHOTUN_USHORT 6u               /* S */
+#define BERZHOTUN_UINT 7u                 /* I */
+#define BERZHOTUN_ULONG 8u                /* L */
+#define BERZHOTUN_ULONG_LONG 9u           /* Q */
+#define BERZHOTUN_FLOAT 10u               /* f */
+#define BERZHOTUN_DOUBLE 11u              /* d */
+#define BERZHOTUN_LONG_DOUBLE 12u         /* D */
+#define BERZHOTUN_FLOAT_COMPLEX 13u       /* jf */
+#define BERZHOTUN_DOUBLE_COMPLEX 14u      /* jd */
+#define BERZHOTUN_LONG_DOUBLE_COMPLEX 15u /* jD */
+#define BERZHOTUN_BOOL 16u                /* B */
+#define BERZHOTUN_VOID 17u                /* v */
+#define BERZHOTUN_STRING 18u              /* * */
+#define BERZHOTUN_OBJECT 19u              /* @, and @"Name" when read */
+#define BERZHOTUN_BLOCK 20u               /* @? */
+#define BERZHOTUN_CLASS 21u               /* # */
+#define BERZHOTUN_SEL 22u                 /* : */
+#define BERZHOTUN_UNKNOWN 23u             /* ? */
+#define BERZHOTUN_BITFIELD 24u            /* b3: 3 bits */
+#define BERZHOTUN_BITFIELD_WITH_TYPE 25u  /* b16i3: offset 16, type i, 3 bits */
+#define BERZHOTUN_POINTER 26u             /* ^i */
+#define BERZHOTUN_ATOMIC 27u              /* Ai */
+#define BERZHOTUN_ARRAY 28u               /* [12i] */
+#define BERZHOTUN_STRUCT 29u              /* {Name=ii}, or {Name} */
+#define BERZHOTUN_UNION 30u               /* (Name=ii), or (Name) */
+#define BERZHOTUN_NONE 31u                /* no type at all: no byte */
+
+/* The refusals. Those up to 6 carry only their number; the others also a place, which is named. */
+
+/* The text has more than 2,000 bytes. */
+#define BERZHOTUN_TEXT_TOO_LONG 1u
+/* A lent list is shorter than reading needs. */
+#define BERZHOTUN_LIST_TOO_SHORT 2u
+/* The lists are no sheet as laid out above, or are shorter than its first four words say. */
+#define BERZHOTUN_BAD_SHEET 3u
+/* A struct or union, also one whose fields or itself no print shows, has a name that is none. */
+#define BERZHOTUN_BAD_NAME 4u
+/* The output is shorter than the printed length. */
+#define BERZHOTUN_OUTPUT_TOO_SHORT 5u
+/* The size is above 2^64 - 1. */
+#define BERZHOTUN_SIZE_TOO_LARGE 6u
+/* A needed byte is missing after `j`, `b`, `[` or inside quotes. Place: the text's end. */
+#define BERZHOTUN_UNEXPECTED_END 7u
+/* No type starts with the byte, or it closes where a type, or another closing byte, must stand.
+   Place: right behind the byte. Byte: that byte. */
+#define BERZHOTUN_UNKNOWN_BYTE 8u
+/* A byte other than f, d and D after `j`. Place: that of the byte. Byte: that byte. */
+#define BERZHOTUN_UNKNOWN_AFTER_COMPLEX 9u
+/* Another byte where a digit must stand. Place: that of the byte. */
+#define BERZHOTUN_EXPECTED_INTEGER 10u
+/* A number above 2^64 - 1, or bits of a bitfield above 255. Place: right behind its digits. */
+#define BERZHOTUN_INTEGER_TOO_LARGE 11u
+/* The text ends where an array's item must begin, or no `]` follows the item. Place: there. */
+#define BERZHOTUN_WRONG_END_ARRAY 12u
+/* The text ends inside a struct or union. Place: the text's end. Kind: 29 or 30. */
+#define BERZHOTUN_WRONG_END_CONTAINER 13u
+/* What stands before `=` or the closing byte of a struct or union is no name. Place: that of the
+   `=` or closing byte. Kind: 29 or 30. */
+#define BERZHOTUN_INVALID_IDENTIFIER 14u
+/* Bytes remain after the type. Place: where they begin. */
+#define BERZHOTUN_NOT_ALL_CONSUMED 15u
+
+/*
+ * Reads the whole text as one type. Leading bytes among r n N o O R V (const, in, inout and so on)
+ * are passed over. The empty text is the tree None.
+ *
+ * Reads   text[0 .. text_len].
+ * Writes  values[0 .. 3]; and, unless it refuses by 1 or 2, the first BERZHOTUN_WORDS_FOR(text_len)
+ *         words and the first BERZHOTUN_NAMES_FOR(text_len) name bytes, all of them: those that the
+ *         tree does not fill become 0. What lies beyond is left as it was.
+ * 0       the tree stands in words and names; values are 0 0 0.
+ * Refuses 1 if text_len is above 2,000; else 2 if words_len is below BERZHOTUN_WORDS_FOR(text_len)
+ *         or names_len below BERZHOTUN_NAMES_FOR(text_len): both leave words and names as they
+ *         were, and values are 0 0 0. Else 7 to 15, for the first reason that reading from left to
+ *         right meets: words and names become 0 as far as above, and values are the place, the byte
+ *         (refusals 8 and 9, otherwise 0) and the kind (refusals 13 and 14, otherwise 0).
+ */
+uint64_t berzhotun_from_str(const uint8_t *text, size_t text_len, uint64_t *words, size_t words_len,
+                            uint8_t *names, size_t names_len, uint64_t values[3]);
+
+/*
+ * Reads one type from the start of the text, as of a method's signature, and says where the rest
+ * begins. As berzhotun_from_str, but for this:
+ *
+ * 0       values are the place where the rest begins, 0 and 0.
+ * Refuses never by 15.
+ *
+ * Where reading would be refused by 8 because of a digit, it accepts instead, with the tree None
+ * and the place right behind that digit. So of `16@` the digit 1 is eaten, and of `{x=5c` all but
+ * `c`: pass over the numbers of a signature before you ask for the next type.
+ */
+uint64_t berzhotun_from_start_of_str(const uint8_t *text, size_t text_len, uint64_t *words,
+                                     size_t words_len, uint8_t *names, size_t names_len,
+                                     uint64_t values[3]);
+
+/*
+ * Compares two trees by levels. Object, Block and Class are equivalent to each other, every other
+ * kind to itself alone; bits, offsets, lengths and names must be equal. A struct or union without
+ * fields is equivalent to any of its kind and name. This is not transitive.
+ *
+ * Reads   both sheets, a and b, as far as their first four words say.
+ * Writes  answer[0].
+ * 0       answer[0] is 1 for yes and 0 for no.
+ * Refuses 3 if a is no sheet, then 3 if b is none, then 4 if a name of a, or one of b, is bad.
+ *         answer[0] is then 0.
+ */
+uint64_t berzhotun_equivalent_to(const uint64_t *a_words, size_t a_words_len,
+                                 const uint8_t *a_names, size_t a_names_len,
+                                 const uint64_t *b_words, size_t b_words_len,
+                                 const uint8_t *b_names, size_t b_names_len, uint64_t answer[1]);
+
+/*
+ * The same under the name that the crate has for a second tree that was read at run time. The
+ * contract is that of berzhotun_equivalent_to.
+ */
+uint64_t berzhotun_equivalent_to_box(const uint64_t *a_words, size_t a_words_len,
+                                     const uint8_t *a_names, size_t a_names_len,
+                                     const uint64_t *b_words, size_t b_words_len,
+                                     const uint8_t *b_names, size_t b_names_len,
+                                     uint64_t answer[1]);
+
+/*
+ * Compares two trees with all fields: as berzhotun_equivalent_to, but that every node counts as
+ * top, so that fields are compared behind any number of pointers and atomics too.
+ */
+uint64_t berzhotun_eq(const uint64_t *a_words, size_t a_words_len, const uint8_t *a_names,
+                      size_t a_names_len, const uint64_t *b_words, size_t b_words_len,
+                      const uint8_t *b_names, size_t b_names_len, uint64_t answer[1]);
+
+/*
+ * Compares a tree with a text by levels, without reading the text into a tree first. Leading bytes
+ * among r n N o O R V are passed over. It is not the comparison with the text's tree: the tree of
+ * `{R=i}` matches `{R=}` and not `{R}`, and that of `^^{R=i}` matches `^^{R}` and not `^^{R=i}`. An
+ * Object matches also a class name in quotes, a Block does not.
+ *
+ * Reads   the sheet as far as its first four words say, and text[0 .. text_len].
+ * Writes  answer[0].
+ * 0       answer[0] is 1 for yes and 0 for no. A text that cannot be read is a no, or is matched by
+ *         a tree that no text has; it is never refused.
+ * Refuses 1 if text_len is above 2,000, then 3 if the lists are no sheet, then 4 if a name is bad.
+ *         answer[0] is then 0.
+ */
+uint64_t berzhotun_equivalent_to_str(const uint64_t *words, size_t words_len, const uint8_t *names,
+                                     size_t names_len, const uint8_t *text, size_t text_len,
+                                     uint64_t answer[1]);
+
+/*
+ * Measures a tree in bytes, with the widths of 64-bit Apple ARM and without padding: char and bool
+ * 1; short 2; int and float 4; long, long long, double, long double, strings, objects, blocks,
+ * classes, selectors and pointers 8; a complex number twice its part; a bitfield its bits raised
+ * to a power of two, at least 8, divided by 8, or its type's size if that is larger; an atomic what
+ * it holds; an array its length times its item; a struct the sum of its fields; a union the largest
+ * of those that have a size. Void, Unknown, None, a struct with a field that has no size, and a
+ * union without a member that has one, have none.
+ *
+ * Reads   the sheet as far as its first four words say.
+ * Writes  answer[0 .. 2].
+ * 0       answer is 1 and the bytes, or 0 and 0 where the type has no size.
+ * Refuses 3 if the lists are no sheet, then 4 if a name is bad, then 6 if the size is above
+ *         2^64 - 1 (no size goes before too large, and 0 times too large is 0). answer is then 0 0.
+ */
+uint64_t berzhotun_size(const uint64_t *words, size_t words_len, const uint8_t *names,
+                        size_t names_len, uint64_t answer[2]);
+
+/*
+ * Counts the bytes that berzhotun_static_encoding_str_array would write.
+ *
+ * Reads   the sheet as far as its first four words say.
+ * Writes  answer[0].
+ * 0       answer[0] is the printed length.
+ * Refuses 3 if the lists are no sheet, then 4 if a name is bad. answer[0] is then 0.
+ */
+uint64_t berzhotun_static_encoding_str_len(const uint64_t *words, size_t words_len,
+                                           const uint8_t *names, size_t names_len,
+                                           uint64_t answer[1]);
+
+/*
+ * Prints a tree by levels: `{x}` is printed `{x=}`, and `^^{R=i}` is printed `^^{R}`. No zero byte
+ * is put behind the text.
+ *
+ * Reads   the sheet as far as its first four words say.
+ * Writes  answer[0]; and the first answer[0] bytes of out. What lies beyond is left as it was.
+ * 0       answer[0] is the printed length.
+ * Refuses 3 if the lists are no sheet, then 4 if a name is bad, then 5 if out_len is below the
+ *         printed length. answer[0] is then 0 and out is left as it was.
+ */
+uint64_t berzhotun_static_encoding_str_array(const uint64_t *words, size_t words_len,
+                                             const uint8_t *names, size_t names_len, uint8_t *out,
+                                             size_t out_len, uint64_t answer[1]);
+
+#ifdef __cplusplus
+}
+#endif
+
+#endif

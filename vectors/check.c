@@ -1,0 +1,118 @@
+/* Reads every text of the list, prints it again, measures it, and compares with what the list says. */
+#include <ctype.h>
+#include <inttypes.h>
+#include <stdio.h>
+#include <stdlib.h>
+#include <string.h>
+
+#include "berzhotun.h"
+
+#define LENT(tree) (tree).words, BERZHOTUN_MAX_WORDS, (tree).names, BERZHOTUN_MAX_NAMES
+
+static struct {
+    uint64_t words[BERZHOTUN_MAX_WORDS];
+    uint8_t names[BERZHOTUN_MAX_NAMES];
+} tree;
+
+/* A line of the list. */
+static struct {
+    char target[16], how[16], name[64], text[512], size[24], outcome[512];
+} row;
+
+static struct {
+    int rows, same, otherwise, refused, sizes, signatures, types, differences;
+} counts;
+
+static void differs(const char *what) {
+    printf("%s %s %s %s: %s\n", row.target, row.how, row.name, row.text, what);
+    counts.differences++;
+}
+
+/* Reads a type from the start of `text`; how many bytes it has, or 0 if it was refused. */
+static size_t read_start(const char *text) {
+    uint64_t values[3];
+    if (berzhotun_from_start_of_str((const uint8_t *)text, strlen(text), LENT(tree), values) != 0) {
+        return 0;
+    }
+    return values[0];
+}
+
+/* A method's signature: types, each with a number behind it. */
+static void check_signature(void) {
+    const char *rest = row.text;
+    int types = 0;
+    while (*rest != '\0') {
+        size_t length = read_start(rest);
+        if (length == 0) {
+            break;
+        }
+        types++;
+        for (rest += length; isdigit((unsigned char)*rest); rest++) {
+        }
+    }
+    counts.signatures++;
+    counts.types += types;
+    if (strcmp(row.outcome, "refused") == 0) {
+        counts.refused++;
+        if (*rest == '\0') {
+            differs("was not refused");
+        }
+    } else if (*rest != '\0' || types != atoi(row.outcome)) {
+        differs("has another count of types");
+    }
+}
+
+static void check_print(void) {
+    const char *expected = strcmp(row.outcome, "same") == 0 ? row.text : row.outcome;
+    char out[512];
+    uint64_t length[1];
+    *(expected == row.text ? &counts.same : &counts.otherwise) += 1;
+    if (berzhotun_static_encoding_str_array(LENT(tree), (uint8_t *)out, sizeof out, length) != 0 ||
+        length[0] != strlen(expected) || memcmp(out, expected, length[0]) != 0) {
+        differs("prints otherwise");
+    }
+}
+
+static void check_size(void) {
+    uint64_t size[2];
+    if (strcmp(row.size, "-") == 0) {
+        return;
+    }
+    counts.sizes++;
+    if (berzhotun_size(LENT(tree), size) != 0 || size[0] != 1 || size[1] != strtoull(row.size, NULL, 10)) {
+        differs("has another size");
+    }
+}
+
+static void check_type(void) {
+    uint64_t values[3];
+    uint64_t refusal = berzhotun_from_str((const uint8_t *)row.text, strlen(row.text), LENT(tree), values);
+    if (strcmp(row.outcome, "refused") == 0) {
+        counts.refused++;
+        if (refusal != BERZHOTUN_UNKNOWN_BYTE) {
+            differs("was not refused by 8");
+        }
+    } else if (refusal != 0) {
+        differs("was refused");
+    } else {
+        check_print();
+        check_size();
+    }
+}
+
+int main(void) {
+    while (scanf("%15s %15s %63s %511s %23s %511s", row.target, row.how, row.name, row.text, row.size,
+                 row.outcome) == 6) {
+        counts.rows++;
+        if (strcmp(row.how, "method") == 0) {
+            check_signature();
+        } else {
+            check_type();
+        }
+    }
+    printf("%d texts of real compilers: %d print as they were, %d print otherwise, as expected, %d refused,\n",
+           counts.rows, counts.same, counts.otherwise, counts.refused);
+    printf("%d sizes, %d signatures with %d types; %d differences\n", counts.sizes, counts.signatures, counts.types,
+           counts.differences);
+    return counts.differences != 0 || counts.rows == 0;
+}

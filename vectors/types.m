@@ -1,0 +1,380 @@
+/*
+ * Types of our own, for whose encodings compilers are asked (see README.md).
+ *
+ * Compiled for Apple's runtime, the texts stand in the constants text_NAME, with size_NAME and widths_NAME
+ * beside them, and in the class's own tables. Built for the GNU runtime, it is a program that prints them.
+ */
+
+/* What a type's size rests on, for the comparison with sizes of 64-bit Apple ARM without padding. */
+enum {
+    EVERYWHERE, /* widths that are the same on every target here */
+    WORDS,      /* also pointers or longs: 64-bit targets */
+    EXTENDED,   /* also long doubles: 64-bit ARM */
+    PADDED,     /* padding or shared bytes of bitfields, or no size at all: nowhere */
+    FOREIGN,    /* a type that the crate does not know: its text is refused */
+};
+
+@class Tariff;
+@protocol Rated;
+
+/* Codes. */
+typedef char Char;
+typedef signed char SignedChar;
+typedef short Short;
+typedef int Int;
+typedef long Long;
+typedef long long LongLong;
+typedef unsigned char UChar;
+typedef unsigned short UShort;
+typedef unsigned int UInt;
+typedef unsigned long ULong;
+typedef unsigned long long ULongLong;
+typedef float Float;
+typedef double Double;
+typedef long double LongDouble;
+typedef _Complex float FloatComplex;
+typedef _Complex double DoubleComplex;
+typedef _Complex long double LongDoubleComplex;
+typedef _Bool Boolean;
+typedef char *String;
+typedef const char *ConstString;
+typedef unsigned char *Octets;
+typedef id Object;
+typedef id<Rated> Conforming;
+typedef Tariff *Instance;
+typedef Class ClassObject;
+typedef SEL Selector;
+typedef enum { thirdParty, partCover, fullCover } Cover;
+
+/* Pointers. */
+typedef void *Anything;
+typedef const void *ConstAnything;
+typedef int *Ints;
+typedef const int *ConstInts;
+typedef int *const ConstPointer;
+typedef double ***Threefold;
+typedef const char **Strings;
+typedef const char *const *ConstStrings;
+typedef id *Objects;
+typedef SEL *Selectors;
+typedef struct Opaque *Handle;
+typedef struct Opaque **HandleOut;
+
+/* Functions and blocks. */
+typedef double (*Rule)(int, double);
+typedef void (*Hook)(void);
+typedef Rule (*RuleFinder)(const char *);
+#ifdef __BLOCKS__
+typedef double (^RuleBlock)(int);
+typedef void (^HookBlock)(void);
+#endif
+
+/* Arrays. */
+typedef int Band[12];
+typedef float *Curves[12];
+typedef short Grid[3][4];
+typedef char Code[1];
+typedef int Nothing[0];
+typedef double (*Row)[8];
+
+/* Records. */
+typedef struct Rate {
+    int band;
+    double factor;
+} Rate;
+typedef struct Point {
+    double x, y;
+} Point;
+typedef struct Box {
+    Point low, high;
+} Box;
+typedef struct {
+    int first, last;
+} Unnamed;
+typedef struct Outer {
+    struct {
+        int a;
+        struct {
+            float b, c;
+        } inner;
+    } middle;
+    int d;
+} Outer;
+typedef struct Empty {
+} Empty;
+typedef struct Link {
+    struct Link *next;
+    void *what;
+} Link;
+typedef struct Policy {
+    id holder;
+    const char *number;
+    Rate *rates;
+    Rate **tables;
+    SEL renew;
+    Class kind;
+} Policy;
+typedef struct Table {
+    Rate rates[4];
+    Point grid[2][2];
+} Table;
+typedef struct Flexible {
+    int count;
+    int items[];
+} Flexible;
+typedef struct Driver_2 {
+    Rule rule;
+    struct Opaque *state;
+    Link links[2];
+} Driver_2;
+typedef struct __attribute__((packed)) Packed {
+    char tag;
+    int value;
+    double factor;
+} Packed;
+
+/* Unions. */
+typedef union Number {
+    int i;
+    float f;
+} Number;
+typedef union Value {
+    double d;
+    void *p;
+    Rate *rate;
+} Value;
+typedef union {
+    unsigned char bytes[4];
+    unsigned int word;
+} UnnamedUnion;
+typedef struct Tagged {
+    unsigned long long tag;
+    Value value;
+} Tagged;
+typedef union Shapes {
+    Box box;
+    Point corners[2];
+} Shapes;
+
+/* Bitfields. */
+typedef struct Flags {
+    unsigned int active : 1;
+    unsigned int band : 4;
+    unsigned int : 0;
+    unsigned int rest : 20;
+} Flags;
+typedef struct Mixed {
+    int i;
+    float f[3];
+    int a : 3;
+    int b : 2;
+    char c;
+} Mixed;
+typedef struct Octet {
+    unsigned char all : 8;
+} Octet;
+typedef struct FullWord {
+    int all : 32;
+} FullWord;
+typedef struct LongBits {
+    unsigned long long low : 40;
+    unsigned long long high : 24;
+} LongBits;
+#ifdef __clang__ /* gcc cannot encode these */
+typedef struct BoolBits {
+    _Bool yes : 1;
+    _Bool no : 1;
+} BoolBits;
+#endif
+
+/* Pointers to records: one, two and three deep, and inside of records. */
+typedef Rate *RatePointer;
+typedef Rate **RatePointer2;
+typedef Rate ***RatePointer3;
+typedef const Rate *ConstRatePointer;
+typedef Box *BoxPointer;
+typedef Value *ValuePointer;
+typedef Value **ValuePointer2;
+typedef Table *TablePointer;
+typedef Flags *FlagsPointer;
+typedef Rate (*RateRow)[3];
+typedef Rate *RatePointers[3];
+typedef Rate **RatePointers2[3];
+
+/* Atomics, which gcc's Objective-C does not have. */
+#ifdef __clang__
+typedef _Atomic(int) AtomicInt;
+typedef _Atomic(void *) AtomicPointer;
+typedef _Atomic(Rate) AtomicRate;
+typedef _Atomic(int) *AtomicIntPointer;
+typedef _Atomic(Rate *) AtomicRatePointer;
+typedef struct Counter {
+    _Atomic(int) count;
+    _Atomic(unsigned int) limit;
+} Counter;
+#endif
+
+/* Types that the crate does not know. */
+#ifdef __SIZEOF_INT128__
+typedef __int128 Int128;
+typedef unsigned __int128 UInt128;
+#endif
+#ifndef __clang__
+typedef float Vector __attribute__((vector_size(16)));
+#endif
+
+#ifdef __BLOCKS__
+#define BLOCKS(X) X(RuleBlock, WORDS) X(HookBlock, WORDS)
+#else
+#define BLOCKS(X)
+#endif
+#ifdef __clang__
+#define CLANG_ONLY(X) \
+    X(AtomicInt, EVERYWHERE) X(AtomicPointer, WORDS) X(AtomicRate, PADDED) X(AtomicIntPointer, WORDS) \
+    X(AtomicRatePointer, WORDS) X(Counter, EVERYWHERE) X(BoolBits, PADDED)
+#define GCC_ONLY(X)
+#else
+#define CLANG_ONLY(X)
+#define GCC_ONLY(X) X(Vector, FOREIGN)
+#endif
+#ifdef __SIZEOF_INT128__
+#define LARGE(X) X(Int128, FOREIGN) X(UInt128, FOREIGN)
+#else
+#define LARGE(X)
+#endif
+
+/* Flat records are EVERYWHERE or WORDS. Rate has four bytes of padding. */
+#define TYPES(X) \
+    X(Char, EVERYWHERE) X(SignedChar, EVERYWHERE) X(Short, EVERYWHERE) X(Int, EVERYWHERE) X(Long, WORDS) \
+    X(LongLong, EVERYWHERE) X(UChar, EVERYWHERE) X(UShort, EVERYWHERE) X(UInt, EVERYWHERE) X(ULong, WORDS) \
+    X(ULongLong, EVERYWHERE) X(Float, EVERYWHERE) X(Double, EVERYWHERE) X(LongDouble, EXTENDED) \
+    X(FloatComplex, EVERYWHERE) X(DoubleComplex, EVERYWHERE) X(LongDoubleComplex, EXTENDED) \
+    X(Boolean, EVERYWHERE) X(String, WORDS) X(ConstString, WORDS) X(Octets, WORDS) X(Object, WORDS) \
+    X(Conforming, WORDS) X(Instance, WORDS) X(ClassObject, WORDS) X(Selector, WORDS) X(Cover, EVERYWHERE) \
+    X(Anything, WORDS) X(ConstAnything, WORDS) X(Ints, WORDS) X(ConstInts, WORDS) X(ConstPointer, WORDS) \
+    X(Threefold, WORDS) X(Strings, WORDS) X(ConstStrings, WORDS) X(Objects, WORDS) X(Selectors, WORDS) \
+    X(Handle, WORDS) X(HandleOut, WORDS) X(Rule, WORDS) X(Hook, WORDS) X(RuleFinder, WORDS) BLOCKS(X) \
+    X(Band, EVERYWHERE) X(Curves, WORDS) X(Grid, EVERYWHERE) X(Code, EVERYWHERE) X(Nothing, EVERYWHERE) \
+    X(Row, WORDS) X(Rate, PADDED) X(Point, EVERYWHERE) X(Box, EVERYWHERE) X(Unnamed, EVERYWHERE) \
+    X(Outer, EVERYWHERE) X(Empty, EVERYWHERE) X(Link, WORDS) X(Policy, WORDS) X(Table, PADDED) \
+    X(Flexible, EVERYWHERE) X(Driver_2, WORDS) X(Packed, EVERYWHERE) X(Number, EVERYWHERE) \
+    X(Value, WORDS) X(UnnamedUnion, EVERYWHERE) X(Tagged, WORDS) X(Shapes, EVERYWHERE) \
+    X(Flags, PADDED) X(Mixed, PADDED) X(Octet, EVERYWHERE) X(FullWord, EVERYWHERE) X(LongBits, PADDED) \
+    X(RatePointer, WORDS) X(RatePointer2, WORDS) X(RatePointer3, WORDS) \
+    X(ConstRatePointer, WORDS) X(BoxPointer, WORDS) X(ValuePointer, WORDS) X(ValuePointer2, WORDS) \
+    X(TablePointer, WORDS) X(FlagsPointer, WORDS) X(RateRow, WORDS) X(RatePointers, WORDS) \
+    X(RatePointers2, WORDS) CLANG_ONLY(X) LARGE(X) GCC_ONLY(X)
+
+/* A class: the encodings of its variables and the signatures of its methods. */
+@interface Tariff {
+  @public
+    Class isa;
+    int band;
+    double factor;
+    Tariff *parent;
+    id<Rated> rated;
+    id any;
+    const char *title;
+    Rate rate;
+    Rate *rates;
+    Rate **tables;
+    Unnamed range;
+    Value value;
+    SEL action;
+    Band bands;
+    Tariff *children[4];
+    Rule rule;
+    unsigned int active : 1;
+    unsigned int level : 7;
+#ifdef __BLOCKS__
+    RuleBlock block;
+#endif
+#ifdef __clang__
+    _Atomic(int) users;
+#endif
+}
+- (double)factorForBand:(int)number;
+- (double)premium:(double)base table:(const Rate *)table count:(int)count;
+- (Rate)rateAt:(unsigned long)index;
+- (Box)boundsOf:(Shapes)shapes in:(Box *)box;
+- (void)setParent:(Tariff *)other title:(const char *)text;
+- (oneway void)notify:(in const char *)text reply:(out int *)code with:(inout id *)object;
+- (bycopy id)copyOf:(byref id)object action:(SEL)selector kind:(Class)kind;
+- (_Bool)isValid;
+- (Rule)ruleNamed:(char *)name from:(Handle)handle;
+- (long double)sum:(float *)values of:(unsigned char)count flags:(Flags)flags;
++ (Tariff *)tariff;
+@end
+
+@implementation Tariff
+- (double)factorForBand:(int)number {
+    return number;
+}
+- (double)premium:(double)base table:(const Rate *)table count:(int)count {
+    return base * table[count - 1].factor;
+}
+- (Rate)rateAt:(unsigned long)index {
+    return rates[index];
+}
+- (Box)boundsOf:(Shapes)shapes in:(Box *)box {
+    return shapes.box;
+}
+- (void)setParent:(Tariff *)other title:(const char *)text {
+}
+- (oneway void)notify:(in const char *)text reply:(out int *)code with:(inout id *)object {
+}
+- (bycopy id)copyOf:(byref id)object action:(SEL)selector kind:(Class)kind {
+    return object;
+}
+- (_Bool)isValid {
+    return 1;
+}
+- (Rule)ruleNamed:(char *)name from:(Handle)handle {
+    return rule;
+}
+- (long double)sum:(float *)values of:(unsigned char)count flags:(Flags)flags {
+    return count;
+}
++ (Tariff *)tariff {
+    return 0;
+}
+@end
+
+#ifdef __clang__
+
+#define TEXT(name, widths) \
+    const char text_##name[] = @encode(name); \
+    const unsigned long long size_##name = sizeof(name); \
+    const int widths_##name = widths;
+TYPES(TEXT)
+
+#else
+
+#include <objc/runtime.h>
+#include <stdio.h>
+
+#define SHOW(name, widths) printf("encode %s %s %zu %d\n", #name, @encode(name), sizeof(name), widths);
+
+static void show_methods(Class class) {
+    unsigned int count, i;
+    Method *methods = class_copyMethodList(class, &count);
+    for (i = 0; i < count; i++) {
+        const char *name = sel_getName(method_getName(methods[i]));
+        printf("method %s %s - 0\n", name, method_getTypeEncoding(methods[i]));
+    }
+}
+
+int main(void) {
+    unsigned int count, i;
+    Class class = objc_getClass("Tariff");
+    Ivar *variables = class_copyIvarList(class, &count);
+    TYPES(SHOW)
+    for (i = 0; i < count; i++) {
+        printf("ivar %s %s - 0\n", ivar_getName(variables[i]), ivar_getTypeEncoding(variables[i]));
+    }
+    show_methods(class);
+    show_methods(object_getClass((id)class));
+    return 0;
+}
+
+#endif
