@@ -1,11 +1,11 @@
 -- Laws that lead from the pass over all nodes to the answer of the check.
-use Prim.Native.Nat.{ℕ, zero, suc, _+_, _-_, _*_, _≤_, _<_}
+use Prim.Native.Nat.{ℕ, zero, suc, _+_, _-_, _*_, _≤_}
 use native.Mathlib.Omega.{arith}
 use mathlib.Core.Path.{_≡_, refl, ap, ap₂, sym, _∙_}
 use mathlib.Core.List.{List}
-use mathlib.Core.Bool.{Bool, true, false, cond, _&&_, and-true, and-assoc}
+use mathlib.Core.Bool.{Bool, true, false, cond, _&&_, and-true, and-false, and-assoc}
 use borrow.Author.Tests.{eq-eqb, ne-eqb}
-use lib.Dec.{leb, eqb}
+use lib.Dec.{eqb}
 use lib.ListN.{length, getD, take, drop, length-drop}
 use lib.Seq.{take-all, getD-drop}
 use Rattle.kinds.specs.Sheet.{kindAt, firstAt, secondAt, countAt, labelAt, numbers, nextName, packed, nests, header, nodeWords, isSheet, trees, treeOf}
@@ -15,7 +15,6 @@ use Rattle.kinds.proofs.SheetLaws.{header-says, trees-step}
 use Rattle.kinds.proofs.NodeLaws.{no-trees, first-some, first-within, first-node, node-inner, other-trees}
 use Rattle.sheet.specs.Check.{checked}
 use Rattle.sheet.specs.Walked.{inOrder, walked, answer}
-use Rattle.sheet.specs.declared.Checked.{Checked}
 use Rattle.sheet.specs.declared.Checked.the-variants.{NotASheet, BadName, Good}
 use Rattle.sheet.specs.declared.Walked.{Walked}
 use Rattle.sheet.specs.declared.Walked.the-variants.{Broken, Next}
@@ -47,7 +46,7 @@ module _ (s w : List ℕ) where
   names-none zero at p = refl
   names-none (suc n) at p = absurd (omega arith)
 
-  -- the names of trees are those of their nodes, in any order
+  -- the names of trees are those of their nodes
   names-tree : (f n at : ℕ) → n ≤ f → TreesAt w at n → goodNames (trees s w n at) ≡ namesGood s w n at
   unfolding goodNames namesGood
   names-tree zero n at p h = ap goodNames (no-trees s w n at p) ∙ sym (names-none n at p)
@@ -95,11 +94,7 @@ module _ (words names : List ℕ) where
   module _ (h : header words (length names) ≡ true) where
     pub checked-count : (getD words 7 0 ≡ getD words 0 0 → ⊥) → checked words names ≡ NotASheet
     unfolding checked isSheet
-    checked-count c = rw (h, ne-eqb (countAt (nodeWords words) 0) (getD words 0 0) (λ e. c (sym (getD-drop 4 words 3 0) ∙ e))) (go (packed (nodeWords words) (getD words 0 0) 0 0 (getD words 2 0)))
-      where
-        go : (t : Bool) → cond (t && false) (cond (goodNames (treeOf words names)) Good BadName) NotASheet ≡ NotASheet
-        go true = refl
-        go false = refl
+    checked-count c = rw (h, ne-eqb (countAt (nodeWords words) 0) (getD words 0 0) (λ e. c (sym (getD-drop 4 words 3 0) ∙ e)), and-false (packed (nodeWords words) (getD words 0 0) 0 0 (getD words 2 0)))
 
     nodes-room : 0 + 4 * getD words 0 0 ≤ length (nodeWords words)
     nodes-room = let a = header-says words (length names) h .room in let b = length-drop 4 words in omega arith
@@ -115,11 +110,7 @@ module _ (words names : List ℕ) where
         go true n (Next q f) o =
             let r : TreesAt (nodeWords words) 0 (getD words 0 0) = record { room = nodes-room; nested = n } in
             rw (and-true (eqb q (getD words 2 0)), names-tree names (nodeWords words) (getD words 0 0) (getD words 0 0) 0 (omega arith) r, order-good names (nodeWords words) (getD words 2 0) (getD words 0 0) 0 0 true q f o)
-        go false n x o = none (endsAt (getD words 2 0) x)
-          where
-            none : (t : Bool) → cond (t && false) (cond (goodNames (trees names (nodeWords words) (getD words 0 0) 0)) Good BadName) NotASheet ≡ NotASheet
-            none true = refl
-            none false = refl
+        go false n x o = rw (and-false (endsAt (getD words 2 0) x))
 
     -- the lent part of the words is the node words, with the room that the pass asks for
     module _ (w : List ℕ) (part : w ≡ nodeWords words) where

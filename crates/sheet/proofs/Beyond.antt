@@ -1,19 +1,19 @@
 -- Words and name bytes beyond those used are not looked at (01, "The sheet").
 use Prim.Native.Nat.{ℕ, zero, suc, _+_, _-_, _*_, _≤_, _<_}
 use native.Mathlib.Omega.{arith}
-use mathlib.Core.Path.{_≡_, refl, ap, ap₂, sym, _∙_, subst}
+use mathlib.Core.Path.{_≡_, refl, ap, sym, _∙_}
 use mathlib.Core.List.{List, _++_}
 use mathlib.Core.Bool.{Bool, true, false, cond, _&&_}
-use borrow.Author.Tests.{le-leb, lt-leb, leb-true, leb-false, eqb-true}
+use borrow.Author.Tests.{le-leb, leb-true, eqb-true}
 use lib.Dec.{leb, eqb}
 use lib.ListN.{length, getD, take, drop, length-append, length-drop, List·getD-append}
 use lib.Seq.{take-append-le, drop-append-le}
-use Rattle.kinds.specs.Tree.{Label, Trees, node, struct, union}
-use Rattle.kinds.specs.Sheet.{kindAt, firstAt, secondAt, countAt, labelAt, label, isContainerKind, numbers, nextName, packed, below, arity, nest, nests, header, nodeWords, isSheet, read, trees, treeOf}
+use Rattle.kinds.specs.Tree.{node, struct, union}
+use Rattle.kinds.specs.Sheet.{kindAt, firstAt, secondAt, countAt, label, isContainerKind, numbers, nextName, packed, below, arity, nest, nests, header, nodeWords, isSheet, read, trees, treeOf}
 use Rattle.kinds.specs.Sound.{goodNames}
-use Rattle.kinds.specs.Walk.{KindAndName, KindsAndNames}
+use Rattle.kinds.specs.Walk.{KindsAndNames}
 use Rattle.kinds.proofs.SheetLaws.{Header, header-says}
-use Rattle.kinds.proofs.NodeLaws.{label-struct, label-union, walk-here, walk-inner, walk-rest, packed-walk, SheetSays, sheet-says}
+use Rattle.kinds.proofs.NodeLaws.{label-struct, label-union, walk-here, walk-inner, walk-rest, packed-walk, sheet-says}
 use Rattle.sheet.specs.Check.{checked}
 use Rattle.sheet.specs.declared.Checked.the-variants.{NotASheet, BadName, Good}
 

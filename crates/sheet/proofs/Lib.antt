@@ -1,4 +1,5 @@
 -- Laws of the check of a sheet.
+pub mod TestLaws
 pub mod WalkLaws
 pub mod AnswerLaws
 pub mod CheckLaws

@@ -2,20 +2,18 @@
 use Prim.Native.Nat.{ℕ, zero, suc, _+_, _-_, _*_, _≤_, _<_}
 use native.Mathlib.Omega.{arith}
 use native.Mathlib.Numerals.{sub-one}
-use mathlib.Core.Path.{_≡_, refl, ap, ap₂, sym, _∙_, subst}
+use mathlib.Core.Path.{_≡_, refl, ap, ap₂, sym, _∙_}
 use mathlib.Core.List.{List}
-use mathlib.Core.Bool.{Bool, true, false, cond, _&&_, and-true, and-assoc}
-use borrow.Author.Tests.{le-leb, lt-leb, leb-true, leb-false, eq-eqb, ne-eqb, eqb-true, eqb-false}
+use mathlib.Core.Bool.{Bool, true, false, cond, _&&_, and-true, and-false}
+use borrow.Author.Tests.{le-leb, lt-leb, leb-true, leb-false, ne-eqb, eqb-true}
 use lib.Dec.{leb, eqb}
-use lib.ListN.{length, getD, take, drop}
+use lib.ListN.{take, drop}
 use Rattle.kinds.specs.Name.{verifyName}
 use Rattle.kinds.specs.Parse.{maxU64, maxU8}
-use Rattle.kinds.specs.Tree.{Label, Trees, end, node}
-use Rattle.kinds.specs.Sheet.{kindAt, firstAt, secondAt, countAt, labelAt, label, isContainerKind, numbers, nextName, packed, arity, nests, trees}
-use Rattle.kinds.specs.Sound.{goodName, goodNames}
-use Rattle.kinds.specs.Walk.{TreesAt}
-use Rattle.kinds.proofs.SheetLaws.{both-left, both-right, arity-many, arity-one, arity-low, arity-high, arity-below, arity-next, nests-step, nests-zero, nests-over, nests-arity, nests-none, nextName-le, container-first, trees-step, packed-step}
-use Rattle.kinds.proofs.NodeLaws.{by-kind, label-none, no-trees, first-some, first-within, first-node, node-inner, other-trees}
+use Rattle.kinds.specs.Sheet.{kindAt, firstAt, secondAt, countAt, labelAt, label, isContainerKind, numbers, nextName, arity, nests}
+use Rattle.kinds.specs.Sound.{goodName}
+use Rattle.kinds.proofs.SheetLaws.{both-left, both-right, arity-many, arity-one, arity-low, arity-high, arity-below, arity-next, nests-step, nests-zero, nests-over, nests-arity, nests-none, nextName-le, container-first}
+use Rattle.kinds.proofs.NodeLaws.{by-kind, label-none}
 use Rattle.sheet.specs.Walked.{inOrder, walked, fits, nodeFits}
 use Rattle.sheet.specs.declared.Walked.{Walked}
 use Rattle.sheet.specs.declared.Walked.the-variants.{Broken, Next}
@@ -29,22 +27,12 @@ fits-leaf n k c d p h = go (eqb c 1) refl
   where
     go : (t : Bool) → eqb c 1 ≡ t → eqb c 1 ≡ (leb 1 c && (leb c n && arity k c d))
     go true e = let f = eqb-true c 1 e in rw (h, le-leb 1 c (omega arith), le-leb c n (omega arith))
-    go false e = rw (h, e) (sym (both-false (leb 1 c) (leb c n)))
-      where
-        both-false : (a b : Bool) → (a && (b && false)) ≡ false
-        both-false true true = refl
-        both-false true false = refl
-        both-false false b = refl
+    go false e = rw (h, e, and-false (leb c n), and-false (leb 1 c))
 
 module _ (n k c d : ℕ) (p : 25 ≤ k) (q : k ≤ 28) where
   pub fits-few : c < 2 → fits n k c d ≡ false
   unfolding fits
-  fits-few r = rw (arity-below k c d p q r) (none (leb 1 c) (leb c n))
-    where
-      none : (a b : Bool) → (a && (b && false)) ≡ false
-      none true true = refl
-      none true false = refl
-      none false b = refl
+  fits-few r = rw (arity-below k c d p q r, and-false (leb c n), and-false (leb 1 c))
 
   pub fits-over : 2 ≤ c → n < c → fits n k c d ≡ false
   unfolding fits
@@ -120,7 +108,7 @@ then-if true b Broken k = broken-if b
 then-if true b (Next q f) k = refl
 then-if false b x k = refl
 
--- A subtree that fits: what is known of its count.
+-- What is known of a subtree that fits.
 record Fit (w : List ℕ) (n at : ℕ) : Type 0 where
   some-node : 1 ≤ countAt w at
   within : countAt w at ≤ n

@@ -127,24 +127,20 @@ fn name_good(names: &[u8], from: u64, size: u64, good: bool) -> bool
     kinds::verify_name(&names[a..b])
 }
 
-// One pass over the `n` nodes from `from` on. Only a container makes a call: a kind with one child ends where its child ends,
+// One pass over the `left` nodes from `at` on. Only a container makes a call: a kind with one child ends where its child ends,
 // so that the child can stand as the next of the nodes.
 fn check_nodes(
     nodes: &[u64],
     names: &[u8],
-    from: usize,
-    n: usize,
-    start: u64,
+    mut at: usize,
+    mut left: usize,
+    mut name: u64,
     end: u64,
-    before: bool,
+    mut good: bool,
 ) -> Walked
-    requires { ⌜ (from + 4 * n ≤ length (now nodes)) × (start ≤ end) × (end ≤ length (now names)) ⌝ }
-    ensures { λ r. ⌜ r ≡ walked (now (names .entry)) (now (nodes .entry)) n from start end before ⌝ }
+    requires { ⌜ (at + 4 * left ≤ length (now nodes)) × (name ≤ end) × (end ≤ length (now names)) ⌝ }
+    ensures { λ r. ⌜ r ≡ walked (now (names .entry)) (now (nodes .entry)) left at name end good ⌝ }
 {
-    let mut at = from;
-    let mut left = n;
-    let mut name = start;
-    let mut good = before;
     while 0 < left {
         if !is_container(nodes[at]) {
             if !plain_ok(nodes, at, left) {
@@ -161,15 +157,11 @@ fn check_nodes(
         let count = nodes[at + 3] as usize;
         let named = name_good(names, name, size, good);
         let inner = check_nodes(nodes, names, at + 4, count - 1, name + size, end, named);
-        match inner {
-            Walked::Broken => {
-                return Walked::Broken;
-            }
-            Walked::Next(p, g) => {
-                name = p;
-                good = g;
-            }
-        }
+        let Walked::Next(p, g) = inner else {
+            return Walked::Broken;
+        };
+        name = p;
+        good = g;
         at = at + 4 * count;
         left = left - count;
     }

@@ -1,12 +1,15 @@
-use mathlib.Core.Path.{_≡_, refl, sym, _∙_}
-use borrow.Author.Needs.{needs}
-use borrow.Author.Tests.{not-true, not-false}
-use native.Mathlib.Omega.{arith}
-use Rattle.sheet.specs.Walked.{walked}
-use Rattle.sheet.proofs.WalkLaws.{container-says, walked-bad, walked-plain, walked-broken, walked-next, walked-none, walked-le}
 use Prim.Native.Nat.{ℕ, _+_, _*_, _≤_, _<_}
+use native.Mathlib.Omega.{arith}
+use mathlib.Core.Path.{_≡_, refl, sym, _∙_}
+use mathlib.Core.Bool.{true}
+use mathlib.Core.List.{List}
+use borrow.Author.Needs.{needs}
 use borrow.Fn.Kinds.{In}
 use borrow.Fn.PlainCycle.{Measures, is, falls, and}
+use Rattle.kinds.specs.Sheet.{kindAt, isContainerKind}
+use Rattle.sheet.specs.Walked.{walked, nodeFits}
+use Rattle.sheet.proofs.TestLaws.{passed, failed}
+use Rattle.sheet.proofs.WalkLaws.{Container, container-says, walked-bad, walked-plain, walked-broken, walked-next, walked-none, walked-le}
 use Rattle.sheet.proofs.check_nodes.Reads as check-nodes
 use Rattle.sheet.proofs.check_nodes.Kinds as check-nodes-kinds
 use Rattle.sheet.proofs.+check_nodes.Lts-check_nodes as check-nodes-lts
@@ -43,11 +46,30 @@ claims t = (
 )
 
 abbrev check-nodes-Inv-loop : check-nodes-lts.InvT-loop
-check-nodes-Inv-loop nodes names from n start end before at₀ left₀ name₀ good₀ at left name good =
-    (at + 4 * left ≡ from + 4 * n) × (left ≤ n) × (name ≤ end) × (walked names nodes n from start end before ≡ walked names nodes left at name end good)
+check-nodes-Inv-loop nodes names at₀ left₀ name₀ end good₀ at left name good =
+    (at + 4 * left ≡ at₀ + 4 * left₀) × (left ≤ left₀) × (name ≤ end) × (walked names nodes left₀ at₀ name₀ end good₀ ≡ walked names nodes left at name end good)
 
 abbrev check-nodes-μ-loop : check-nodes-lts.MeasureT-loop
-check-nodes-μ-loop nodes names from n start end before at₀ left₀ name₀ good₀ at left name good = left
+check-nodes-μ-loop nodes names at₀ left₀ name₀ end good₀ at left name good = left
+
+-- The place after the test of a container, and what is known there.
+abbrev Tested : ℕ → Type 0
+Tested t = check-nodes-lts.Else3 (claims t) (check-nodes-at t) check-nodes.Post check-nodes-Inv-loop check-nodes-μ-loop
+
+abbrev looped : (t : ℕ) → Tested t → check-nodes-lts.At-loop (claims t) (check-nodes-at t) check-nodes.Post check-nodes-Inv-loop check-nodes-μ-loop
+looped t b = b .before .before .before .before .before .before
+
+abbrev nodes : (t : ℕ) → Tested t → List ℕ
+nodes t b = looped t b .before .before .before .args .nodes .now
+
+kind : (t : ℕ) (b : Tested t) → isContainerKind (kindAt (nodes t b) (looped t b .loop .at)) ≡ true
+kind t b = passed (b .before .before .before .is-container .ensures) (b .before .before .if1 .left)
+
+fits : (t : ℕ) (b : Tested t) → nodeFits (nodes t b) (looped t b .loop .left) (looped t b .loop .at) (looped t b .loop .name) (looped t b .before .before .before .args .end) ≡ true
+fits t b = passed (b .before .container-ok .ensures) (b .if3 .left)
+
+container : (t : ℕ) (b : Tested t) → Container (nodes t b) (looped t b .loop .left) (looped t b .loop .at) (looped t b .loop .name) (looped t b .before .before .before .args .end)
+container t b = container-says _ _ _ _ _ (kind t b) (fits t b)
 
 check-nodes-loop-holds : (t : ℕ) → check-nodes-lts.Need-loop-holds (claims t) (check-nodes-at t) check-nodes.Post check-nodes-Inv-loop check-nodes-μ-loop
 check-nodes-loop-holds t c = (refl, omega arith, omega arith, refl)
@@ -55,29 +77,17 @@ check-nodes-loop-holds t c = (refl, omega arith, omega arith, refl)
 check-nodes-mul-is-container : (t : ℕ) → check-nodes-lts.Need-mul-is-container (claims t) (check-nodes-at t) check-nodes.Post check-nodes-Inv-loop check-nodes-μ-loop
 check-nodes-mul-is-container t c = search needs
 
-check-nodes-shared-slice-read-is-container :
-    (t : ℕ) → check-nodes-lts.Need-shared-slice-read-is-container (
-      is-container-reads.Asked,
-      is-container-reads.Learnt,
-      plain-ok-reads.Asked,
-      plain-ok-reads.Learnt,
-      container-ok-reads.Asked,
-      container-ok-reads.Learnt,
-      name-good-reads.Asked,
-      name-good-reads.Learnt,
-      check-nodes-below t,
-      check-nodes.Post,
-    ) (check-nodes-at t) check-nodes.Post check-nodes-Inv-loop check-nodes-μ-loop
+check-nodes-shared-slice-read-is-container : (t : ℕ) → check-nodes-lts.Need-shared-slice-read-is-container (claims t) (check-nodes-at t) check-nodes.Post check-nodes-Inv-loop check-nodes-μ-loop
 check-nodes-shared-slice-read-is-container t c = search needs
 
 check-nodes-is-container-requires : (t : ℕ) → check-nodes-lts.Need-is-container-requires (claims t) (check-nodes-at t) check-nodes.Post check-nodes-Inv-loop check-nodes-μ-loop
 check-nodes-is-container-requires t c κs = search needs
 
 check-nodes-plain-ok-requires : (t : ℕ) → check-nodes-lts.Need-plain-ok-requires (claims t) (check-nodes-at t) check-nodes.Post check-nodes-Inv-loop check-nodes-μ-loop
-check-nodes-plain-ok-requires t c κs = ((sym (c .before .is-container .ensures) ∙ not-true _ (c .if1 .taken)), omega arith, omega arith)
+check-nodes-plain-ok-requires t c κs = (failed (c .before .is-container .ensures) (c .if1 .taken), omega arith, omega arith)
 
 check-nodes-returns : (t : ℕ) → check-nodes-lts.Need-returns (claims t) (check-nodes-at t) check-nodes.Post check-nodes-Inv-loop check-nodes-μ-loop
-check-nodes-returns t c = sym (c .before .before .before .before .before .before .loop .inv .3 ∙ walked-bad _ _ _ _ _ _ _ (c .before .before .before .before .before .loop-test .taken) (sym (c .before .plain-ok .ensures _ _) ∙ not-true _ (c .if2 .taken)))
+check-nodes-returns t c = sym (c .before .before .before .before .before .before .loop .inv .3 ∙ walked-bad _ _ _ _ _ _ _ (c .before .before .before .before .before .loop-test .taken) (failed (c .before .plain-ok .ensures _ _) (c .if2 .taken)))
 
 check-nodes-add-at : (t : ℕ) → check-nodes-lts.Need-add-at (claims t) (check-nodes-at t) check-nodes.Post check-nodes-Inv-loop check-nodes-μ-loop
 check-nodes-add-at t c = search needs
@@ -89,13 +99,13 @@ check-nodes-loop-less : (t : ℕ) → check-nodes-lts.Need-loop-less (claims t) 
 check-nodes-loop-less t c = search needs
 
 check-nodes-loop-again : (t : ℕ) → check-nodes-lts.Need-loop-again (claims t) (check-nodes-at t) check-nodes.Post check-nodes-Inv-loop check-nodes-μ-loop
-check-nodes-loop-again t c = (omega arith, omega arith, omega arith, c .before .before .before .before .before .before .loop .inv .3 ∙ walked-plain _ _ _ _ _ _ _ (c .before .before .before .before .before .loop-test .taken) (sym (c .before .plain-ok .ensures _ _) ∙ not-false _ (c .if2 .left)) (sym (c .before .before .before .is-container .ensures) ∙ not-true _ (c .before .before .if1 .taken)))
+check-nodes-loop-again t c = (omega arith, omega arith, omega arith, c .before .before .before .before .before .before .loop .inv .3 ∙ walked-plain _ _ _ _ _ _ _ (c .before .before .before .before .before .loop-test .taken) (passed (c .before .plain-ok .ensures _ _) (c .if2 .left)) (failed (c .before .before .before .is-container .ensures) (c .before .before .if1 .taken)))
 
 check-nodes-container-ok-requires : (t : ℕ) → check-nodes-lts.Need-container-ok-requires (claims t) (check-nodes-at t) check-nodes.Post check-nodes-Inv-loop check-nodes-μ-loop
-check-nodes-container-ok-requires t c κs = ((sym (c .before .is-container .ensures) ∙ not-false _ (c .if1 .left)), omega arith, omega arith, omega arith)
+check-nodes-container-ok-requires t c κs = (passed (c .before .is-container .ensures) (c .if1 .left), omega arith, omega arith, omega arith)
 
 check-nodes-returns-2 : (t : ℕ) → check-nodes-lts.Need-returns-2 (claims t) (check-nodes-at t) check-nodes.Post check-nodes-Inv-loop check-nodes-μ-loop
-check-nodes-returns-2 t c = sym (c .before .before .before .before .before .before .loop .inv .3 ∙ walked-bad _ _ _ _ _ _ _ (c .before .before .before .before .before .loop-test .taken) (sym (c .before .container-ok .ensures) ∙ not-true _ (c .if3 .taken)))
+check-nodes-returns-2 t c = sym (c .before .before .before .before .before .before .loop .inv .3 ∙ walked-bad _ _ _ _ _ _ _ (c .before .before .before .before .before .loop-test .taken) (failed (c .before .container-ok .ensures) (c .if3 .taken)))
 
 check-nodes-add-size : (t : ℕ) → check-nodes-lts.Need-add-size (claims t) (check-nodes-at t) check-nodes.Post check-nodes-Inv-loop check-nodes-μ-loop
 check-nodes-add-size t c = search needs
@@ -116,43 +126,43 @@ check-nodes-shared-slice-read-count : (t : ℕ) → check-nodes-lts.Need-shared-
 check-nodes-shared-slice-read-count t c = search needs
 
 check-nodes-name-good-requires : (t : ℕ) → check-nodes-lts.Need-name-good-requires (claims t) (check-nodes-at t) check-nodes.Post check-nodes-Inv-loop check-nodes-μ-loop
-check-nodes-name-good-requires t c κs = let k = container-says _ _ _ _ _ (sym (c .before .before .before .before .before .is-container .ensures) ∙ not-false _ (c .before .before .before .before .if1 .left)) (sym (c .before .before .before .container-ok .ensures) ∙ not-false _ (c .before .before .if3 .left)) in omega arith
+check-nodes-name-good-requires t c κs = let k = container t (c .before .before) in omega arith
 
 check-nodes-add-check-nodes : (t : ℕ) → check-nodes-lts.Need-add-check-nodes (claims t) (check-nodes-at t) check-nodes.Post check-nodes-Inv-loop check-nodes-μ-loop
 check-nodes-add-check-nodes t c = search needs
 
 check-nodes-sub-check-nodes : (t : ℕ) → check-nodes-lts.Need-sub-check-nodes (claims t) (check-nodes-at t) check-nodes.Post check-nodes-Inv-loop check-nodes-μ-loop
-check-nodes-sub-check-nodes t c = let k = container-says _ _ _ _ _ (sym (c .before .before .before .before .before .before .is-container .ensures) ∙ not-false _ (c .before .before .before .before .before .if1 .left)) (sym (c .before .before .before .before .container-ok .ensures) ∙ not-false _ (c .before .before .before .if3 .left)) in omega arith
+check-nodes-sub-check-nodes t c = let k = container t (c .before .before .before) in omega arith
 
 check-nodes-add-check-nodes-2 : (t : ℕ) → check-nodes-lts.Need-add-check-nodes-2 (claims t) (check-nodes-at t) check-nodes.Post check-nodes-Inv-loop check-nodes-μ-loop
-check-nodes-add-check-nodes-2 t c = let k = container-says _ _ _ _ _ (sym (c .before .before .before .before .before .before .is-container .ensures) ∙ not-false _ (c .before .before .before .before .before .if1 .left)) (sym (c .before .before .before .before .container-ok .ensures) ∙ not-false _ (c .before .before .before .if3 .left)) in record { fits = omega arith }
+check-nodes-add-check-nodes-2 t c = let k = container t (c .before .before .before) in record { fits = omega arith }
 
 check-nodes-check-nodes-requires : (t : ℕ) → check-nodes-lts.Need-check-nodes-requires (claims t) (check-nodes-at t) check-nodes.Post check-nodes-Inv-loop check-nodes-μ-loop
-check-nodes-check-nodes-requires t c κs = let k = container-says _ _ _ _ _ (sym (c .before .before .before .before .before .before .is-container .ensures) ∙ not-false _ (c .before .before .before .before .before .if1 .left)) (sym (c .before .before .before .before .container-ok .ensures) ∙ not-false _ (c .before .before .before .if3 .left)) in (omega arith, (omega arith, omega arith, omega arith))
+check-nodes-check-nodes-requires t c κs = let k = container t (c .before .before .before) in (omega arith, (omega arith, omega arith, omega arith))
+
+check-nodes-enum-known-inner : (t : ℕ) → check-nodes-lts.Need-enum-known-inner (claims t) (check-nodes-at t) check-nodes.Post check-nodes-Inv-loop check-nodes-μ-loop
+check-nodes-enum-known-inner t c = search needs
 
 check-nodes-enum-told : (t : ℕ) → check-nodes-lts.Need-enum-told (claims t) (check-nodes-at t) check-nodes.Post check-nodes-Inv-loop check-nodes-μ-loop
 check-nodes-enum-told t c = search needs
 
 check-nodes-returns-3 : (t : ℕ) → check-nodes-lts.Need-returns-3 (claims t) (check-nodes-at t) check-nodes.Post check-nodes-Inv-loop check-nodes-μ-loop
-check-nodes-returns-3 t c = sym (c .before .before .before .before .before .before .before .before .before .before .before .before .loop .inv .3 ∙ walked-broken _ _ _ _ _ _ _ (c .before .before .before .before .before .before .before .before .before .before .before .loop-test .taken) (sym (c .before .before .before .before .before .before .before .container-ok .ensures) ∙ not-false _ (c .before .before .before .before .before .before .if3 .left)) (sym (c .before .before .before .before .before .before .before .before .before .is-container .ensures) ∙ not-false _ (c .before .before .before .before .before .before .before .before .if1 .left)) _ (c .before .before .before .name-good .ensures) _ (c .before .before .check-nodes .ensures) (c .enum-told .given .1))
-
-check-nodes-enum-known-inner : (t : ℕ) → check-nodes-lts.Need-enum-known-inner (claims t) (check-nodes-at t) check-nodes.Post check-nodes-Inv-loop check-nodes-μ-loop
-check-nodes-enum-known-inner t c = search needs
+check-nodes-returns-3 t c = let b = c .before .before .before .before .before .before in sym (looped t b .loop .inv .3 ∙ walked-broken _ _ _ _ _ _ _ (b .before .before .before .before .before .loop-test .taken) (fits t b) (kind t b) _ (c .before .before .before .name-good .ensures) _ (c .before .before .check-nodes .ensures) (c .enum-told .given .1))
 
 check-nodes-mul-at : (t : ℕ) → check-nodes-lts.Need-mul-at (claims t) (check-nodes-at t) check-nodes.Post check-nodes-Inv-loop check-nodes-μ-loop
-check-nodes-mul-at t c = let k = container-says _ _ _ _ _ (sym (c .before .before .before .before .before .before .before .before .before .before .is-container .ensures) ∙ not-false _ (c .before .before .before .before .before .before .before .before .before .if1 .left)) (sym (c .before .before .before .before .before .before .before .before .container-ok .ensures) ∙ not-false _ (c .before .before .before .before .before .before .before .if3 .left)) in search needs
+check-nodes-mul-at t c = let k = container t (c .before .before .before .before .before .before .before) in search needs
 
 check-nodes-add-at-2 : (t : ℕ) → check-nodes-lts.Need-add-at-2 (claims t) (check-nodes-at t) check-nodes.Post check-nodes-Inv-loop check-nodes-μ-loop
-check-nodes-add-at-2 t c = let k = container-says _ _ _ _ _ (sym (c .before .before .before .before .before .before .before .before .before .before .is-container .ensures) ∙ not-false _ (c .before .before .before .before .before .before .before .before .before .if1 .left)) (sym (c .before .before .before .before .before .before .before .before .container-ok .ensures) ∙ not-false _ (c .before .before .before .before .before .before .before .if3 .left)) in search needs
+check-nodes-add-at-2 t c = let k = container t (c .before .before .before .before .before .before .before) in search needs
 
 check-nodes-sub-left-2 : (t : ℕ) → check-nodes-lts.Need-sub-left-2 (claims t) (check-nodes-at t) check-nodes.Post check-nodes-Inv-loop check-nodes-μ-loop
-check-nodes-sub-left-2 t c = let k = container-says _ _ _ _ _ (sym (c .before .before .before .before .before .before .before .before .before .before .is-container .ensures) ∙ not-false _ (c .before .before .before .before .before .before .before .before .before .if1 .left)) (sym (c .before .before .before .before .before .before .before .before .container-ok .ensures) ∙ not-false _ (c .before .before .before .before .before .before .before .if3 .left)) in omega arith
+check-nodes-sub-left-2 t c = let k = container t (c .before .before .before .before .before .before .before) in omega arith
 
 check-nodes-loop-less-2 : (t : ℕ) → check-nodes-lts.Need-loop-less-2 (claims t) (check-nodes-at t) check-nodes.Post check-nodes-Inv-loop check-nodes-μ-loop
-check-nodes-loop-less-2 t c = let k = container-says _ _ _ _ _ (sym (c .before .before .before .before .before .before .before .before .before .before .is-container .ensures) ∙ not-false _ (c .before .before .before .before .before .before .before .before .before .if1 .left)) (sym (c .before .before .before .before .before .before .before .before .container-ok .ensures) ∙ not-false _ (c .before .before .before .before .before .before .before .if3 .left)) in omega arith
+check-nodes-loop-less-2 t c = let k = container t (c .before .before .before .before .before .before .before) in omega arith
 
 check-nodes-loop-again-2 : (t : ℕ) → check-nodes-lts.Need-loop-again-2 (claims t) (check-nodes-at t) check-nodes.Post check-nodes-Inv-loop check-nodes-μ-loop
-check-nodes-loop-again-2 t c = let k = container-says _ _ _ _ _ (sym (c .before .before .before .before .before .before .before .before .before .before .is-container .ensures) ∙ not-false _ (c .before .before .before .before .before .before .before .before .before .if1 .left)) (sym (c .before .before .before .before .before .before .before .before .container-ok .ensures) ∙ not-false _ (c .before .before .before .before .before .before .before .if3 .left)) in (omega arith, omega arith, walked-le _ _ _ _ _ _ _ _ _ (k .name-fits) (sym (c .before .inner .given .1) ∙ c .before .before .before .check-nodes .ensures), c .before .before .before .before .before .before .before .before .before .before .before .before .before .loop .inv .3 ∙ walked-next _ _ _ _ _ _ _ (c .before .before .before .before .before .before .before .before .before .before .before .before .loop-test .taken) (sym (c .before .before .before .before .before .before .before .before .container-ok .ensures) ∙ not-false _ (c .before .before .before .before .before .before .before .if3 .left)) (sym (c .before .before .before .before .before .before .before .before .before .before .is-container .ensures) ∙ not-false _ (c .before .before .before .before .before .before .before .before .before .if1 .left)) _ (c .before .before .before .before .name-good .ensures) _ (c .before .before .before .check-nodes .ensures) _ _ (c .before .inner .given .1))
+check-nodes-loop-again-2 t c = let b = c .before .before .before .before .before .before .before in let k = container t b in (omega arith, omega arith, walked-le _ _ _ _ _ _ _ _ _ (k .name-fits) (sym (c .before .inner .given .1) ∙ c .before .before .before .check-nodes .ensures), looped t b .loop .inv .3 ∙ walked-next _ _ _ _ _ _ _ (b .before .before .before .before .before .loop-test .taken) (fits t b) (kind t b) _ (c .before .before .before .before .name-good .ensures) _ (c .before .before .before .check-nodes .ensures) _ _ (c .before .inner .given .1))
 
 check-nodes-returns-4 : (t : ℕ) → check-nodes-lts.Need-returns-4 (claims t) (check-nodes-at t) check-nodes.Post check-nodes-Inv-loop check-nodes-μ-loop
 check-nodes-returns-4 t c = sym (c .before .loop .inv .3 ∙ walked-none _ _ _ _ _ _ _ (c .loop-test .left))
@@ -186,9 +196,9 @@ pub +check-nodes-spec : {M : Type 1} → statement M
     (check-nodes-sub-check-nodes t)
     (check-nodes-add-check-nodes-2 t)
     (check-nodes-check-nodes-requires t)
+    (check-nodes-enum-known-inner t)
     (check-nodes-enum-told t)
     (check-nodes-returns-3 t)
-    (check-nodes-enum-known-inner t)
     (check-nodes-mul-at t)
     (check-nodes-add-at-2 t)
     (check-nodes-sub-left-2 t)

@@ -3,8 +3,6 @@ use Rattle.sheet.specs.Walked.{answer}
 use borrow.Author.Needs.{needs}
 use Rattle.sheet.proofs.answer_of.Statement.{statement}
 use Rattle.sheet.proofs.answer_of.Tie as tie
-use Rattle.sheet.proofs.answer_of.Reads as reads
-use Rattle.sheet.proofs.answer_of.Lts as lts
 
 enum-told : tie.Need-enum-told
 enum-told c = search needs

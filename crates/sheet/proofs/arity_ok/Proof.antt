@@ -4,8 +4,6 @@ use Rattle.sheet.proofs.WalkLaws.{fits-leaf, fits-few, fits-over, fits-
 use borrow.Author.Needs.{needs}
 use Rattle.sheet.proofs.arity_ok.Statement.{statement}
 use Rattle.sheet.proofs.arity_ok.Tie as tie
-use Rattle.sheet.proofs.arity_ok.Reads as reads
-use Rattle.sheet.proofs.arity_ok.Lts as lts
 
 returns : tie.Need-returns
 returns c = fits-leaf _ _ _ _ (c .before .pre .1) (arity-low _ _ _ (c .if1 .taken))

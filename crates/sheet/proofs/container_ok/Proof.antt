@@ -1,12 +1,10 @@
 use mathlib.Core.Path.{sym, _∙_}
-use borrow.Author.Tests.{le-leb, lt-leb, not-true, not-false}
+use borrow.Author.Tests.{le-leb, lt-leb}
+use Rattle.sheet.proofs.TestLaws.{passed, failed}
 use Rattle.sheet.proofs.WalkLaws.{node-container}
 use borrow.Author.Needs.{needs}
 use Rattle.sheet.proofs.container_ok.Statement.{statement}
 use Rattle.sheet.proofs.container_ok.Tie as tie
-use Rattle.sheet.proofs.container_ok.Reads as reads
-use Rattle.sheet.proofs.container_ok.Lts as lts
-use Rattle.sheet.proofs.name_ok.Reads as name-ok-reads
 
 add-name-ok : tie.Need-add-name-ok
 add-name-ok c = search needs
@@ -30,7 +28,7 @@ name-ok-requires : tie.Need-name-ok-requires
 name-ok-requires c κs = search needs
 
 returns : tie.Need-returns
-returns c = sym (node-container _ _ _ _ _ (c .before .before .before .before .before .pre .0) ∙ rw (sym (c .before .name-ok .ensures) ∙ not-true _ (c .if1 .taken)))
+returns c = sym (node-container _ _ _ _ _ (c .before .before .before .before .before .pre .0) ∙ rw (failed (c .before .name-ok .ensures) (c .if1 .taken)))
 
 add-count : tie.Need-add-count
 add-count c = search needs
@@ -42,10 +40,10 @@ shared-slice-read-count : tie.Need-shared-slice-read-count
 shared-slice-read-count c = search needs
 
 returns-2 : tie.Need-returns-2
-returns-2 c = sym (node-container _ _ _ _ _ (c .before .before .before .before .before .before .before .pre .0) ∙ rw (sym (c .before .before .before .name-ok .ensures) ∙ not-false _ (c .before .before .if1 .left), lt-leb _ _ (c .if2 .taken)))
+returns-2 c = sym (node-container _ _ _ _ _ (c .before .before .before .before .before .before .before .pre .0) ∙ rw (passed (c .before .before .before .name-ok .ensures) (c .before .before .if1 .left), lt-leb _ _ (c .if2 .taken)))
 
 returns-3 : tie.Need-returns-3
-returns-3 c = sym (node-container _ _ _ _ _ (c .before .before .before .before .before .before .before .pre .0) ∙ rw (sym (c .before .before .before .name-ok .ensures) ∙ not-false _ (c .before .before .if1 .left), le-leb _ _ (c .if2 .left)))
+returns-3 c = sym (node-container _ _ _ _ _ (c .before .before .before .before .before .before .before .pre .0) ∙ rw (passed (c .before .before .before .name-ok .ensures) (c .before .before .if1 .left), le-leb _ _ (c .if2 .left)))
 
 pub container-ok-spec : {M : Type 1} → statement M
 container-ok-spec =

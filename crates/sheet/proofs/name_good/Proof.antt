@@ -7,9 +7,6 @@ use Rattle.kinds.specs.Name.{verifyName}
 use borrow.Author.Needs.{needs}
 use Rattle.sheet.proofs.name_good.Statement.{statement}
 use Rattle.sheet.proofs.name_good.Tie as tie
-use Rattle.sheet.proofs.name_good.Reads as reads
-use Rattle.sheet.proofs.name_good.Lts as lts
-use Rattle.kinds.proofs.verify_name.Reads as verify-name-reads
 
 returns : tie.Need-returns
 returns c = rw (not-true (c .before .before .args .good) (c .if1 .taken))

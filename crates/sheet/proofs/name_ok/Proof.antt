@@ -5,8 +5,6 @@ use Rattle.kinds.proofs.SheetLaws.{leb-same}
 use borrow.Author.Needs.{needs}
 use Rattle.sheet.proofs.name_ok.Statement.{statement}
 use Rattle.sheet.proofs.name_ok.Tie as tie
-use Rattle.sheet.proofs.name_ok.Reads as reads
-use Rattle.sheet.proofs.name_ok.Lts as lts
 
 returns : tie.Need-returns
 returns c = rw (ne-eqb _ _ (c .if1 .taken))

@@ -5,8 +5,6 @@ use Rattle.kinds.proofs.SheetLaws.{numbers-first, numbers-bits, numbers-rest}
 use Rattle.sheet.proofs.WalkLaws.{numbers-typed, numbers-array}
 use Rattle.sheet.proofs.numbers_ok.Statement.{statement}
 use Rattle.sheet.proofs.numbers_ok.Tie as tie
-use Rattle.sheet.proofs.numbers_ok.Reads as reads
-use Rattle.sheet.proofs.numbers_ok.Lts as lts
 
 returns : tie.Need-returns
 returns c = λ p e. sym (numbers-typed _ _ _ p e (c .if1 .taken) (omega arith))

@@ -1,13 +1,8 @@
-use mathlib.Core.Path.{sym, _∙_}
-use borrow.Author.Tests.{not-true, not-false}
 use Rattle.sheet.specs.Walked.{nodeFits}
+use Rattle.sheet.proofs.TestLaws.{passed, failed}
 use borrow.Author.Needs.{needs}
 use Rattle.sheet.proofs.plain_ok.Statement.{statement}
 use Rattle.sheet.proofs.plain_ok.Tie as tie
-use Rattle.sheet.proofs.plain_ok.Reads as reads
-use Rattle.sheet.proofs.plain_ok.Lts as lts
-use Rattle.sheet.proofs.arity_ok.Reads as arity-ok-reads
-use Rattle.sheet.proofs.numbers_ok.Reads as numbers-ok-reads
 
 mul-kind : tie.Need-mul-kind
 mul-kind c = search needs
@@ -38,7 +33,7 @@ numbers-ok-requires c κs = search needs
 
 returns : tie.Need-returns
 unfolding nodeFits
-returns c = λ p e. rw (sym (c .before .numbers-ok .ensures p e) ∙ not-true _ (c .if1 .taken))
+returns c = λ p e. rw (failed (c .before .numbers-ok .ensures p e) (c .if1 .taken))
 
 add-arity-ok : tie.Need-add-arity-ok
 add-arity-ok c = search needs
@@ -54,7 +49,7 @@ arity-ok-requires c κs = search needs
 
 returns-2 : tie.Need-returns-2
 unfolding nodeFits
-returns-2 c = λ p e. rw (sym (c .before .before .before .numbers-ok .ensures p e) ∙ not-false _ (c .before .before .if1 .left)) (c .arity-ok .ensures)
+returns-2 c = λ p e. rw (passed (c .before .before .before .numbers-ok .ensures p e) (c .before .before .if1 .left)) (c .arity-ok .ensures)
 
 pub plain-ok-spec : {M : Type 1} → statement M
 plain-ok-spec =
