@@ -4,5 +4,6 @@ pub mod NumberLaws
 pub mod OutcomeLaws
 pub mod PrintLaws
 pub mod PartLaws
+pub mod PassLaws
 pub mod TurnLaws
 pub mod SheetTextLaws

@@ -108,3 +108,18 @@ module _ {before : List ℕ} {start : ℕ} {all out : List ℕ} {at : ℕ} where
 -- two pieces, one after the other
 pub wrote-append : {out mid after : List ℕ} {at m next : ℕ} (xs ys : List ℕ) → at + length (xs ++ ys) ≤ length out → Wrote out at xs mid m → Wrote mid m ys after next → Wrote out at (xs ++ ys) after next
 wrote-append {out} {mid} {after} {at} {m} {next} xs ys p v w = last-write ys (then-write xs ys (to-write out at (xs ++ ys) p) v) w
+
+-- three pieces
+module _ {out : List ℕ} {at : ℕ} (xs ys zs : List ℕ) (p : at + length (xs ++ (ys ++ zs)) ≤ length out) {out₁ : List ℕ} {at₁ : ℕ} (x : Wrote out at xs out₁ at₁) where
+  after-first : ToWrite out at (xs ++ (ys ++ zs)) out₁ at₁ (ys ++ zs)
+  after-first = then-write xs (ys ++ zs) (to-write out at (xs ++ (ys ++ zs)) p) x
+
+  pub three-second : at₁ + length ys ≤ length out₁
+  three-second = room-for ys zs after-first
+
+  module _ {out₂ : List ℕ} {at₂ : ℕ} (y : Wrote out₁ at₁ ys out₂ at₂) where
+    pub three-third : at₂ + length zs ≤ length out₂
+    three-third = then-write ys zs after-first y .room
+
+    pub three-written : {after : List ℕ} {next : ℕ} → Wrote out₂ at₂ zs after next → Wrote out at (xs ++ (ys ++ zs)) after next
+    three-written z = last-write zs (then-write ys zs after-first y) z

@@ -2,21 +2,22 @@
 use Prim.Native.Nat.{ℕ, _+_, _-_, _≤_, _<_}
 use native.Mathlib.Omega.{arith}
 use mathlib.Core.Path.{_≡_, refl, ap, ap₂, sym, _∙_}
-use mathlib.Core.Bool.{Bool, true, false, false≢true}
+use mathlib.Core.Bool.{Bool, true, false, cond, false≢true}
 use mathlib.Core.List.{List, [], _∷_, _++_}
-use borrow.Author.Tests.{le-leb, lt-leb, ne-eqb}
+use borrow.Author.Tests.{le-leb, lt-leb, lt-ltb, le-ltb, eq-eqb, ne-eqb, eqb-true}
+use lib.Dec.{eqb, ltb}
 use lib.ListN.{length, take, drop, length-append, length-drop}
 use lib.Seq.{length-take-le}
 use Rattle.kinds.specs.Container.{startByte, endByte}
 use Rattle.kinds.specs.Level.{containerIncludeFields}
-use Rattle.kinds.specs.Primitive.{code, codeBytes}
+use Rattle.kinds.specs.Primitive.{codes, code}
 use Rattle.kinds.specs.Print.{decimal, fields}
 use Rattle.kinds.specs.Sheet.{isContainerKind}
 use Rattle.kinds.specs.declared.ContainerKind.{ContainerKind}
-use Rattle.kinds.specs.declared.Fields.{Fields}
 use Rattle.kinds.specs.declared.Fields.the-variants.{Included, Dropped}
 use Rattle.kinds.specs.declared.NestingLevel.{NestingLevel}
 use Rattle.kinds.specs.declared.NestingLevel.the-variants.{Top, Within, Bottom}
+use Rattle.kinds.proofs.TableLaws.{everyBelow, passBelow}
 use Rattle.static_str.specs.Parts.{containerOf, opening, closing}
 
 -- `=` stands where fields are included
@@ -31,6 +32,38 @@ unfolding fields
 fields-hidden Top e = let z : _≡_ {A = ℕ} 0 1 = cc in absurd (omega arith)
 fields-hidden Within e = let z : _≡_ {A = ℕ} 0 1 = cc in absurd (omega arith)
 fields-hidden Bottom e = refl
+
+-- the length of each code, by one computed test over the table
+codeLength : ℕ → ℕ
+codeLength k = cond (ltb k 13) 1 (cond (ltb k 16) 2 (cond (eqb k 20) 2 1))
+
+right : ℕ → Bool
+right k = eqb (length (code k)) (codeLength k)
+
+all-right : everyBelow right 24 ≡ true
+unfolding everyBelow right codeLength code codes
+all-right = refl
+
+code-length : (k : ℕ) → k < 24 → codeLength k ≡ length (code k)
+unfolding right
+code-length k h = sym (eqb-true (length (code k)) (codeLength k) (passBelow right 24 all-right k h))
+
+module _ (k : ℕ) (h : k < 24) where
+  pub code-simple : k < 13 → 1 ≡ length (code k)
+  unfolding codeLength
+  code-simple p = rw (lt-ltb k 13 p) at (code-length k h)
+
+  pub code-complex : 13 ≤ k → k < 16 → 2 ≡ length (code k)
+  unfolding codeLength
+  code-complex p q = rw (le-ltb k 13 p, lt-ltb k 16 q) at (code-length k h)
+
+  pub code-block : k ≡ 20 → 2 ≡ length (code k)
+  unfolding codeLength
+  code-block p = rw (le-ltb k 13 (omega arith), le-ltb k 16 (omega arith), eq-eqb k 20 p) at (code-length k h)
+
+  pub code-other : 16 ≤ k → (k ≡ 20 → ⊥) → 1 ≡ length (code k)
+  unfolding codeLength
+  code-other p q = rw (le-ltb k 13 (omega arith), le-ltb k 16 p, ne-eqb k 20 q) at (code-length k h)
 
 low-no-container : (k : ℕ) → k < 29 → isContainerKind k ≡ false
 low-no-container k p = rw (ne-eqb k 29 (λ d. omega arith), ne-eqb k 30 (λ d. omega arith))

@@ -10,9 +10,9 @@ use lib.ListN.{length, take, drop, length-append}
 use Rattle.kinds.specs.Level.{indirection, containerIncludeFields, showsFields}
 use Rattle.kinds.specs.Primitive.{code}
 use Rattle.kinds.specs.Print.{decimal, fields, printNode, print}
-use Rattle.kinds.specs.Sheet.{kindAt, firstAt, secondAt, countAt, label, labelAt, isContainerKind, trees}
-use Rattle.kinds.specs.Tree.{Trees, end, node, inside}
-use Rattle.kinds.specs.Walk.{NodeAt, TreesAt, KindsAndNames}
+use Rattle.kinds.specs.Sheet.{kindAt, firstAt, secondAt, countAt, label, isContainerKind, trees}
+use Rattle.kinds.specs.Tree.{Trees, end, inside}
+use Rattle.kinds.specs.Walk.{TreesAt}
 use Rattle.kinds.specs.declared.Fields.{Fields}
 use Rattle.kinds.specs.declared.Fields.the-variants.{Included, Dropped}
 use Rattle.kinds.specs.declared.IndirectionKind.the-variants.{Pointer}

@@ -1,47 +1,63 @@
 -- What the walks may rely on in a sheet, and the outcomes of the callable functions for each answer of its check.
-use Prim.Native.Nat.{ℕ, _+_, _*_, _≤_, _<_}
+use Prim.Native.Nat.{ℕ, _+_, _-_, _*_, _≤_, _<_}
 use native.Mathlib.Omega.{arith}
-use mathlib.Core.Path.{_≡_, refl, ap, ap₂, sym, _∙_, subst}
+use mathlib.Core.Path.{_≡_, refl, ap, sym, _∙_, subst}
 use mathlib.Core.List.{List}
 use mathlib.Core.Bool.{true}
-use lib.ListN.{length, getD}
+use lib.ListN.{length, getD, take, drop}
 use Rattle.kinds.specs.Print.{print}
 use Rattle.kinds.specs.Sheet.{isSheet, nodeWords, treeOf, trees, nests}
 use Rattle.kinds.specs.Walk.{TreesAt, KindsAndNames}
 use Rattle.kinds.specs.declared.NestingLevel.{NestingLevel}
 use Rattle.kinds.specs.declared.NestingLevel.the-variants.{Top}
 use Rattle.kinds.specs.declared.Refusal.{Refusal}
+use Rattle.kinds.specs.declared.Refusal.the-variants as R
 use Rattle.kinds.proofs.NodeLaws.{sheet-says, packed-walk}
 use Rattle.sheet.specs.Check.{checked}
 use Rattle.sheet.specs.declared.Checked.{Checked}
 use Rattle.sheet.specs.declared.Checked.the-variants.{NotASheet, BadName, Good}
+use Rattle.sheet.proofs.AnswerLaws.{part-rest}
+use Rattle.sheet.proofs.CheckLaws.{good-says}
 use Rattle.static_str.specs.declared.Printed.the-variants.{Refused, Bytes}
 use Rattle.static_str.specs.Outcome.{fitted, placed, textOf, orRefused, orKept, encodingLen, encodingArray, encodingOutput}
+use Rattle.static_str.specs.Output.{Wrote}
+use Rattle.static_str.specs.Parts.{TreesLength}
+use Rattle.static_str.proofs.OutputLaws.{wrote-same}
+use Rattle.static_str.proofs.OutcomeLaws.{fitted-short, placed-short, fitted-whole, placed-whole}
 
 -- `w` is the node words, as the code takes them out of the words
-module _ (words names w : List ℕ) (e : w ≡ nodeWords words) (h : isSheet words names ≡ true) where
-  pub sheet-trees : TreesAt w 0 (getD words 0 0)
-  sheet-trees =
-      let says = sheet-says words names h in
-      subst (λ (x : List ℕ). TreesAt x 0 (getD words 0 0)) (sym e) (record {
-        room = let r = says .root .room in let c = says .count in omega arith;
-        nested = subst (λ (n : ℕ). nests (nodeWords words) n 0 ≡ true) (says .count) (says .root .nested);
-      })
-
-  pub sheet-names : (m : ℕ) → getD words 2 0 ≤ m → KindsAndNames w m 0 (getD words 0 0)
-  sheet-names m p = subst (λ (x : List ℕ). KindsAndNames x m 0 (getD words 0 0)) (sym e) (packed-walk (nodeWords words) m (getD words 0 0) 0 0 (getD words 2 0) p (sheet-says words names h .packs))
-
-  pub few-names : KindsAndNames w 2000 0 (getD words 0 0)
-  few-names = sheet-names 2000 (sheet-says words names h .head .few-bytes)
-
+pub record GoodSheet (words names w : List ℕ) : Type 0 where
+  pub room : 4 + 4 * getD words 0 0 ≤ length words
+  pub few : getD words 0 0 ≤ 2001
+  pub whole : TreesAt w 0 (getD words 0 0)
+  pub short-names : KindsAndNames w 2000 0 (getD words 0 0)
   pub lent-names : KindsAndNames w (length names) 0 (getD words 0 0)
-  lent-names = sheet-names (length names) (sheet-says words names h .head .bytes)
-
-  pub sheet-text : (v : NestingLevel) → v ≡ Top → print v (trees names w (getD words 0 0) 0) ≡ textOf words names
-  unfolding treeOf
-  sheet-text v q = ap₂ (λ (u : NestingLevel) (x : List ℕ). print u (trees names x (getD words 0 0) 0)) q e
+  pub text : (v : NestingLevel) → v ≡ Top → print v (trees names w (getD words 0 0) 0) ≡ textOf words names
 
 module _ (words names : List ℕ) where
+  abbrev nodes : List ℕ
+  nodes = take (length words - 4) (drop 4 words)
+
+  good-nodes : isSheet words names ≡ true → GoodSheet words names (nodeWords words)
+  unfolding treeOf
+  good-nodes h =
+      let says = sheet-says words names h in
+      let n = getD words 0 0 in
+      record {
+        room = says .head .room;
+        few = says .head .few-nodes;
+        whole = record {
+          room = let r = says .root .room in let c = says .count in omega arith;
+          nested = subst (λ (k : ℕ). nests (nodeWords words) k 0 ≡ true) (says .count) (says .root .nested);
+        };
+        short-names = packed-walk (nodeWords words) 2000 n 0 0 (getD words 2 0) (says .head .few-bytes) (says .packs);
+        lent-names = packed-walk (nodeWords words) (length names) n 0 0 (getD words 2 0) (says .head .bytes) (says .packs);
+        text = λ v e. ap (λ (u : NestingLevel). print u (trees names (nodeWords words) n 0)) e;
+      }
+
+  pub good-sheet : checked words names ≡ Good → GoodSheet words names nodes
+  good-sheet h = subst (GoodSheet words names) (sym (part-rest words 4)) (good-nodes (good-says words names h .0))
+
   pub len-of : {c : Checked} → checked words names ≡ c → encodingLen words names ≡ orRefused c (Bytes (length (textOf words names)))
   unfolding encodingLen
   len-of p = ap (λ (x : Checked). orRefused x (Bytes (length (textOf words names)))) p
@@ -82,3 +98,28 @@ module _ (words names : List ℕ) where
       go Good p =
           let k = sym (len-of p) ∙ q in
           (p, cc)
+
+  pub len-good : checked words names ≡ Good → (v : NestingLevel) → v ≡ Top → (r : ℕ) → TreesLength nodes 0 (getD words 0 0) v r → Bytes r ≡ encodingLen words names
+  len-good h v e r l = ap Bytes (l names (good-sheet h .lent-names) ∙ ap length (good-sheet h .text v e)) ∙ sym (len-of h)
+
+  -- the three outcomes of a print whose length is known
+  module _ (n : ℕ) (q : encodingLen words names ≡ Bytes n) (out : List ℕ) where
+    pub good-length : checked words names ≡ Good
+    good-length = measured-good n q .0
+
+    pub short-print : length out < n → (Refused R.OutputTooShort ≡ encodingArray words names (length out)) × (out ≡ encodingOutput words names out)
+    short-print p =
+        let e = measured-good n q .1 in
+        (fitted-short (textOf words names) out (omega arith) ∙ sym (array-of (length out) good-length), placed-short (textOf words names) out (omega arith) ∙ sym (output-of out good-length))
+
+    module _ (p : n ≤ length out) (v : NestingLevel) (t : v ≡ Top) where
+      pub room-to-print : 0 + length (print v (trees names nodes (getD words 0 0) 0)) ≤ length out
+      room-to-print =
+          let e = measured-good n q .1 in
+          let f = ap length (good-sheet good-length .text v t) in
+          omega arith
+
+      pub whole-print : {after : List ℕ} {next : ℕ} → Wrote out 0 (print v (trees names nodes (getD words 0 0) 0)) after next → (Bytes n ≡ encodingArray words names (length out)) × (after ≡ encodingOutput words names out)
+      whole-print w =
+          let e = measured-good n q .1 in
+          (ap Bytes e ∙ fitted-whole (textOf words names) out (omega arith) ∙ sym (array-of (length out) good-length), placed-whole (textOf words names) out (omega arith) (wrote-same (good-sheet good-length .text v t) w) ∙ sym (output-of out good-length))

@@ -1,60 +1,163 @@
--- A turn of the print of trees: a node's text before its children's, theirs, and the text after it.
+-- The loops over trees: what holds at each turn, and that a turn keeps it.
 use Prim.Native.Nat.{ℕ, _+_, _-_, _*_, _≤_, _<_}
 use native.Mathlib.Omega.{arith}
-use mathlib.Core.Path.{_≡_, ap, subst}
+use mathlib.Core.Path.{_≡_, refl, ap, _∙_, subst}
 use mathlib.Core.List.{List, _++_}
 use lib.ListN.{length}
 use Rattle.kinds.specs.Print.{print}
 use Rattle.kinds.specs.Sheet.{kindAt, firstAt, secondAt, countAt, trees}
-use Rattle.kinds.specs.Walk.{TreesAt}
+use Rattle.kinds.specs.Walk.{NodeAt, TreesAt, KindAndName, KindsAndNames}
 use Rattle.kinds.specs.declared.NestingLevel.{NestingLevel}
+use Rattle.kinds.proofs.NodeLaws.{node-inner, walk-inner, first-some, first-within, first-node, other-trees, walk-here, walk-first, walk-rest}
 use Rattle.static_str.specs.Output.{Wrote}
-use Rattle.static_str.specs.Parts.{opening, closing, childrenText}
-use Rattle.static_str.proofs.OutputLaws.{ToWrite, room-for, then-write, all-written}
+use Rattle.static_str.specs.Parts.{opening, closing, childrenLevel, childrenText, fieldsBelow, passed, maxNodeText, OwnLength, PassedLength, TreesLength}
+use Rattle.static_str.specs.declared.Below.{Below}
+use Rattle.static_str.proofs.OutputLaws.{ToWrite, to-write, room-for, then-write, all-written, written-length}
 use Rattle.static_str.proofs.PrintLaws.{trees-text, trees-length, no-text}
+use Rattle.static_str.proofs.PassLaws.{pass-trees, pass-some, pass-within, pass-text}
 
-module _ (s w : List ℕ) (v : NestingLevel) (at n : ℕ) where
-  abbrev opens : List ℕ
-  opens = opening s (kindAt w at) (firstAt w at) (secondAt w at) v
+-- `left` of the `n` nodes from `from` on are left, from `at` on, and each has a kind and a name among `m` bytes.
+pub record Left (w : List ℕ) (m from n at left : ℕ) : Type 0 where
+  pub ends : at + 4 * left ≡ from + 4 * n
+  pub few : left ≤ n
+  pub whole : TreesAt w at left
+  pub named : KindsAndNames w m at left
 
-  abbrev inner : List ℕ
-  inner = childrenText s w at v
+pub all-left : {w : List ℕ} {m from n : ℕ} → TreesAt w from n → KindsAndNames w m from n → Left w m from n from n
+all-left h k = record { ends = refl; few = omega arith; whole = h; named = k }
 
-  abbrev closes : List ℕ
-  closes = closing (kindAt w at) (secondAt w at)
+module _ {w : List ℕ} {m from n at left : ℕ} (l : Left w m from n at left) (p : 0 < left) where
+  pub here : KindAndName w m at
+  here = walk-here w m at left (l .named) p
 
-  abbrev others : List ℕ
-  others = print v (trees s w (n - countAt w at) (at + 4 * countAt w at))
+  pub some-node : 1 ≤ countAt w at
+  some-node = first-some w at left (l .whole) p
 
-  -- what is left to write before a turn, and after each of its three steps
-  module _ {before all out : List ℕ} {start to : ℕ} where
-    split : TreesAt w at n → 0 < n → kindAt w at ≤ 31 → ToWrite before start all out to (print v (trees s w n at)) → ToWrite before start all out to (opens ++ (inner ++ (closes ++ others)))
-    split h p hi b = subst (λ (z : List ℕ). ToWrite before start all out to z) (trees-text s w v at n h p hi) b
+  pub node-within : countAt w at ≤ left
+  node-within = first-within w at left (l .whole) p
 
-    pub room-to-open : TreesAt w at n → 0 < n → kindAt w at ≤ 31 → ToWrite before start all out to (print v (trees s w n at)) → to + length opens ≤ length out
-    room-to-open h p hi b = room-for opens (inner ++ (closes ++ others)) (split h p hi b)
+  pub node-here : NodeAt w at
+  node-here = first-node w at left (l .whole) p
 
-    pub opened : {after : List ℕ} {next : ℕ} → TreesAt w at n → 0 < n → kindAt w at ≤ 31 → ToWrite before start all out to (print v (trees s w n at)) → Wrote out to opens after next → ToWrite before start all after next (inner ++ (closes ++ others))
-    opened h p hi b x = then-write opens (inner ++ (closes ++ others)) (split h p hi b) x
+  pub node-named : KindsAndNames w m at (countAt w at)
+  node-named = walk-first w m at left (l .named) (countAt w at) node-within
 
-    pub room-to-fill : ToWrite before start all out to (inner ++ (closes ++ others)) → to + length inner ≤ length out
-    room-to-fill b = room-for inner (closes ++ others) b
+  pub others-left : Left w m from n (at + 4 * countAt w at) (left - countAt w at)
+  others-left =
+      let q = node-within in
+      let e = l .ends in
+      let f = l .few in
+      record { ends = omega arith; few = omega arith; whole = other-trees w at left (l .whole) p; named = walk-rest w m at left (l .named) (countAt w at) q }
 
-    pub filled : {after : List ℕ} {next : ℕ} → ToWrite before start all out to (inner ++ (closes ++ others)) → Wrote out to inner after next → ToWrite before start all after next (closes ++ others)
-    filled b x = then-write inner (closes ++ others) b x
+-- the nodes below a node
+pub children-there : {w : List ℕ} {m at : ℕ} → NodeAt w at → KindsAndNames w m at (countAt w at) → TreesAt w (at + 4) (countAt w at - 1) × KindsAndNames w m (at + 4) (countAt w at - 1)
+children-there {w} {m} {at} h k =
+    let p = h .some-node in
+    (node-inner w at h, walk-inner w m at (countAt w at) k (countAt w at - 1) (omega arith))
 
-    pub room-to-close : ToWrite before start all out to (closes ++ others) → to + length closes ≤ length out
-    room-to-close b = room-for closes others b
+-- What the loop of the print keeps: with the nodes that are left still to be printed, the output becomes the whole text.
+pub record Printing (s w : List ℕ) (v : NestingLevel) (before : List ℕ) (start from n : ℕ) (out : List ℕ) (at left to : ℕ) : Type 0 where
+  pub nodes : Left w (length s) from n at left
+  pub room : length out ≡ length before
+  pub text : ToWrite before start (print v (trees s w n from)) out to (print v (trees s w left at))
 
-    pub closed : {after : List ℕ} {next : ℕ} → ToWrite before start all out to (closes ++ others) → Wrote out to closes after next → ToWrite before start all after next others
-    closed b x = then-write closes others b x
+pub start-printing : (s w : List ℕ) (v : NestingLevel) (out : List ℕ) (start from n : ℕ) → TreesAt w from n → KindsAndNames w (length s) from n → start + length (print v (trees s w n from)) ≤ length out → Printing s w v out start from n out from n start
+start-printing s w v out start from n h k r = record { nodes = all-left h k; room = refl; text = to-write out start (print v (trees s w n from)) r }
 
-    pub trees-written : n ≤ 0 → ToWrite before start all out to (print v (trees s w n at)) → Wrote before start all out to
-    trees-written p b = all-written (subst (λ (z : List ℕ). ToWrite before start all out to z) (no-text s w v n at p) b)
+module _ {s w : List ℕ} {v : NestingLevel} {before out : List ℕ} {start from n at left to : ℕ} (i : Printing s w v before start from n out at left to) where
+  pub printed : left ≤ 0 → Wrote before start (print v (trees s w n from)) out to
+  printed p = all-written (subst (λ (z : List ℕ). ToWrite before start (print v (trees s w n from)) out to z) (no-text s w v left at p) (i .text))
 
--- the same turn of the length
-pub measured : (s w : List ℕ) (v : NestingLevel) (at n : ℕ) → TreesAt w at n → 0 < n → kindAt w at ≤ 31 → (len own inner all : ℕ) → own ≡ length (opening s (kindAt w at) (firstAt w at) (secondAt w at) v) + length (closing (kindAt w at) (secondAt w at)) → inner ≡ length (childrenText s w at v) → len + length (print v (trees s w n at)) ≡ all → len + own + inner + length (print v (trees s w (n - countAt w at) (at + 4 * countAt w at))) ≡ all
-measured s w v at n h p hi len own inner all e f g = omega (arith, trees-length s w v at n h p hi)
+  module _ (p : 0 < left) where
+    abbrev opens : List ℕ
+    opens = opening s (kindAt w at) (firstAt w at) (secondAt w at) v
 
-pub all-measured : (s w : List ℕ) (v : NestingLevel) (at n len all : ℕ) → n ≤ 0 → len + length (print v (trees s w n at)) ≡ all → len ≡ all
-all-measured s w v at n len all p e = omega (arith, ap length (no-text s w v n at p))
+    abbrev inner : List ℕ
+    inner = childrenText s w at v
+
+    abbrev closes : List ℕ
+    closes = closing (kindAt w at) (secondAt w at)
+
+    abbrev others : List ℕ
+    others = print v (trees s w (left - countAt w at) (at + 4 * countAt w at))
+
+    in-parts : ToWrite before start (print v (trees s w n from)) out to (opens ++ (inner ++ (closes ++ others)))
+    in-parts = subst (λ (z : List ℕ). ToWrite before start (print v (trees s w n from)) out to z) (trees-text s w v at left (i .nodes .whole) p (here (i .nodes) p .kind)) (i .text)
+
+    pub room-to-open : to + length opens ≤ length out
+    room-to-open = room-for opens (inner ++ (closes ++ others)) in-parts
+
+    module _ {out₁ : List ℕ} {to₁ : ℕ} (x : Wrote out to opens out₁ to₁) where
+      opened : ToWrite before start (print v (trees s w n from)) out₁ to₁ (inner ++ (closes ++ others))
+      opened = then-write opens (inner ++ (closes ++ others)) in-parts x
+
+      pub room-to-fill : to₁ + length inner ≤ length out₁
+      room-to-fill = room-for inner (closes ++ others) opened
+
+      module _ {out₂ : List ℕ} {to₂ : ℕ} (y : Wrote out₁ to₁ inner out₂ to₂) where
+        filled : ToWrite before start (print v (trees s w n from)) out₂ to₂ (closes ++ others)
+        filled = then-write inner (closes ++ others) opened y
+
+        pub room-to-close : to₂ + length closes ≤ length out₂
+        room-to-close = room-for closes others filled
+
+        pub turned : {out₃ : List ℕ} {to₃ : ℕ} → Wrote out₂ to₂ closes out₃ to₃ → Printing s w v before start from n out₃ (at + 4 * countAt w at) (left - countAt w at) to₃
+        turned z = record {
+          nodes = others-left (i .nodes) p;
+          room =
+              ap length (z .text) ∙ written-length out₂ to₂ closes room-to-close
+              ∙ (ap length (y .text) ∙ written-length out₁ to₁ inner room-to-fill)
+              ∙ (ap length (x .text) ∙ written-length out to opens room-to-open)
+              ∙ i .room;
+          text = then-write closes others filled z;
+        }
+
+-- What the loop of the length keeps.
+pub record Measuring (w : List ℕ) (v : NestingLevel) (from n at left len : ℕ) : Type 0 where
+  pub nodes : Left w 2000 from n at left
+  pub bound : len + maxNodeText * left ≤ maxNodeText * n
+  pub sum : (s : List ℕ) → KindsAndNames w (length s) from n → KindsAndNames w (length s) at left × (len + length (print v (trees s w left at)) ≡ length (print v (trees s w n from)))
+
+pub start-measuring : (w : List ℕ) (v : NestingLevel) (from n : ℕ) → TreesAt w from n → KindsAndNames w 2000 from n → Measuring w v from n from n 0
+start-measuring w v from n h k = record { nodes = all-left h k; bound = omega arith; sum = λ s q. (q, omega arith) }
+
+module _ {w : List ℕ} {v : NestingLevel} {from n at left len : ℕ} (i : Measuring w v from n at left len) where
+  pub measured : left ≤ 0 → TreesLength w from n v len × (len ≤ maxNodeText * n)
+  measured p = (λ s k. let e = i .sum s k .1 in let f = ap length (no-text s w v left at p) in omega arith, let b = i .bound in omega arith)
+
+  module _ (p : 0 < left) (b : Below) where
+    pub passed-some : 1 ≤ passed b (countAt w at)
+    passed-some = pass-some w at left (i .nodes .whole) p b
+
+    pub passed-within : passed b (countAt w at) ≤ left
+    passed-within = pass-within w at left (i .nodes .whole) p b
+
+    -- a turn, which passes `k` nodes
+    pub summed : fieldsBelow v b ≡ childrenLevel (kindAt w at) v → (k own inner : ℕ) → k ≡ passed b (countAt w at) → OwnLength (kindAt w at) (firstAt w at) (secondAt w at) v own × (own ≤ maxNodeText) → PassedLength w at b inner × (inner + maxNodeText ≤ maxNodeText * passed b (countAt w at)) → Measuring w v from n (at + 4 * k) (left - k) (len + own + inner)
+    summed q k own inner e o r =
+        let few = passed-within in
+        let fits = o .1 in
+        let more = r .1 in
+        let sofar = i .bound in
+        let ends = i .nodes .ends in
+        let less = i .nodes .few in
+        record {
+          nodes = record {
+            ends = omega arith;
+            few = omega arith;
+            whole = pass-trees w at left (i .nodes .whole) p b k e;
+            named = walk-rest w 2000 at left (i .nodes .named) k (omega arith);
+          };
+          bound = omega arith;
+          sum = λ s all. total s (i .sum s all .0) (i .sum s all .1);
+        }
+      where
+        total : {rest : ℕ} (s : List ℕ) → KindsAndNames w (length s) at left → len + length (print v (trees s w left at)) ≡ rest → KindsAndNames w (length s) (at + 4 * k) (left - k) × (len + own + inner + length (print v (trees s w (left - k) (at + 4 * k))) ≡ rest)
+        total s names g =
+            let few = passed-within in
+            let x = trees-length s w v at left (i .nodes .whole) p (here (i .nodes) p .kind) in
+            let y = pass-text w at left (i .nodes .whole) p s v b q in
+            let z = ap (λ (j : ℕ). length (print v (trees s w (left - j) (at + 4 * j)))) e in
+            let f = o .0 s (walk-here w (length s) at left names p .name) in
+            let h = r .0 s (walk-first w (length s) at left names (countAt w at) (node-within (i .nodes) p)) in
+            (walk-rest w (length s) at left names k (omega arith), omega arith)

@@ -11,7 +11,7 @@ ghost use Rattle.kinds.specs.Sheet.{countAt, isContainerKind, trees, maxNodes, 
 ghost use Rattle.kinds.specs.Walk.{NodeAt, TreesAt, KindsAndNames};
 ghost use Rattle.static_str.specs.Output.{Wrote};
 ghost use Rattle.static_str.specs.Outcome.{fitted, placed, encodingLen, encodingArray, encodingOutput};
-ghost use Rattle.static_str.specs.Parts.{containerOf, opening, closing, childrenLevel, childrenText, maxNodeText, OwnLength, ChildrenLength, TreesLength};
+ghost use Rattle.static_str.specs.Parts.{containerOf, opening, closing, childrenLevel, childrenText, maxNodeText, OwnLength, fieldsBelow, passed, PassedLength, TreesLength};
 use kinds::Code;
 use kinds::ContainerKind;
 use kinds::Fields;
@@ -26,6 +26,13 @@ use sheet::check;
 pub enum Printed {
     Refused(Refusal),
     Bytes(usize),
+}
+
+// Where a node's children stand: at its own level, not shown, or at another level.
+enum Below {
+    Same,
+    Hidden,
+    Deeper(NestingLevel),
 }
 
 // The count of decimal digits.
@@ -147,14 +154,21 @@ fn children_level(kind: u64, level: NestingLevel) -> Fields
     Fields::Included(level)
 }
 
+// The length of a primitive's code; no table is looked up, since this is asked of most nodes.
 fn code_len(kind: u64) -> usize
+    requires { ⌜ kind < 24 ⌝ }
     ensures { λ r. ⌜ (r ≡ length (code kind)) × (r ≤ 2) ⌝ }
 {
-    match primitive_code(kind) {
-        Code::Empty => 0,
-        Code::One(_) => 1,
-        Code::Two(_, _) => 2,
+    if kind < 13 {
+        return 1;
     }
+    if kind < 16 {
+        return 2;
+    }
+    if kind == 20 {
+        return 2;
+    }
+    1
 }
 
 // The length of a container's own text.
@@ -198,23 +212,55 @@ fn node_len(kind: u64, first: u64, second: u64, level: NestingLevel) -> usize
     0
 }
 
-// The length of the text of the children of the node at `at`.
-fn children_len(nodes: &[u64], at: usize, level: NestingLevel) -> usize
-    requires { ⌜ NodeAt (now nodes) at × (countAt (now nodes) at ≤ maxNodes) ⌝ }
-    requires { ⌜ KindsAndNames (now nodes) maxNames at (countAt (now nodes) at) ⌝ }
-    ensures { λ r. ⌜ ChildrenLength (now (nodes .entry)) at level r × (r + maxNodeText ≤ maxNodeText * countAt (now (nodes .entry)) at) ⌝ }
+fn level_below(kind: u64, level: NestingLevel) -> Below
+    ensures { λ r. ⌜ fieldsBelow level r ≡ childrenLevel kind level ⌝ }
 {
-    let count = nodes[at + 3] as usize;
-    if count == 1 {
-        return 0;
+    if is_container(kind) {
+        return match level {
+            NestingLevel::Top => Below::Deeper(NestingLevel::Within),
+            NestingLevel::Within => Below::Same,
+            NestingLevel::Bottom => Below::Hidden,
+        };
     }
-    match children_level(nodes[at], level) {
-        Fields::Dropped => 0,
-        Fields::Included(inner) => trees_len(nodes, at + 4, count - 1, inner),
+    if kind == 26 {
+        return match level {
+            NestingLevel::Top => Below::Deeper(NestingLevel::Within),
+            NestingLevel::Within => Below::Deeper(NestingLevel::Bottom),
+            NestingLevel::Bottom => Below::Same,
+        };
+    }
+    if kind == 27 {
+        return Below::Deeper(NestingLevel::Bottom);
+    }
+    Below::Same
+}
+
+// The nodes that are passed at once with a node of `count` nodes.
+fn pass(below: Below, count: usize) -> usize
+    ensures { λ r. ⌜ r ≡ passed below count ⌝ }
+{
+    match below {
+        Below::Same => 1,
+        Below::Hidden => count,
+        Below::Deeper(_) => count,
     }
 }
 
-// The length of the text of the trees of the `n` nodes from `from` on.
+// The length of the text of the children of the node at `at` that are passed with it.
+fn children_len(nodes: &[u64], at: usize, below: Below) -> usize
+    requires { ⌜ NodeAt (now nodes) at × (countAt (now nodes) at ≤ maxNodes) ⌝ }
+    requires { ⌜ KindsAndNames (now nodes) maxNames at (countAt (now nodes) at) ⌝ }
+    ensures { λ r. ⌜ PassedLength (now (nodes .entry)) at below r × (r + maxNodeText ≤ maxNodeText * passed below (countAt (now (nodes .entry)) at)) ⌝ }
+{
+    let count = nodes[at + 3] as usize;
+    match below {
+        Below::Same => 0,
+        Below::Hidden => 0,
+        Below::Deeper(inner) => trees_len(nodes, at + 4, count - 1, inner),
+    }
+}
+
+// The length of the text of the trees of the `n` nodes from `from` on. Only another level takes a call, and there are three.
 fn trees_len(nodes: &[u64], from: usize, n: usize, level: NestingLevel) -> usize
     requires { ⌜ TreesAt (now nodes) from n × (n ≤ maxNodes) ⌝ }
     requires { ⌜ KindsAndNames (now nodes) maxNames from n ⌝ }
@@ -224,9 +270,11 @@ fn trees_len(nodes: &[u64], from: usize, n: usize, level: NestingLevel) -> usize
     let mut left = n;
     let mut len = 0;
     while 0 < left {
-        len = len + node_len(nodes[at], nodes[at + 1], nodes[at + 2], level);
-        len = len + children_len(nodes, at, level);
-        let count = nodes[at + 3] as usize;
+        let kind = nodes[at];
+        len = len + node_len(kind, nodes[at + 1], nodes[at + 2], level);
+        let children = level_below(kind, level);
+        len = len + children_len(nodes, at, children);
+        let count = pass(children, nodes[at + 3] as usize);
         at = at + 4 * count;
         left = left - count;
     }

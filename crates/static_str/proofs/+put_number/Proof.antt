@@ -1,3 +1,4 @@
+-- `static_str::put_number` meets its contract. Assumes nothing.
 use Prim.Native.Nat.{ℕ, _+_, _/_, _%_, _≤_, _<_}
 use mathlib.Core.Path.{sym, subst, _∙_}
 use mathlib.Core.List.{List, [], _∷_}
@@ -61,7 +62,7 @@ put-number-same-length-2 : (t : ℕ) → put-number-lts.Need-same-length-2 (put-
 put-number-same-length-2 t c = c .before .before .put2 .kept .0 ∙ c .before .before .before .before .before .before .put-number .kept .0
 
 put-number-returns-2 : (t : ℕ) → put-number-lts.Need-returns-2 (put-number-claims t) (put-number-at t) put-number.Post
-put-number-returns-2 t c = let hi = decimal-high (c .before .before .before .before .before .before .before .before .before .before .args .n) (c .before .before .before .before .before .before .before .before .if1 .left) in wrote-same (sym hi) (wrote-append (decimal (c .before .before .before .before .before .before .before .before .before .before .args .n / 10)) ((48 + c .before .before .before .before .before .before .before .before .before .before .args .n % 10) ∷ []) (subst (λ (xs : List ℕ). c .before .before .before .before .before .before .before .before .before .before .args .at + length xs ≤ length (c .before .before .before .before .before .before .before .before .before .before .args .out .now)) hi (c .before .before .before .before .before .before .before .before .before .before .pre .1)) (c .before .before .before .before .before .before .put-number .ensures) (c .before .before .put2 .ensures))
+put-number-returns-2 t c = let a = c .before .before .before .before .before .before .before .before .before .before .args in let hi = decimal-high (a .n) (c .before .before .before .before .before .before .before .before .if1 .left) in wrote-same (sym hi) (wrote-append (decimal (a .n / 10)) ((48 + a .n % 10) ∷ []) (subst (λ (xs : List ℕ). a .at + length xs ≤ length (a .out .now)) hi (c .before .before .before .before .before .before .before .before .before .before .pre .1)) (c .before .before .before .before .before .before .put-number .ensures) (c .before .before .put2 .ensures))
 
 pub +put-number-spec : {M : Type 1} → statement M
 +put-number-spec = close μ-put-number λ t. put-number-lts.spec (put-number-claims t)

@@ -6,11 +6,6 @@ use Rattle.kinds.specs.declared.Fields.the-variants.{Included}
 use Rattle.static_str.specs.Parts.{childrenLevel}
 use Rattle.static_str.proofs.children_level.Statement.{statement}
 use Rattle.static_str.proofs.children_level.Tie as tie
-use Rattle.static_str.proofs.children_level.Reads as reads
-use Rattle.static_str.proofs.children_level.Lts as lts
-use Rattle.kinds.proofs.NestingLevel.container_include_fields.Reads as container-include-fields-reads
-use Rattle.kinds.proofs.NestingLevel.indirection.Reads as indirection-reads
-use Rattle.static_str.proofs.is_container.Reads as is-container-reads
 
 is-container-requires : tie.Need-is-container-requires
 is-container-requires c κs = search needs

@@ -10,13 +10,6 @@ use Rattle.static_str.proofs.PartLaws.{closing-typed, closing-array, cl
 use Rattle.static_str.proofs.OutputLaws.{wrote-same, wrote-none}
 use Rattle.static_str.proofs.close_node.Statement.{statement}
 use Rattle.static_str.proofs.close_node.Tie as tie
-use Rattle.static_str.proofs.close_node.Reads as reads
-use Rattle.static_str.proofs.close_node.Lts as lts
-use Rattle.kinds.proofs.ContainerKind.end_byte.Reads as end-byte-reads
-use Rattle.static_str.proofs.container_of.Reads as container-of-reads
-use Rattle.static_str.proofs.is_container.Reads as is-container-reads
-use Rattle.static_str.proofs.put.Reads as put-reads
-use Rattle.static_str.proofs.put_number.Reads as put-number-reads
 
 put-number-requires : tie.Need-put-number-requires
 put-number-requires c κs = omega (arith, ap length (closing-typed (c .before .before .before .args .kind) (c .before .before .before .args .second) (c .before .if1 .taken)), c .before .before .before .pre)
@@ -55,7 +48,7 @@ returns-3 : tie.Need-returns-3
 returns-3 c = wrote-same (ap (λ (x : ℕ). x ∷ []) (c .before .before .before .end-byte .ensures ∙ ap endByte (c .before .before .before .before .container-of .ensures)) ∙ sym (closing-container (c .before .before .before .before .before .before .before .before .before .before .before .args .kind) (c .before .before .before .before .before .before .before .before .before .before .before .args .second) (c .before .before .before .before .before .before .before .before .before .if1 .left) (c .before .before .before .before .before .before .before .before .if2 .left) (sym (c .before .before .before .before .before .before .before .is-container .ensures) ∙ c .before .before .before .before .before .before .if3 .taken))) (c .before .before .put2 .ensures)
 
 returns-4 : tie.Need-returns-4
-returns-4 c = wrote-same (sym (closing-none (c .before .before .before .before .before .args .kind) (c .before .before .before .before .before .args .second) (c .before .before .before .if1 .left) (c .before .before .if2 .left) (sym (c .before .is-container .ensures) ∙ c .if3 .left))) (wrote-none (c .before .before .before .before .before .args .out .now) (c .before .before .before .before .before .args .at))
+returns-4 c = let a = c .before .before .before .before .before .args in wrote-same (sym (closing-none (a .kind) (a .second) (c .before .before .before .if1 .left) (c .before .before .if2 .left) (sym (c .before .is-container .ensures) ∙ c .if3 .left))) (wrote-none (a .out .now) (a .at))
 
 pub close-node-spec : {M : Type 1} → statement M
 close-node-spec =

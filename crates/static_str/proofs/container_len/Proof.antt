@@ -6,9 +6,6 @@ use borrow.Author.Needs.{needs}
 use Rattle.static_str.proofs.PartLaws.{fields-shown, fields-hidden}
 use Rattle.static_str.proofs.container_len.Statement.{statement}
 use Rattle.static_str.proofs.container_len.Tie as tie
-use Rattle.static_str.proofs.container_len.Reads as reads
-use Rattle.static_str.proofs.container_len.Lts as lts
-use Rattle.kinds.proofs.NestingLevel.container_include_fields.Reads as container-include-fields-reads
 
 add-len : tie.Need-add-len
 add-len c = search needs

@@ -2,8 +2,6 @@
 use borrow.Author.Tests.{eq-eqb, ne-eqb}
 use Rattle.static_str.proofs.is_container.Statement.{statement}
 use Rattle.static_str.proofs.is_container.Tie as tie
-use Rattle.static_str.proofs.is_container.Reads as reads
-use Rattle.static_str.proofs.is_container.Lts as lts
 
 returns : tie.Need-returns
 returns c = simp (eq-eqb _ _ (c .if1 .taken))

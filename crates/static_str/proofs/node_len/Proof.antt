@@ -7,12 +7,6 @@ use Rattle.static_str.proofs.NumberLaws.{decimal-fits}
 use Rattle.static_str.proofs.PartLaws.{own-primitive, own-container, own-bits, own-typed, own-pointer, own-atomic, own-array, own-none}
 use Rattle.static_str.proofs.node_len.Statement.{statement}
 use Rattle.static_str.proofs.node_len.Tie as tie
-use Rattle.static_str.proofs.node_len.Reads as reads
-use Rattle.static_str.proofs.node_len.Lts as lts
-use Rattle.static_str.proofs.code_len.Reads as code-len-reads
-use Rattle.static_str.proofs.container_len.Reads as container-len-reads
-use Rattle.static_str.proofs.is_container.Reads as is-container-reads
-use Rattle.static_str.proofs.static_int_str_len.Reads as static-int-str-len-reads
 
 code-len-requires : tie.Need-code-len-requires
 code-len-requires c κs = search needs
@@ -27,7 +21,7 @@ container-len-requires : tie.Need-container-len-requires
 container-len-requires c κs = c .before .before .before .pre (sym (c .before .is-container .ensures) ∙ c .if2 .taken)
 
 returns-2 : tie.Need-returns-2
-returns-2 c = (λ s h. c .container-len .ensures .0 ∙ own-container s (c .before .before .before .before .args .kind) (c .before .before .before .before .args .first) (c .before .before .before .before .args .second) (c .before .before .before .before .args .level) (c .before .before .before .if1 .left) (sym (c .before .before .is-container .ensures) ∙ c .before .if2 .taken) (h (sym (c .before .before .is-container .ensures) ∙ c .before .if2 .taken)), c .container-len .ensures .1)
+returns-2 c = let a = c .before .before .before .before .args in (λ s h. c .container-len .ensures .0 ∙ own-container s (a .kind) (a .first) (a .second) (a .level) (c .before .before .before .if1 .left) (sym (c .before .before .is-container .ensures) ∙ c .before .if2 .taken) (h (sym (c .before .before .is-container .ensures) ∙ c .before .if2 .taken)), c .container-len .ensures .1)
 
 static-int-str-len-requires : tie.Need-static-int-str-len-requires
 static-int-str-len-requires c κs = search needs
@@ -36,7 +30,7 @@ add-result : tie.Need-add-result
 add-result c = omega (arith, decimal-fits (c .before .before .before .before .before .args .second) (omega arith))
 
 returns-3 : tie.Need-returns-3
-returns-3 c = (λ s h. ap (λ (n : ℕ). 1 + n) (c .static-int-str-len .ensures) ∙ own-bits s (c .before .before .before .before .before .args .kind) (c .before .before .before .before .before .args .first) (c .before .before .before .before .before .args .second) (c .before .before .before .before .before .args .level) (c .before .if3 .taken), omega (arith, decimal-fits (c .before .before .before .before .before .args .second) (omega arith)))
+returns-3 c = let a = c .before .before .before .before .before .args in (λ s h. ap (λ (n : ℕ). 1 + n) (c .static-int-str-len .ensures) ∙ own-bits s (a .kind) (a .first) (a .second) (a .level) (c .before .if3 .taken), omega (arith, decimal-fits (a .second) (omega arith)))
 
 static-int-str-len-requires-2 : tie.Need-static-int-str-len-requires-2
 static-int-str-len-requires-2 c κs = search needs
@@ -51,13 +45,13 @@ add-result-3 : tie.Need-add-result-3
 add-result-3 c = omega (arith, decimal-fits (c .before .before .before .before .before .before .before .args .first) (omega arith), decimal-fits (c .before .before .before .before .before .before .before .args .second) (omega arith))
 
 returns-4 : tie.Need-returns-4
-returns-4 c = (λ s h. ap₂ (λ (m n : ℕ). 1 + m + n) (c .before .static-int-str-len2 .ensures) (c .static-int-str-len3 .ensures) ∙ own-typed s (c .before .before .before .before .before .before .before .args .kind) (c .before .before .before .before .before .before .before .args .first) (c .before .before .before .before .before .before .before .args .second) (c .before .before .before .before .before .before .before .args .level) (c .before .before .if4 .taken), omega (arith, decimal-fits (c .before .before .before .before .before .before .before .args .first) (omega arith), decimal-fits (c .before .before .before .before .before .before .before .args .second) (omega arith)))
+returns-4 c = let a = c .before .before .before .before .before .before .before .args in (λ s h. ap₂ (λ (m n : ℕ). 1 + m + n) (c .before .static-int-str-len2 .ensures) (c .static-int-str-len3 .ensures) ∙ own-typed s (a .kind) (a .first) (a .second) (a .level) (c .before .before .if4 .taken), omega (arith, decimal-fits (a .first) (omega arith), decimal-fits (a .second) (omega arith)))
 
 returns-5 : tie.Need-returns-5
-returns-5 c = (λ s h. own-pointer s (c .before .before .before .before .before .before .args .kind) (c .before .before .before .before .before .before .args .first) (c .before .before .before .before .before .before .args .second) (c .before .before .before .before .before .before .args .level) (c .if5 .taken), omega arith)
+returns-5 c = let a = c .before .before .before .before .before .before .args in (λ s h. own-pointer s (a .kind) (a .first) (a .second) (a .level) (c .if5 .taken), omega arith)
 
 returns-6 : tie.Need-returns-6
-returns-6 c = (λ s h. own-atomic s (c .before .before .before .before .before .before .before .args .kind) (c .before .before .before .before .before .before .before .args .first) (c .before .before .before .before .before .before .before .args .second) (c .before .before .before .before .before .before .before .args .level) (c .if6 .taken), omega arith)
+returns-6 c = let a = c .before .before .before .before .before .before .before .args in (λ s h. own-atomic s (a .kind) (a .first) (a .second) (a .level) (c .if6 .taken), omega arith)
 
 static-int-str-len-requires-4 : tie.Need-static-int-str-len-requires-4
 static-int-str-len-requires-4 c κs = search needs
@@ -66,10 +60,10 @@ add-result-4 : tie.Need-add-result-4
 add-result-4 c = omega (arith, decimal-fits (c .before .before .before .before .before .before .before .before .before .args .first) (omega arith))
 
 returns-7 : tie.Need-returns-7
-returns-7 c = (λ s h. ap (λ (n : ℕ). 2 + n) (c .static-int-str-len4 .ensures) ∙ own-array s (c .before .before .before .before .before .before .before .before .before .args .kind) (c .before .before .before .before .before .before .before .before .before .args .first) (c .before .before .before .before .before .before .before .before .before .args .second) (c .before .before .before .before .before .before .before .before .before .args .level) (c .before .if7 .taken), omega (arith, decimal-fits (c .before .before .before .before .before .before .before .before .before .args .first) (omega arith)))
+returns-7 c = let a = c .before .before .before .before .before .before .before .before .before .args in (λ s h. ap (λ (n : ℕ). 2 + n) (c .static-int-str-len4 .ensures) ∙ own-array s (a .kind) (a .first) (a .second) (a .level) (c .before .if7 .taken), omega (arith, decimal-fits (a .first) (omega arith)))
 
 returns-8 : tie.Need-returns-8
-returns-8 c = (λ s h. own-none s (c .before .before .before .before .before .before .before .before .args .kind) (c .before .before .before .before .before .before .before .before .args .first) (c .before .before .before .before .before .before .before .before .args .second) (c .before .before .before .before .before .before .before .before .args .level) (c .before .before .before .before .before .before .before .if1 .left) (sym (c .before .before .before .before .before .before .is-container .ensures) ∙ c .before .before .before .before .before .if2 .left) (c .before .before .before .before .if3 .left) (c .before .before .before .if4 .left) (c .before .before .if5 .left) (c .before .if6 .left) (c .if7 .left), omega arith)
+returns-8 c = let a = c .before .before .before .before .before .before .before .before .args in (λ s h. own-none s (a .kind) (a .first) (a .second) (a .level) (c .before .before .before .before .before .before .before .if1 .left) (sym (c .before .before .before .before .before .before .is-container .ensures) ∙ c .before .before .before .before .before .if2 .left) (c .before .before .before .before .if3 .left) (c .before .before .before .if4 .left) (c .before .before .if5 .left) (c .before .if6 .left) (c .if7 .left), omega arith)
 
 pub node-len-spec : {M : Type 1} → statement M
 node-len-spec =

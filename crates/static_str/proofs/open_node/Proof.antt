@@ -9,24 +9,15 @@ use borrow.Author.Needs.{needs}
 use Rattle.static_str.proofs.OutputLaws.{wrote-same, wrote-none}
 use Rattle.static_str.proofs.open_node.Statement.{statement}
 use Rattle.static_str.proofs.open_node.Tie as tie
-use Rattle.static_str.proofs.open_node.Reads as reads
-use Rattle.static_str.proofs.open_node.Lts as lts
-use Rattle.kinds.proofs.IndirectionKind.prefix_byte.Reads as prefix-byte-reads
-use Rattle.static_str.proofs.container_of.Reads as container-of-reads
-use Rattle.static_str.proofs.is_container.Reads as is-container-reads
-use Rattle.static_str.proofs.open_container.Reads as open-container-reads
-use Rattle.static_str.proofs.put.Reads as put-reads
-use Rattle.static_str.proofs.put_code.Reads as put-code-reads
-use Rattle.static_str.proofs.put_tagged.Reads as put-tagged-reads
 
 put-code-requires : tie.Need-put-code-requires
-put-code-requires c κs = omega (arith, ap length (opening-primitive (c .before .before .before .before .args .names .now) (c .before .before .before .before .args .kind) (c .before .before .before .before .args .first) (c .before .before .before .before .args .second) (c .before .before .before .before .args .level) (c .before .if1 .taken)), c .before .before .before .before .pre .1)
+put-code-requires c κs = let a = c .before .before .before .before .args in omega (arith, ap length (opening-primitive (a .names .now) (a .kind) (a .first) (a .second) (a .level) (c .before .if1 .taken)), c .before .before .before .before .pre .1)
 
 same-length : tie.Need-same-length
 same-length c = search needs
 
 returns : tie.Need-returns
-returns c = wrote-same (sym (opening-primitive (c .before .before .before .before .before .before .before .args .names .now) (c .before .before .before .before .before .before .before .args .kind) (c .before .before .before .before .before .before .before .args .first) (c .before .before .before .before .before .before .before .args .second) (c .before .before .before .before .before .before .before .args .level) (c .before .before .before .before .if1 .taken))) (c .before .before .put-code .ensures)
+returns c = let a = c .before .before .before .before .before .before .before .args in wrote-same (sym (opening-primitive (a .names .now) (a .kind) (a .first) (a .second) (a .level) (c .before .before .before .before .if1 .taken))) (c .before .before .put-code .ensures)
 
 is-container-requires : tie.Need-is-container-requires
 is-container-requires c κs = search needs
@@ -47,67 +38,67 @@ part-open-container-end : tie.Need-part-open-container-end
 part-open-container-end c = omega (arith, c .before .before .before .before .before .before .pre .0 (sym (c .before .before .is-container .ensures) ∙ c .before .if2 .taken))
 
 open-container-requires : tie.Need-open-container-requires
-open-container-requires c κs = omega (arith, ap length (opening-slice (c .before .before .before .before .before .before .before .before .args .names .now) (c .before .before .before .before .before .before .before .before .args .kind) (c .before .before .before .before .before .before .before .before .args .first) (c .before .before .before .before .before .before .before .before .args .second) (c .before .before .before .before .before .before .before .before .args .level) _ (c .before .before .container-of .ensures) (c .before .before .before .before .before .if1 .left) (sym (c .before .before .before .before .is-container .ensures) ∙ c .before .before .before .if2 .taken)), c .before .before .before .before .before .before .before .before .pre .1)
+open-container-requires c κs = let a = c .before .before .before .before .before .before .before .before .args in omega (arith, ap length (opening-slice (a .names .now) (a .kind) (a .first) (a .second) (a .level) _ (c .before .before .container-of .ensures) (c .before .before .before .before .before .if1 .left) (sym (c .before .before .before .before .is-container .ensures) ∙ c .before .before .before .if2 .taken)), c .before .before .before .before .before .before .before .before .pre .1)
 
 same-length-2 : tie.Need-same-length-2
 same-length-2 c = search needs
 
 returns-2 : tie.Need-returns-2
-returns-2 c = wrote-same (opening-slice (c .before .before .before .before .before .before .before .before .before .before .before .args .names .now) (c .before .before .before .before .before .before .before .before .before .before .before .args .kind) (c .before .before .before .before .before .before .before .before .before .before .before .args .first) (c .before .before .before .before .before .before .before .before .before .before .before .args .second) (c .before .before .before .before .before .before .before .before .before .before .before .args .level) _ (c .before .before .before .before .before .container-of .ensures) (c .before .before .before .before .before .before .before .before .if1 .left) (sym (c .before .before .before .before .before .before .before .is-container .ensures) ∙ c .before .before .before .before .before .before .if2 .taken)) (c .before .before .open-container .ensures)
+returns-2 c = let a = c .before .before .before .before .before .before .before .before .before .before .before .args in wrote-same (opening-slice (a .names .now) (a .kind) (a .first) (a .second) (a .level) _ (c .before .before .before .before .before .container-of .ensures) (c .before .before .before .before .before .before .before .before .if1 .left) (sym (c .before .before .before .before .before .before .before .is-container .ensures) ∙ c .before .before .before .before .before .before .if2 .taken)) (c .before .before .open-container .ensures)
 
 put-tagged-requires : tie.Need-put-tagged-requires
-put-tagged-requires c κs = omega (arith, ap length (opening-bits (c .before .before .before .before .before .before .before .args .names .now) (c .before .before .before .before .before .before .before .args .kind) (c .before .before .before .before .before .before .before .args .first) (c .before .before .before .before .before .before .before .args .second) (c .before .before .before .before .before .before .before .args .level) (c .before .if3 .taken)), c .before .before .before .before .before .before .before .pre .1)
+put-tagged-requires c κs = let a = c .before .before .before .before .before .before .before .args in omega (arith, ap length (opening-bits (a .names .now) (a .kind) (a .first) (a .second) (a .level) (c .before .if3 .taken)), c .before .before .before .before .before .before .before .pre .1)
 
 same-length-3 : tie.Need-same-length-3
 same-length-3 c = search needs
 
 returns-3 : tie.Need-returns-3
-returns-3 c = wrote-same (sym (opening-bits (c .before .before .before .before .before .before .before .before .before .before .args .names .now) (c .before .before .before .before .before .before .before .before .before .before .args .kind) (c .before .before .before .before .before .before .before .before .before .before .args .first) (c .before .before .before .before .before .before .before .before .before .before .args .second) (c .before .before .before .before .before .before .before .before .before .before .args .level) (c .before .before .before .before .if3 .taken))) (c .before .before .put-tagged .ensures)
+returns-3 c = let a = c .before .before .before .before .before .before .before .before .before .before .args in wrote-same (sym (opening-bits (a .names .now) (a .kind) (a .first) (a .second) (a .level) (c .before .before .before .before .if3 .taken))) (c .before .before .put-tagged .ensures)
 
 put-tagged-requires-2 : tie.Need-put-tagged-requires-2
-put-tagged-requires-2 c κs = omega (arith, ap length (opening-typed (c .before .before .before .before .before .before .before .before .args .names .now) (c .before .before .before .before .before .before .before .before .args .kind) (c .before .before .before .before .before .before .before .before .args .first) (c .before .before .before .before .before .before .before .before .args .second) (c .before .before .before .before .before .before .before .before .args .level) (c .before .if4 .taken)), c .before .before .before .before .before .before .before .before .pre .1)
+put-tagged-requires-2 c κs = let a = c .before .before .before .before .before .before .before .before .args in omega (arith, ap length (opening-typed (a .names .now) (a .kind) (a .first) (a .second) (a .level) (c .before .if4 .taken)), c .before .before .before .before .before .before .before .before .pre .1)
 
 same-length-4 : tie.Need-same-length-4
 same-length-4 c = search needs
 
 returns-4 : tie.Need-returns-4
-returns-4 c = wrote-same (sym (opening-typed (c .before .before .before .before .before .before .before .before .before .before .before .args .names .now) (c .before .before .before .before .before .before .before .before .before .before .before .args .kind) (c .before .before .before .before .before .before .before .before .before .before .before .args .first) (c .before .before .before .before .before .before .before .before .before .before .before .args .second) (c .before .before .before .before .before .before .before .before .before .before .before .args .level) (c .before .before .before .before .if4 .taken))) (c .before .before .put-tagged2 .ensures)
+returns-4 c = let a = c .before .before .before .before .before .before .before .before .before .before .before .args in wrote-same (sym (opening-typed (a .names .now) (a .kind) (a .first) (a .second) (a .level) (c .before .before .before .before .if4 .taken))) (c .before .before .put-tagged2 .ensures)
 
 prefix-byte-requires : tie.Need-prefix-byte-requires
 prefix-byte-requires c κs = search needs
 
 put-requires : tie.Need-put-requires
-put-requires c κs = omega (arith, ap length (opening-pointer (c .before .before .before .before .before .before .before .before .before .before .args .names .now) (c .before .before .before .before .before .before .before .before .before .before .args .kind) (c .before .before .before .before .before .before .before .before .before .before .args .first) (c .before .before .before .before .before .before .before .before .before .before .args .second) (c .before .before .before .before .before .before .before .before .before .before .args .level) (c .before .before .if5 .taken)), c .before .before .before .before .before .before .before .before .before .before .pre .1)
+put-requires c κs = let a = c .before .before .before .before .before .before .before .before .before .before .args in omega (arith, ap length (opening-pointer (a .names .now) (a .kind) (a .first) (a .second) (a .level) (c .before .before .if5 .taken)), c .before .before .before .before .before .before .before .before .before .before .pre .1)
 
 same-length-5 : tie.Need-same-length-5
 same-length-5 c = search needs
 
 returns-5 : tie.Need-returns-5
-returns-5 c = wrote-same (sym (opening-pointer (c .before .before .before .before .before .before .before .before .before .before .before .before .before .args .names .now) (c .before .before .before .before .before .before .before .before .before .before .before .before .before .args .kind) (c .before .before .before .before .before .before .before .before .before .before .before .before .before .args .first) (c .before .before .before .before .before .before .before .before .before .before .before .before .before .args .second) (c .before .before .before .before .before .before .before .before .before .before .before .before .before .args .level) (c .before .before .before .before .before .if5 .taken))) (wrote-same (ap (λ (x : ℕ). x ∷ []) (c .before .before .before .prefix-byte .ensures)) (c .before .before .put .ensures))
+returns-5 c = let a = c .before .before .before .before .before .before .before .before .before .before .before .before .before .args in wrote-same (sym (opening-pointer (a .names .now) (a .kind) (a .first) (a .second) (a .level) (c .before .before .before .before .before .if5 .taken))) (wrote-same (ap (λ (x : ℕ). x ∷ []) (c .before .before .before .prefix-byte .ensures)) (c .before .before .put .ensures))
 
 prefix-byte-requires-2 : tie.Need-prefix-byte-requires-2
 prefix-byte-requires-2 c κs = search needs
 
 put-requires-2 : tie.Need-put-requires-2
-put-requires-2 c κs = omega (arith, ap length (opening-atomic (c .before .before .before .before .before .before .before .before .before .before .before .args .names .now) (c .before .before .before .before .before .before .before .before .before .before .before .args .kind) (c .before .before .before .before .before .before .before .before .before .before .before .args .first) (c .before .before .before .before .before .before .before .before .before .before .before .args .second) (c .before .before .before .before .before .before .before .before .before .before .before .args .level) (c .before .before .if6 .taken)), c .before .before .before .before .before .before .before .before .before .before .before .pre .1)
+put-requires-2 c κs = let a = c .before .before .before .before .before .before .before .before .before .before .before .args in omega (arith, ap length (opening-atomic (a .names .now) (a .kind) (a .first) (a .second) (a .level) (c .before .before .if6 .taken)), c .before .before .before .before .before .before .before .before .before .before .before .pre .1)
 
 same-length-6 : tie.Need-same-length-6
 same-length-6 c = search needs
 
 returns-6 : tie.Need-returns-6
-returns-6 c = wrote-same (sym (opening-atomic (c .before .before .before .before .before .before .before .before .before .before .before .before .before .before .args .names .now) (c .before .before .before .before .before .before .before .before .before .before .before .before .before .before .args .kind) (c .before .before .before .before .before .before .before .before .before .before .before .before .before .before .args .first) (c .before .before .before .before .before .before .before .before .before .before .before .before .before .before .args .second) (c .before .before .before .before .before .before .before .before .before .before .before .before .before .before .args .level) (c .before .before .before .before .before .if6 .taken))) (wrote-same (ap (λ (x : ℕ). x ∷ []) (c .before .before .before .prefix-byte2 .ensures)) (c .before .before .put2 .ensures))
+returns-6 c = let a = c .before .before .before .before .before .before .before .before .before .before .before .before .before .before .args in wrote-same (sym (opening-atomic (a .names .now) (a .kind) (a .first) (a .second) (a .level) (c .before .before .before .before .before .if6 .taken))) (wrote-same (ap (λ (x : ℕ). x ∷ []) (c .before .before .before .prefix-byte2 .ensures)) (c .before .before .put2 .ensures))
 
 put-tagged-requires-3 : tie.Need-put-tagged-requires-3
-put-tagged-requires-3 c κs = omega (arith, ap length (opening-array (c .before .before .before .before .before .before .before .before .before .before .before .args .names .now) (c .before .before .before .before .before .before .before .before .before .before .before .args .kind) (c .before .before .before .before .before .before .before .before .before .before .before .args .first) (c .before .before .before .before .before .before .before .before .before .before .before .args .second) (c .before .before .before .before .before .before .before .before .before .before .before .args .level) (c .before .if7 .taken)), c .before .before .before .before .before .before .before .before .before .before .before .pre .1)
+put-tagged-requires-3 c κs = let a = c .before .before .before .before .before .before .before .before .before .before .before .args in omega (arith, ap length (opening-array (a .names .now) (a .kind) (a .first) (a .second) (a .level) (c .before .if7 .taken)), c .before .before .before .before .before .before .before .before .before .before .before .pre .1)
 
 same-length-7 : tie.Need-same-length-7
 same-length-7 c = search needs
 
 returns-7 : tie.Need-returns-7
-returns-7 c = wrote-same (sym (opening-array (c .before .before .before .before .before .before .before .before .before .before .before .before .before .before .args .names .now) (c .before .before .before .before .before .before .before .before .before .before .before .before .before .before .args .kind) (c .before .before .before .before .before .before .before .before .before .before .before .before .before .before .args .first) (c .before .before .before .before .before .before .before .before .before .before .before .before .before .before .args .second) (c .before .before .before .before .before .before .before .before .before .before .before .before .before .before .args .level) (c .before .before .before .before .if7 .taken))) (c .before .before .put-tagged3 .ensures)
+returns-7 c = let a = c .before .before .before .before .before .before .before .before .before .before .before .before .before .before .args in wrote-same (sym (opening-array (a .names .now) (a .kind) (a .first) (a .second) (a .level) (c .before .before .before .before .if7 .taken))) (c .before .before .put-tagged3 .ensures)
 
 returns-8 : tie.Need-returns-8
-returns-8 c = wrote-same (sym (opening-none (c .before .before .before .before .before .before .before .before .before .before .args .names .now) (c .before .before .before .before .before .before .before .before .before .before .args .kind) (c .before .before .before .before .before .before .before .before .before .before .args .first) (c .before .before .before .before .before .before .before .before .before .before .args .second) (c .before .before .before .before .before .before .before .before .before .before .args .level) (c .before .before .before .before .before .before .before .if1 .left) (sym (c .before .before .before .before .before .before .is-container .ensures) ∙ c .before .before .before .before .before .if2 .left) (c .before .before .before .before .if3 .left) (c .before .before .before .if4 .left) (c .before .before .if5 .left) (c .before .if6 .left) (c .if7 .left))) (wrote-none (c .before .before .before .before .before .before .before .before .before .before .args .out .now) (c .before .before .before .before .before .before .before .before .before .before .args .at))
+returns-8 c = let a = c .before .before .before .before .before .before .before .before .before .before .args in wrote-same (sym (opening-none (a .names .now) (a .kind) (a .first) (a .second) (a .level) (c .before .before .before .before .before .before .before .if1 .left) (sym (c .before .before .before .before .before .before .is-container .ensures) ∙ c .before .before .before .before .before .if2 .left) (c .before .before .before .before .if3 .left) (c .before .before .before .if4 .left) (c .before .before .if5 .left) (c .before .if6 .left) (c .if7 .left))) (wrote-none (a .out .now) (a .at))
 
 pub open-node-spec : {M : Type 1} → statement M
 open-node-spec =

@@ -3,8 +3,6 @@ use borrow.Author.Needs.{needs}
 use Rattle.static_str.proofs.OutputLaws.{wrote-byte}
 use Rattle.static_str.proofs.put.Statement.{statement}
 use Rattle.static_str.proofs.put.Tie as tie
-use Rattle.static_str.proofs.put.Reads as reads
-use Rattle.static_str.proofs.put.Lts as lts
 
 slice-write-out : tie.Need-slice-write-out
 slice-write-out c = search needs

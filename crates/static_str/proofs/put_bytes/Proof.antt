@@ -9,8 +9,6 @@ use Rattle.static_str.specs.Output.{written}
 use Rattle.static_str.proofs.OutputLaws.{written-none, written-more, wrote-whole}
 use Rattle.static_str.proofs.put_bytes.Statement.{statement}
 use Rattle.static_str.proofs.put_bytes.Tie as tie
-use Rattle.static_str.proofs.put_bytes.Reads as reads
-use Rattle.static_str.proofs.put_bytes.Lts as lts
 
 abbrev Inv-loop : tie.InvT-loop
 Inv-loop out₀ at s i₀ out i = (i ≤ length s) × (length out ≡ length out₀) × (out ≡ written out₀ at (take i s))
@@ -37,7 +35,7 @@ loop-less : tie.Need-loop-less Inv-loop μ-loop
 loop-less c = search needs
 
 loop-again : tie.Need-loop-again Inv-loop μ-loop
-loop-again c = let h = c .before .before .loop .inv in (omega arith, simp length-set (h .1), ap (λ (o : List ℕ). set o (c .before .before .before .args .at + c .before .before .loop .i) (getD (c .before .before .before .args .s .now) (c .before .before .loop .i) 0)) (h .2) ∙ written-more (c .before .before .before .args .out .now) (c .before .before .before .args .s .now) (c .before .before .before .args .at) (c .before .before .loop .i) _ (c .before .before .before .pre) (c .before .loop-test .taken) refl)
+loop-again c = let a = c .before .before .before .args in let h = c .before .before .loop .inv in (omega arith, simp length-set (h .1), ap (λ (o : List ℕ). set o (a .at + c .before .before .loop .i) (getD (a .s .now) (c .before .before .loop .i) 0)) (h .2) ∙ written-more (a .out .now) (a .s .now) (a .at) (c .before .before .loop .i) _ (c .before .before .before .pre) (c .before .loop-test .taken) refl)
 
 add-result : tie.Need-add-result Inv-loop μ-loop
 add-result c = search needs

@@ -8,10 +8,6 @@ use borrow.Author.Needs.{needs}
 use Rattle.static_str.proofs.OutputLaws.{wrote-same, wrote-none, wrote-append}
 use Rattle.static_str.proofs.put_code.Statement.{statement}
 use Rattle.static_str.proofs.put_code.Tie as tie
-use Rattle.static_str.proofs.put_code.Reads as reads
-use Rattle.static_str.proofs.put_code.Lts as lts
-use Rattle.kinds.proofs.primitive_code.Reads as primitive-code-reads
-use Rattle.static_str.proofs.put.Reads as put-reads
 
 primitive-code-requires : tie.Need-primitive-code-requires
 primitive-code-requires c κs = search needs

@@ -7,10 +7,6 @@ use Rattle.static_str.proofs.PartLaws.{fields-shown, fields-hidden}
 use Rattle.static_str.proofs.OutputLaws.{wrote-same, wrote-none}
 use Rattle.static_str.proofs.put_equals.Statement.{statement}
 use Rattle.static_str.proofs.put_equals.Tie as tie
-use Rattle.static_str.proofs.put_equals.Reads as reads
-use Rattle.static_str.proofs.put_equals.Lts as lts
-use Rattle.kinds.proofs.NestingLevel.container_include_fields.Reads as container-include-fields-reads
-use Rattle.static_str.proofs.put.Reads as put-reads
 
 container-include-fields-requires : tie.Need-container-include-fields-requires
 container-include-fields-requires c κs = search needs
@@ -31,7 +27,7 @@ returns : tie.Need-returns
 returns c = wrote-same (sym (fields-shown (c .before .before .before .before .before .before .before .before .args .level) _ (sym (c .before .before .before .before .before .before .container-include-fields .ensures) ∙ c .before .before .before .before .enum-told .given .1))) (c .before .before .put .ensures)
 
 returns-2 : tie.Need-returns-2
-returns-2 c = wrote-same (sym (fields-hidden (c .before .before .before .before .args .level) (sym (c .before .before .container-include-fields .ensures) ∙ c .enum-told2 .given .1))) (wrote-none (c .before .before .before .before .args .out .now) (c .before .before .before .before .args .at))
+returns-2 c = let a = c .before .before .before .before .args in wrote-same (sym (fields-hidden (a .level) (sym (c .before .before .container-include-fields .ensures) ∙ c .enum-told2 .given .1))) (wrote-none (a .out .now) (a .at))
 
 pub put-equals-spec : {M : Type 1} → statement M
 put-equals-spec =

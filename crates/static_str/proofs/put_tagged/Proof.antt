@@ -5,10 +5,6 @@ use Rattle.kinds.specs.Print.{decimal}
 use Rattle.static_str.proofs.OutputLaws.{wrote-append}
 use Rattle.static_str.proofs.put_tagged.Statement.{statement}
 use Rattle.static_str.proofs.put_tagged.Tie as tie
-use Rattle.static_str.proofs.put_tagged.Reads as reads
-use Rattle.static_str.proofs.put_tagged.Lts as lts
-use Rattle.static_str.proofs.put.Reads as put-reads
-use Rattle.static_str.proofs.put_number.Reads as put-number-reads
 
 put-requires : tie.Need-put-requires
 put-requires c κs = search needs

@@ -9,16 +9,12 @@ use Rattle.static_str.proofs.OutcomeLaws.{fitted-short, placed-short, f
 use borrow.Author.Needs.{needs}
 use Rattle.static_str.proofs.static_int_str_array.Statement.{statement}
 use Rattle.static_str.proofs.static_int_str_array.Tie as tie
-use Rattle.static_str.proofs.static_int_str_array.Reads as reads
-use Rattle.static_str.proofs.static_int_str_array.Lts as lts
-use Rattle.static_str.proofs.put_number.Reads as put-number-reads
-use Rattle.static_str.proofs.static_int_str_len.Reads as static-int-str-len-reads
 
 static-int-str-len-requires : tie.Need-static-int-str-len-requires
 static-int-str-len-requires c κs = search needs
 
 returns : tie.Need-returns
-returns c = let e = c .before .static-int-str-len .ensures in let h : length (c .before .before .before .args .out .now) < length (decimal (c .before .before .before .args .n)) = omega arith in (fitted-short (decimal (c .before .before .before .args .n)) (c .before .before .before .args .out .now) h, placed-short (decimal (c .before .before .before .args .n)) (c .before .before .before .args .out .now) h)
+returns c = let a = c .before .before .before .args in let e = c .before .static-int-str-len .ensures in let h : length (a .out .now) < length (decimal (a .n)) = omega arith in (fitted-short (decimal (a .n)) (a .out .now) h, placed-short (decimal (a .n)) (a .out .now) h)
 
 put-number-requires : tie.Need-put-number-requires
 put-number-requires c κs = search needs
@@ -27,7 +23,7 @@ same-length : tie.Need-same-length
 same-length c = search needs
 
 returns-2 : tie.Need-returns-2
-returns-2 c = let e = c .before .before .before .before .before .static-int-str-len .ensures in let h : length (decimal (c .before .before .before .before .before .before .before .args .n)) ≤ length (c .before .before .before .before .before .before .before .args .out .now) = omega arith in (ap Bytes e ∙ fitted-whole (decimal (c .before .before .before .before .before .before .before .args .n)) (c .before .before .before .before .before .before .before .args .out .now) h, placed-whole (decimal (c .before .before .before .before .before .before .before .args .n)) (c .before .before .before .before .before .before .before .args .out .now) h (c .before .before .put-number .ensures))
+returns-2 c = let a = c .before .before .before .before .before .before .before .args in let e = c .before .before .before .before .before .static-int-str-len .ensures in let h : length (decimal (a .n)) ≤ length (a .out .now) = omega arith in (ap Bytes e ∙ fitted-whole (decimal (a .n)) (a .out .now) h, placed-whole (decimal (a .n)) (a .out .now) h (c .before .before .put-number .ensures))
 
 pub static-int-str-array-spec : {M : Type 1} → statement M
 static-int-str-array-spec =

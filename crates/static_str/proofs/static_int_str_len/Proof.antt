@@ -1,5 +1,5 @@
 -- `static_str::static_int_str_len` meets its contract. Assumes nothing.
-use Prim.Native.Nat.{ℕ, _+_, _≤_}
+use Prim.Native.Nat.{_+_, _≤_}
 use mathlib.Core.Path.{_≡_}
 use native.Mathlib.Omega.{arith}
 use lib.ListN.{length}
@@ -7,8 +7,6 @@ use Rattle.kinds.specs.Print.{decimal}
 use Rattle.static_str.proofs.NumberLaws.{decimal-one, decimal-more}
 use Rattle.static_str.proofs.static_int_str_len.Statement.{statement}
 use Rattle.static_str.proofs.static_int_str_len.Tie as tie
-use Rattle.static_str.proofs.static_int_str_len.Reads as reads
-use Rattle.static_str.proofs.static_int_str_len.Lts as lts
 
 abbrev Inv-loop : tie.InvT-loop
 Inv-loop n rest₀ len₀ rest len = (len + rest ≤ n + 1) × (len + length (decimal rest) ≡ length (decimal n) + 1)

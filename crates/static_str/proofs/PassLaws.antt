@@ -1,0 +1,110 @@
+-- Trees side by side are one run of nodes, and a walk of the length may pass into a node's children as if they were trees after it.
+use Prim.Native.Nat.{ℕ, zero, suc, _+_, _-_, _*_, _≤_, _<_}
+use native.Mathlib.Omega.{arith}
+use mathlib.Core.Path.{_≡_, refl, ap, ap₂, sym, _∙_, subst}
+use mathlib.Core.Bool.{true}
+use mathlib.Core.List.{List, _++_, append-assoc}
+use lib.ListN.{length, length-append}
+use Rattle.kinds.specs.Print.{printNode, print}
+use Rattle.kinds.specs.Sheet.{kindAt, countAt, labelAt, trees, nests}
+use Rattle.kinds.specs.Tree.{inside}
+use Rattle.kinds.specs.Walk.{TreesAt}
+use Rattle.kinds.specs.declared.NestingLevel.{NestingLevel}
+use Rattle.kinds.proofs.SheetLaws.{trees-step, nests-on}
+use Rattle.kinds.proofs.NodeLaws.{node-arity, node-inner, first-some, first-within, first-node, other-trees, walk-inner}
+use Rattle.static_str.specs.Parts.{childrenLevel, childrenText, fieldsBelow, passed, passedText, maxNodeText, PassedLength, TreesLength}
+use Rattle.static_str.specs.declared.Below.{Below}
+use Rattle.static_str.specs.declared.Below.the-variants.{Same, Hidden, Deeper}
+use Rattle.static_str.proofs.PrintLaws.{no-text, dropped-text, included-text}
+
+module _ (w : List ℕ) where
+  nests-run : (f a b at : ℕ) → a ≤ f → TreesAt w at a → nests w b (at + 4 * a) ≡ true → nests w (a + b) at ≡ true
+  nests-run zero zero b at p h q = subst (λ (x : ℕ × ℕ). nests w (x .0) (x .1) ≡ true) (ap₂ (λ (m n : ℕ). (m, n)) (omega arith) (omega arith)) q
+  nests-run (suc f) zero b at p h q = subst (λ (x : ℕ × ℕ). nests w (x .0) (x .1) ≡ true) (ap₂ (λ (m n : ℕ). (m, n)) (omega arith) (omega arith)) q
+  nests-run zero (suc a) b at p h q = absurd (omega arith)
+  nests-run (suc f) (suc a) b at p h q =
+      let n = first-node w at (suc a) h (omega arith) in
+      let c = first-within w at (suc a) h (omega arith) in
+      let s = first-some w at (suc a) h (omega arith) in
+      nests-on w (suc a + b) at s (omega arith) (node-arity w at n) (node-inner w at n .nested)
+      ∙ ap (λ (m : ℕ). nests w m (at + 4 * countAt w at)) (omega arith)
+      ∙ nests-run f (suc a - countAt w at) b (at + 4 * countAt w at) (omega arith) (other-trees w at (suc a) h (omega arith)) (subst (λ (m : ℕ). nests w b m ≡ true) (omega arith) q)
+
+module _ (s w : List ℕ) (v : NestingLevel) where
+  text-run : (f a b at : ℕ) → a ≤ f → TreesAt w at a → print v (trees s w (a + b) at) ≡ print v (trees s w a at) ++ print v (trees s w b (at + 4 * a))
+  unfolding print
+  text-run zero zero b at p h = ap₂ (λ (m n : ℕ). print v (trees s w m n)) (omega arith) (omega arith) ∙ ap (λ (x : List ℕ). x ++ print v (trees s w b (at + 4 * zero))) (sym (no-text s w v zero at (omega arith)))
+  text-run (suc f) zero b at p h = ap₂ (λ (m n : ℕ). print v (trees s w m n)) (omega arith) (omega arith) ∙ ap (λ (x : List ℕ). x ++ print v (trees s w b (at + 4 * zero))) (sym (no-text s w v zero at (omega arith)))
+  text-run zero (suc a) b at p h = absurd (omega arith)
+  text-run (suc f) (suc a) b at p h =
+      let c = first-within w at (suc a) h (omega arith) in
+      let i = first-some w at (suc a) h (omega arith) in
+      let l = labelAt s w at in
+      let x = printNode l v (print (inside l v) (trees s w (countAt w at - 1) (at + 4))) in
+      let y = print v (trees s w (suc a - countAt w at) (at + 4 * countAt w at)) in
+      ap (print v) (trees-step s w (suc a + b) at i (omega arith))
+      ∙ ap (λ (m : ℕ). x ++ print v (trees s w m (at + 4 * countAt w at))) (omega arith)
+      ∙ ap (λ (z : List ℕ). x ++ z) (text-run f (suc a - countAt w at) b (at + 4 * countAt w at) (omega arith) (other-trees w at (suc a) h (omega arith)))
+      ∙ ap (λ (m : ℕ). x ++ (y ++ print v (trees s w b m))) (omega arith)
+      ∙ sym (append-assoc x y (print v (trees s w b (at + 4 * suc a))))
+      ∙ ap (λ (z : List ℕ). z ++ print v (trees s w b (at + 4 * suc a))) (sym (ap (print v) (trees-step s w (suc a) at i c)))
+
+module _ (w : List ℕ) (at m : ℕ) (h : TreesAt w at m) (p : 0 < m) where
+  -- the children and the trees after the first, as one run
+  inner-run : TreesAt w (at + 4 * 1) (m - 1)
+  inner-run =
+      let c = first-within w at m h p in
+      let i = first-some w at m h p in
+      let n = node-inner w at (first-node w at m h p) in
+      let o = other-trees w at m h p in
+      let r = h .room in
+      record {
+        room = omega arith;
+        nested = sym (ap₂ (λ (k j : ℕ). nests w k j) (omega arith) (omega arith)) ∙ nests-run w (countAt w at - 1) (countAt w at - 1) (m - countAt w at) (at + 4) (omega arith) n (subst (λ (j : ℕ). nests w (m - countAt w at) j ≡ true) (omega arith) (o .nested));
+      }
+
+  pass-trees-of : (b : Below) → TreesAt w (at + 4 * passed b (countAt w at)) (m - passed b (countAt w at))
+  pass-trees-of Same = inner-run
+  pass-trees-of Hidden = other-trees w at m h p
+  pass-trees-of (Deeper u) = other-trees w at m h p
+
+  pub pass-trees : (b : Below) (k : ℕ) → k ≡ passed b (countAt w at) → TreesAt w (at + 4 * k) (m - k)
+  pass-trees b k e = subst (λ (n : ℕ). TreesAt w (at + 4 * n) (m - n)) (sym e) (pass-trees-of b)
+
+  pub pass-some : (b : Below) → 1 ≤ passed b (countAt w at)
+  pass-some Same = omega arith
+  pass-some Hidden = first-some w at m h p
+  pass-some (Deeper u) = first-some w at m h p
+
+  pub pass-within : (b : Below) → passed b (countAt w at) ≤ m
+  pass-within Same = p
+  pass-within Hidden = first-within w at m h p
+  pass-within (Deeper u) = first-within w at m h p
+
+  module _ (s : List ℕ) (v : NestingLevel) where
+    inner-text : length (print v (trees s w (m - 1) (at + 4 * 1))) ≡ length (print v (trees s w (countAt w at - 1) (at + 4))) + length (print v (trees s w (m - countAt w at) (at + 4 * countAt w at)))
+    inner-text =
+        let c = first-within w at m h p in
+        let i = first-some w at m h p in
+        ap₂ (λ (k j : ℕ). length (print v (trees s w k j))) (omega arith) (omega arith)
+        ∙ ap length (text-run s w v (countAt w at - 1) (countAt w at - 1) (m - countAt w at) (at + 4) (omega arith) (node-inner w at (first-node w at m h p)))
+        ∙ length-append (print v (trees s w (countAt w at - 1) (at + 4))) (print v (trees s w (m - countAt w at) (at + 4 + 4 * (countAt w at - 1))))
+        ∙ ap (λ (j : ℕ). length (print v (trees s w (countAt w at - 1) (at + 4))) + length (print v (trees s w (m - countAt w at) j))) (omega arith)
+
+    pub pass-text : (b : Below) → fieldsBelow v b ≡ childrenLevel (kindAt w at) v → length (passedText b (trees s w (countAt w at - 1) (at + 4))) + length (print v (trees s w (m - passed b (countAt w at)) (at + 4 * passed b (countAt w at)))) ≡ length (childrenText s w at v) + length (print v (trees s w (m - countAt w at) (at + 4 * countAt w at)))
+    pass-text Same e = omega (arith, inner-text, ap length (included-text s w v at v (sym e)))
+    pass-text Hidden e = omega (arith, ap length (dropped-text s w v at (sym e)))
+    pass-text (Deeper u) e = omega (arith, ap length (included-text s w v at u (sym e)))
+
+-- the length of what is passed with a node, and its bound
+module _ (w : List ℕ) (at : ℕ) where
+  pub same-passed : {b : Below} → b ≡ Same → PassedLength w at b 0 × (0 + maxNodeText ≤ maxNodeText * passed b (countAt w at))
+  same-passed e = subst (λ (x : Below). PassedLength w at x 0 × (0 + maxNodeText ≤ maxNodeText * passed x (countAt w at))) (sym e) (λ s k. refl, omega arith)
+
+  pub hidden-passed : {b : Below} → b ≡ Hidden → 1 ≤ countAt w at → PassedLength w at b 0 × (0 + maxNodeText ≤ maxNodeText * passed b (countAt w at))
+  hidden-passed e p = subst (λ (x : Below). PassedLength w at x 0 × (0 + maxNodeText ≤ maxNodeText * passed x (countAt w at))) (sym e) (λ s k. refl, omega arith)
+
+  pub deeper-passed : {b : Below} {u : NestingLevel} {r : ℕ} → b ≡ Deeper u → 1 ≤ countAt w at → TreesLength w (at + 4) (countAt w at - 1) u r × (r ≤ maxNodeText * (countAt w at - 1)) → PassedLength w at b r × (r + maxNodeText ≤ maxNodeText * passed b (countAt w at))
+  deeper-passed {b} {u} {r} e p l =
+      let f = l .1 in
+      subst (λ (x : Below). PassedLength w at x r × (r + maxNodeText ≤ maxNodeText * passed x (countAt w at))) (sym e) (λ s k. l .0 s (walk-inner w (length s) at (countAt w at) k (countAt w at - 1) (omega arith)), omega arith)
