@@ -1,5 +1,5 @@
 -- The answers of the entry points, as the code reaches them.
-use Prim.Native.Nat.{ℕ, _+_, _-_, _*_, _≤_, _<_}
+use Prim.Native.Nat.{ℕ, _≤_, _<_}
 use native.Mathlib.Omega.{arith}
 use mathlib.Core.Path.{_≡_, refl, ap, ap₂, sym, _∙_, subst}
 use mathlib.Core.List.{List}
@@ -10,7 +10,7 @@ use lib.ListN.{length, getD}
 use Rattle.kinds.specs.Compare.{compareEncodings}
 use Rattle.kinds.specs.Parse.{maxU64}
 use Rattle.kinds.specs.Sheet.{isSheet, treeOf, trees, nodeWords, nests}
-use Rattle.kinds.specs.Size.{size, sizes, only}
+use Rattle.kinds.specs.Size.{size, only}
 use Rattle.kinds.specs.Sound.{goodNames}
 use Rattle.kinds.specs.Walk.{NodeAt, TreesAt, KindsAndNames}
 use Rattle.kinds.specs.declared.NestingLevel.{NestingLevel}
@@ -20,6 +20,7 @@ use Rattle.kinds.proofs.NodeLaws.{SheetSays, sheet-says, packed-walk}
 use Rattle.sheet.specs.Check.{checked}
 use Rattle.sheet.specs.declared.Checked.{Checked}
 use Rattle.sheet.specs.declared.Checked.the-variants.{NotASheet, BadName, Good}
+use Rattle.sheet.proofs.CheckLaws.{good-says}
 use Rattle.helper.specs.Answer.{sized, sizeAnswer, compareAnswer}
 use Rattle.helper.specs.Measure.{fit, clip, sizeAt, compareFields, bothChecked}
 use Rattle.helper.specs.declared.Compared.{Compared}
@@ -33,35 +34,36 @@ use Rattle.helper.proofs.CompareLaws.{fields-some}
 
 -- ---- A sheet that passes.
 
-pub good-sheet : (w s : List ℕ) → checked w s ≡ Good → isSheet w s ≡ true
-unfolding checked
-good-sheet w s h = go (isSheet w s) (goodNames (treeOf w s)) h
-  where
-    go : (x y : Bool) → cond x (cond y Good BadName) NotASheet ≡ Good → x ≡ true
-    go true y e = refl
-    go false y e = absurd (let z : _≡_ {A = ℕ} 0 1 = cc in omega arith)
+module _ (w s : List ℕ) (h : checked w s ≡ Good) where
+  says : SheetSays w s
+  says = sheet-says w s (good-says w s h .0)
 
-module _ (w s : List ℕ) (h : isSheet w s ≡ true) where
   pub sheet-room : 4 ≤ length w
-  sheet-room = let r = sheet-says w s h .head .room in omega arith
+  sheet-room = let r = says .head .room in omega arith
 
   pub sheet-some : 0 < getD w 0 0
-  sheet-some = sheet-says w s h .head .some-nodes
+  sheet-some = says .head .some-nodes
 
-  pub sheet-trees : TreesAt (nodeWords w) 0 (getD w 0 0)
-  sheet-trees =
-      let r = sheet-says w s h in
+  -- the walks over the node words `v` have these
+  pub trees-in : (v : List ℕ) → v ≡ nodeWords w → TreesAt v 0 (getD w 0 0)
+  trees-in v e =
+      let r = says in
       let c = r .count in
       let m = r .root .room in
-      record { room = omega arith; nested = subst (λ (n : ℕ). nests (nodeWords w) n 0 ≡ true) c (r .root .nested) }
+      subst (λ (x : List ℕ). TreesAt x 0 (getD w 0 0)) (sym e) (record { room = omega arith; nested = subst (λ (n : ℕ). nests (nodeWords w) n 0 ≡ true) c (r .root .nested) })
 
-  pub sheet-walk : KindsAndNames (nodeWords w) (length s) 0 (getD w 0 0)
-  sheet-walk = let r = sheet-says w s h in packed-walk (nodeWords w) (length s) (getD w 0 0) 0 0 (getD w 2 0) (r .head .bytes) (r .packs)
+  pub walk-in : (v : List ℕ) → v ≡ nodeWords w → KindsAndNames v (length s) 0 (getD w 0 0)
+  walk-in v e =
+      let r = says in
+      subst (λ (x : List ℕ). KindsAndNames x (length s) 0 (getD w 0 0)) (sym e) (packed-walk (nodeWords w) (length s) (getD w 0 0) 0 0 (getD w 2 0) (r .head .bytes) (r .packs))
+
+  pub node-in : (v : List ℕ) → v ≡ nodeWords w → NodeAt v 0
+  node-in v e = subst (λ (x : List ℕ). NodeAt x 0) (sym e) (says .root)
 
   sheet-size : size (treeOf w s) ≡ sizeAt s (nodeWords w) 0 Top
   unfolding size treeOf only
   sheet-size =
-      let r = sheet-says w s h in
+      let r = says in
       let c = r .count in
       ap only (sizes-step s (nodeWords w) 0 Top (getD w 0 0) (r .root .some-node) (omega arith))
 
@@ -99,7 +101,7 @@ pub size-measured : (w s v : List ℕ) → checked w s ≡ Good → v ≡ nodeWo
 size-measured w s v h e l f m d =
     ap measured (d ∙ ap₂ (λ (u : List ℕ) (x : NestingLevel). clip (sizeAt s u 0 x)) e f)
     ∙ sym (measured-clip (sizeAt s (nodeWords w) 0 Top))
-    ∙ ap sized (sym (sheet-size w s (good-sheet w s h)))
+    ∙ ap sized (sym (sheet-size w s h))
     ∙ size-checked w s Good h
 
 -- ---- `compare_encodings`.
@@ -109,7 +111,7 @@ compareOn NotASheet x = C.Refused R.NotASheet
 compareOn BadName x = C.Refused R.BadName
 compareOn Good x = x
 
-pub both-good : (x y : Checked) → bothChecked x y ≡ Good → (x ≡ Good) × (y ≡ Good)
+both-good : (x y : Checked) → bothChecked x y ≡ Good → (x ≡ Good) × (y ≡ Good)
 both-good NotASheet y h = absurd (let z : _≡_ {A = ℕ} 0 1 = cc in omega arith)
 both-good BadName NotASheet h = absurd (let z : _≡_ {A = ℕ} 0 1 = cc in omega arith)
 both-good BadName BadName h = absurd (let z : _≡_ {A = ℕ} 0 1 = cc in omega arith)
@@ -131,13 +133,23 @@ module _ (all : Bool) (aw an bw bn : List ℕ) where
       go true false false q = refl
       go false y p q = refl
 
-  pub compare-decided : bothChecked (checked aw an) (checked bw bn) ≡ Good → (v u : List ℕ) → v ≡ nodeWords aw → u ≡ nodeWords bw → (l : NestingLevel) → l ≡ Top → (r : Bool)
-      → r ≡ compareFields all l (trees an v (getD aw 0 0) 0) (trees bn u (getD bw 0 0) 0) → C.Decided r ≡ compareAnswer all aw an bw bn
-  unfolding treeOf
-  compare-decided h v u ev eu l f r d =
-      let g = both-good (checked aw an) (checked bw bn) h in
-      ap C.Decided (d
-      ∙ ap (λ (x : NestingLevel). compareFields all x (trees an v (getD aw 0 0) 0) (trees bn u (getD bw 0 0) 0)) f
-      ∙ ap₂ (λ (x y : List ℕ). compareFields all Top (trees an x (getD aw 0 0) 0) (trees bn y (getD bw 0 0) 0)) ev eu
-      ∙ fields-some all Top an (nodeWords aw) bn (nodeWords bw) (getD aw 0 0) (getD bw 0 0) 0 0 (sheet-some aw an (good-sheet aw an (g .0))) (sheet-some bw bn (good-sheet bw bn (g .1))))
-      ∙ compare-checked Good h
+  module _ (h : bothChecked (checked aw an) (checked bw bn) ≡ Good) where
+    good : (checked aw an ≡ Good) × (checked bw bn ≡ Good)
+    good = both-good (checked aw an) (checked bw bn) h
+
+    pub both-room : (4 ≤ length aw) × (4 ≤ length bw)
+    both-room = (sheet-room aw an (good .0), sheet-room bw bn (good .1))
+
+    -- what the walk over the node words `v` and `u` may rely on
+    pub both-walk : (v u : List ℕ) → v ≡ nodeWords aw → u ≡ nodeWords bw → (TreesAt v 0 (getD aw 0 0) × TreesAt u 0 (getD bw 0 0)) × (KindsAndNames v (length an) 0 (getD aw 0 0) × KindsAndNames u (length bn) 0 (getD bw 0 0))
+    both-walk v u e f = ((trees-in aw an (good .0) v e, trees-in bw bn (good .1) u f), (walk-in aw an (good .0) v e, walk-in bw bn (good .1) u f))
+
+    pub compare-decided : (v u : List ℕ) → v ≡ nodeWords aw → u ≡ nodeWords bw → (l : NestingLevel) → l ≡ Top → (r : Bool)
+        → r ≡ compareFields all l (trees an v (getD aw 0 0) 0) (trees bn u (getD bw 0 0) 0) → C.Decided r ≡ compareAnswer all aw an bw bn
+    unfolding treeOf
+    compare-decided v u ev eu l f r d =
+        ap C.Decided (d
+        ∙ ap (λ (x : NestingLevel). compareFields all x (trees an v (getD aw 0 0) 0) (trees bn u (getD bw 0 0) 0)) f
+        ∙ ap₂ (λ (x y : List ℕ). compareFields all Top (trees an x (getD aw 0 0) 0) (trees bn y (getD bw 0 0) 0)) ev eu
+        ∙ fields-some all Top an (nodeWords aw) bn (nodeWords bw) (getD aw 0 0) (getD bw 0 0) 0 0 (sheet-some aw an (good .0)) (sheet-some bw bn (good .1)))
+        ∙ compare-checked Good h

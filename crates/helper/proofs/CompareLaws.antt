@@ -4,8 +4,8 @@ use native.Mathlib.Omega.{arith}
 use native.Mathlib.Numerals.{add-one}
 use mathlib.Core.Path.{_≡_, refl, ap, ap₂, sym, _∙_, subst}
 use mathlib.Core.List.{List, [], _∷_}
-use mathlib.Core.Bool.{Bool, true, false, cond, _&&_, _||_, false≢true, and-true, and-false, and-assoc}
-use borrow.Author.Tests.{le-leb, lt-leb, leb-true, leb-false, eq-eqb, ne-eqb, eqb-true, eqb-false}
+use mathlib.Core.Bool.{Bool, true, false, cond, _&&_, _||_, false≢true, and-true, and-false}
+use borrow.Author.Tests.{leb-true, leb-false, ne-eqb, eqb-true}
 use lib.ListN.{length, getD, take, drop, drop-of-length-le}
 use lib.Seq.{drop-cons}
 use lib.Dec.{leb, eqb}
@@ -13,14 +13,14 @@ use Rattle.kinds.specs.Byte.{among, sameBytes}
 use Rattle.kinds.specs.Compare.{compareEncodings, compareLabels, compareChildren, lengthOrOffset, bits, levelFor}
 use Rattle.kinds.specs.Level.{showsFields, containerIncludeFields}
 use Rattle.kinds.specs.Primitive.{isObject, equivalent}
-use Rattle.kinds.specs.Sheet.{kindAt, firstAt, secondAt, countAt, labelAt, label, isContainerKind, hasOneChild, read, trees, nests, arity}
+use Rattle.kinds.specs.Sheet.{kindAt, firstAt, secondAt, countAt, labelAt, label, isContainerKind, read, trees, nests, arity}
 use Rattle.kinds.specs.Tree.{Label, Trees, end, node, isEnd, kind, name, isContainer, inside, shows}
 use Rattle.kinds.specs.Walk.{NodeAt, TreesAt, KindsAndNames}
 use Rattle.kinds.specs.declared.Fields.the-variants.{Included, Dropped}
 use Rattle.kinds.specs.declared.NestingLevel.{NestingLevel}
 use Rattle.kinds.specs.declared.NestingLevel.the-variants.{Top, Within, Bottom}
-use Rattle.kinds.proofs.SheetLaws.{both-left, both-right, arity-low, arity-high, nests-step, nests-none, trees-step}
-use Rattle.kinds.proofs.NodeLaws.{node-arity, node-child, node-inner, child-count, first-some, first-within, first-node, other-trees, label-primitive, label-struct, label-union, by-kind, kind-label, container-label, not-container, no-trees, some-trees, walk-here, walk-inner, walk-rest}
+use Rattle.kinds.proofs.SheetLaws.{both-left, arity-low, arity-high, nests-step, nests-none, trees-step}
+use Rattle.kinds.proofs.NodeLaws.{node-arity, node-child, node-inner, child-count, first-some, first-within, first-node, other-trees, label-primitive, label-struct, label-union, by-kind, kind-label, container-label, no-trees, some-trees, walk-here, walk-inner, walk-rest}
 use Rattle.helper.specs.Measure.{compareFields, shownCount, levelAfter}
 use Rattle.helper.proofs.NodeSizeLaws.{included, dropped}
 
@@ -380,6 +380,15 @@ shown-trees Top w at n h = h
 shown-trees Within w at n h = h
 shown-trees Bottom w at n h = record { room = let r = h .room in omega arith; nested = nests-none w 0 at (omega arith) }
 
+-- The first trees of two runs lie within them, and the runs within the node words.
+pub record Bounds (w : List ℕ) (at n : ℕ) (w' : List ℕ) (bt m : ℕ) : Type 0 where
+  pub first-some : 1 ≤ countAt w at
+  pub first-within : countAt w at ≤ n
+  pub first-room : at + 4 * n ≤ length w
+  pub second-some : 1 ≤ countAt w' bt
+  pub second-within : countAt w' bt ≤ m
+  pub second-room : bt + 4 * m ≤ length w'
+
 -- What is left to compare has the answer `r`.
 pub record Left (all : Bool) (v : NestingLevel) (s w s' w' : List ℕ) (at n bt m : ℕ) (here : NestingLevel) (r : Bool) : Type 0 where
   pub first : TreesAt w at n
@@ -388,7 +397,7 @@ pub record Left (all : Bool) (v : NestingLevel) (s w s' w' : List ℕ) (at n bt 
   pub second-walk : KindsAndNames w' (length s') bt m
   pub rest : resume all here v (trees s w n at) (trees s' w' m bt) ≡ r
 
-module _ (all : Bool) (v : NestingLevel) (s w s' w' : List ℕ) (at n bt m : ℕ) (here : NestingLevel) (r : Bool) (l : Left all v s w s' w' at n bt m here r) where
+module _ {all : Bool} {v : NestingLevel} {s w s' w' : List ℕ} {at n bt m : ℕ} {here : NestingLevel} {r : Bool} (l : Left all v s w s' w' at n bt m here r) where
   left-moved : (i₀ j₀ : ℕ) (x₀ : NestingLevel) (i j : ℕ) → i ≡ i₀ → j ≡ j₀ → (x : NestingLevel) → x ≡ x₀
       → Left all v s w s' w' (at + 4 * i₀) (n - i₀) (bt + 4 * j₀) (m - j₀) x₀ r → Left all v s w s' w' (at + 4 * i) (n - i) (bt + 4 * j) (m - j) x r
   left-moved i₀ j₀ x₀ i j ei ej x ex k =
@@ -404,6 +413,16 @@ module _ (all : Bool) (v : NestingLevel) (s w s' w' : List ℕ) (at n bt m : ℕ
     left-short q = sym (resume-short all here v s w s' w' n m at bt p q) ∙ l .rest
 
     module _ (q : 0 < m) where
+      pub left-bounds : Bounds w at n w' bt m
+      left-bounds = record {
+        first-some = first-some w at n (l .first) p;
+        first-within = first-within w at n (l .first) p;
+        first-room = l .first .room;
+        second-some = first-some w' bt m (l .second) q;
+        second-within = first-within w' bt m (l .second) q;
+        second-room = l .second .room;
+      }
+
       pub left-differ : compareLabels (labelAt s w at) (labelAt s' w' bt) ≡ false → false ≡ r
       left-differ e = sym (resume-differ all here v s w s' w' n m at bt (l .first) (l .second) p q e) ∙ l .rest
 
@@ -415,7 +434,7 @@ module _ (all : Bool) (v : NestingLevel) (s w s' w' : List ℕ) (at n bt m : ℕ
         kb = walk-here w' (length s') bt m (l .second-walk) q .kind
 
         -- a container, of whose fields `k` nodes are shown
-        module _ (c : isContainerKind (kindAt w at) ≡ true) (u : NestingLevel) (lu : u ≡ levelFor all here) (k : ℕ) (lk : k ≡ shownCount u (countAt w at - 1)) where
+        module _ (c : isContainerKind (kindAt w at) ≡ true) {u : NestingLevel} (lu : u ≡ levelFor all here) {k : ℕ} (lk : k ≡ shownCount u (countAt w at - 1)) where
           container : (compareFields all Within (trees s w k (at + 4)) (trees s' w' (countAt w' bt - 1) (bt + 4))
               && compareEncodings all v (trees s w (n - countAt w at) (at + 4 * countAt w at)) (trees s' w' (m - countAt w' bt) (bt + 4 * countAt w' bt))) ≡ r
           container =
@@ -426,8 +445,8 @@ module _ (all : Bool) (v : NestingLevel) (s w s' w' : List ℕ) (at n bt m : ℕ
           left-fields f = sym (rw f) ∙ container
 
           pub left-after : compareFields all Within (trees s w k (at + 4)) (trees s' w' (countAt w' bt - 1) (bt + 4)) ≡ true
-              → (i j : ℕ) → i ≡ countAt w at → j ≡ countAt w' bt → (x : NestingLevel) → x ≡ levelAfter all (kindAt w at) v here → Left all v s w s' w' (at + 4 * i) (n - i) (bt + 4 * j) (m - j) x r
-          left-after f i j ei ej x ex = left-moved (countAt w at) (countAt w' bt) (levelAfter all (kindAt w at) v here) i j ei ej x ex (record {
+              → {i j : ℕ} → i ≡ countAt w at → j ≡ countAt w' bt → {x : NestingLevel} → x ≡ levelAfter all (kindAt w at) v here → Left all v s w s' w' (at + 4 * i) (n - i) (bt + 4 * j) (m - j) x r
+          left-after f {i} {j} ei ej {x} ex = left-moved (countAt w at) (countAt w' bt) (levelAfter all (kindAt w at) v here) i j ei ej x ex (record {
             first = other-trees w at n (l .first) p;
             second = other-trees w' bt m (l .second) q;
             first-walk = walk-rest w (length s) at n (l .first-walk) (countAt w at) (first-within w at n (l .first) p);
@@ -449,8 +468,8 @@ module _ (all : Bool) (v : NestingLevel) (s w s' w' : List ℕ) (at n bt m : ℕ
                 (walk-inner w (length s) at n (l .first-walk) k (omega arith), walk-inner w' (length s') bt m (l .second-walk) (countAt w' bt - 1) (omega arith)),
               )
 
-        pub left-next : isContainerKind (kindAt w at) ≡ false → (i j : ℕ) → i ≡ 1 → j ≡ 1 → (x : NestingLevel) → x ≡ levelAfter all (kindAt w at) v here → Left all v s w s' w' (at + 4 * i) (n - i) (bt + 4 * j) (m - j) x r
-        left-next c i j ei ej x ex = left-moved 1 1 (levelAfter all (kindAt w at) v here) i j ei ej x ex (record {
+        pub left-next : isContainerKind (kindAt w at) ≡ false → {i j : ℕ} → i ≡ 1 → j ≡ 1 → {x : NestingLevel} → x ≡ levelAfter all (kindAt w at) v here → Left all v s w s' w' (at + 4 * i) (n - i) (bt + 4 * j) (m - j) x r
+        left-next c {i} {j} ei ej {x} ex = left-moved 1 1 (levelAfter all (kindAt w at) v here) i j ei ej x ex (record {
           first = after-trees w at n (l .first) p c;
           second = after-trees w' bt m (l .second) q (plain-partner (kindAt w at) (kindAt w' bt) (labels-kinds s w at s' w' bt ka kb e) c);
           first-walk = walk-rest w (length s) at n (l .first-walk) 1 (omega arith);

@@ -1,28 +1,31 @@
 -- The size of each kind of node, and the walk over a container's fields.
 use Prim.Native.Nat.{ℕ, zero, suc, _+_, _-_, _*_, _≤_, _<_, max}
 use native.Mathlib.Omega.{arith}
-use mathlib.Core.Path.{_≡_, refl, ap, sym, _∙_}
-use mathlib.Core.List.{List, [], _∷_}
+use mathlib.Core.Path.{_≡_, refl, ap, ap₂, sym, _∙_}
+use mathlib.Core.List.{List, _∷_}
 use mathlib.Core.Option.{Option, some, none}
 use mathlib.Core.Bool.{Bool, true, false, cond, _||_, false≢true}
-use borrow.Author.Tests.{ne-eqb, eqb-true, eqb-false}
+use borrow.Author.Tests.{lt-leb, leb-true, leb-false, ne-eqb, eqb-true, eqb-false}
 use lib.Dec.{leb, eqb}
+use lib.ListN.{length}
 use Rattle.kinds.specs.Level.{showsFields, containerIncludeFields}
 use Rattle.kinds.specs.Parse.{maxU64}
-use Rattle.kinds.specs.Primitive.{primitiveSize}
 use Rattle.kinds.specs.Sheet.{kindAt, firstAt, secondAt, countAt, labelAt, isContainerKind, read, trees}
 use Rattle.kinds.specs.Size.{bitBytes, plus, larger, times, orZero, sum, largest, only, nodeSize, sizes}
 use Rattle.kinds.specs.Tree.{inside}
-use Rattle.kinds.specs.Walk.{NodeAt}
-use Rattle.kinds.specs.declared.Fields.{Fields}
+use Rattle.kinds.specs.Walk.{NodeAt, TreesAt}
 use Rattle.kinds.specs.declared.Fields.the-variants.{Included, Dropped}
 use Rattle.kinds.specs.declared.NestingLevel.{NestingLevel}
 use Rattle.kinds.specs.declared.NestingLevel.the-variants.{Top, Within, Bottom}
 use Rattle.kinds.proofs.SheetLaws.{trees-step}
-use Rattle.kinds.proofs.NodeLaws.{child-count, node-child, label-primitive, label-bits, label-typed, label-pointer, label-atomic, label-array, label-struct, label-union, label-none}
-use Rattle.helper.specs.Measure.{clip, join, fold, holding, sizeAt}
+use Rattle.kinds.proofs.NodeLaws.{child-count, node-child, first-some, first-within, first-node, other-trees, label-primitive, label-bits, label-typed, label-pointer, label-atomic, label-array, label-struct, label-union, label-none}
+use Rattle.helper.specs.Measure.{clip, joinMeasured, join, fold, holding, isLeaf, leafSize, sizeAt}
+use Rattle.helper.specs.declared.Measured.{Measured}
 use Rattle.helper.specs.declared.Measured.the-variants.{Bytes}
-use Rattle.helper.proofs.SizeLaws.{clip-some, join-assoc, fold-cons, larger-some}
+use Rattle.helper.proofs.SizeLaws.{clip-some, clip-join, join-assoc, fold-cons, larger-some}
+
+lt-of : {k : ℕ} → k ≤ 23 → k < 24
+lt-of p = omega arith
 
 module _ (s w : List ℕ) (at : ℕ) where
   -- the trees of `n` nodes, by their sizes
@@ -30,21 +33,21 @@ module _ (s w : List ℕ) (at : ℕ) where
   unfolding sizes sizeAt
   sizes-step v n p q = rw (trees-step s w n at p q)
 
-  pub size-primitive : (v : NestingLevel) → kindAt w at < 24 → sizeAt s w at v ≡ primitiveSize (kindAt w at)
-  unfolding sizeAt nodeSize
-  size-primitive v p = rw (label-primitive s (kindAt w at) (firstAt w at) (secondAt w at) p)
+  pub size-leaf : (v : NestingLevel) → isLeaf (kindAt w at) ≡ true → sizeAt s w at v ≡ leafSize (kindAt w at) (secondAt w at)
+  unfolding sizeAt nodeSize leafSize isLeaf
+  size-leaf v h = go (leb (kindAt w at) 23) refl (eqb (kindAt w at) 24) refl (eqb (kindAt w at) 26) refl
+    where
+      high : (kindAt w at ≤ 23 → ⊥) → (kindAt w at ≡ 24 → ⊥) → (kindAt w at ≡ 26 → ⊥) → 30 < kindAt w at
+      high a b c = leb-true 31 (kindAt w at) (rw (lt-leb (kindAt w at) 24 (omega arith), ne-eqb (kindAt w at) 26 c) at h)
 
-  pub size-bits : (v : NestingLevel) → kindAt w at ≡ 24 → sizeAt s w at v ≡ some (bitBytes (secondAt w at))
-  unfolding sizeAt nodeSize
-  size-bits v p = rw (label-bits s (kindAt w at) (firstAt w at) (secondAt w at) p)
+      no : 23 < kindAt w at → kindAt w at ≤ 23 → ⊥
+      no a b = omega arith
 
-  pub size-pointer : (v : NestingLevel) → kindAt w at ≡ 26 → sizeAt s w at v ≡ some 8
-  unfolding sizeAt nodeSize
-  size-pointer v p = rw (label-pointer s (kindAt w at) (firstAt w at) (secondAt w at) p)
-
-  pub size-none : (v : NestingLevel) → 30 < kindAt w at → sizeAt s w at v ≡ none
-  unfolding sizeAt nodeSize
-  size-none v p = rw (label-none s (kindAt w at) (firstAt w at) (secondAt w at) p)
+      go : (t : Bool) → leb (kindAt w at) 23 ≡ t → (u : Bool) → eqb (kindAt w at) 24 ≡ u → (x : Bool) → eqb (kindAt w at) 26 ≡ x → sizeAt s w at v ≡ leafSize (kindAt w at) (secondAt w at)
+      go true e u d x f = rw (label-primitive s (kindAt w at) (firstAt w at) (secondAt w at) (lt-of (leb-true (kindAt w at) 23 e)), e)
+      go false e true d x f = rw (label-bits s (kindAt w at) (firstAt w at) (secondAt w at) (eqb-true (kindAt w at) 24 d), e, d)
+      go false e false d true f = rw (label-pointer s (kindAt w at) (firstAt w at) (secondAt w at) (eqb-true (kindAt w at) 26 f), e, d, f)
+      go false e false d false f = rw (label-none s (kindAt w at) (firstAt w at) (secondAt w at) (high (no (leb-false (kindAt w at) 23 e)) (eqb-false (kindAt w at) 24 d) (eqb-false (kindAt w at) 26 f)), e, d, f)
 
   size-container : (v : NestingLevel) → isContainerKind (kindAt w at) ≡ true → sizeAt s w at v ≡ cond (showsFields v) (fold (kindAt w at) (sizes Within (trees s w (countAt w at - 1) (at + 4)))) none
   unfolding sizeAt nodeSize fold
@@ -80,7 +83,7 @@ module _ (s w : List ℕ) (at : ℕ) where
             rw (label-atomic s (kindAt w at) (firstAt w at) (secondAt w at) (last (eqb-false (kindAt w at) 25 e) (eqb-false (kindAt w at) 28 d)), e, d) (only-child Bottom)
 
   -- a turn of the walk over a container's fields
-  pub fold-turn : (k : ℕ) (v : NestingLevel) (n : ℕ) (e : Option ℕ) → 1 ≤ countAt w at → countAt w at ≤ n
+  fold-turn : (k : ℕ) (v : NestingLevel) (n : ℕ) (e : Option ℕ) → 1 ≤ countAt w at → countAt w at ≤ n
       → join k e (fold k (sizes v (trees s w n at))) ≡ join k (join k e (sizeAt s w at v)) (fold k (sizes v (trees s w (n - countAt w at) (at + 4 * countAt w at))))
   fold-turn k v n e p q =
       ap (λ l. join k e (fold k l)) (sizes-step v n p q)
@@ -97,7 +100,7 @@ unfolding larger
 larger-end none = refl
 larger-end (some n) = refl
 
-pub fold-end : (s w : List ℕ) (at k : ℕ) (v : NestingLevel) (n : ℕ) (e : Option ℕ) → n ≤ 0 → join k e (fold k (sizes v (trees s w n at))) ≡ e
+fold-end : (s w : List ℕ) (at k : ℕ) (v : NestingLevel) (n : ℕ) (e : Option ℕ) → n ≤ 0 → join k e (fold k (sizes v (trees s w n at))) ≡ e
 unfolding join fold sizes trees read sum largest
 fold-end s w at k v zero e p = go (eqb k 29)
   where
@@ -120,6 +123,20 @@ bits-fit n = go (leb n 8) (leb n 16) (leb n 32) (leb n 64) (leb n 128)
 
 pub clip-bits : (b : ℕ) → clip (some (bitBytes b)) ≡ Bytes (bitBytes b)
 clip-bits b = clip-some (bitBytes b) (bits-fit b)
+
+-- what is no leaf
+pub not-leaf : (k : ℕ) → isLeaf k ≡ false → (25 ≤ k) × (k ≤ 30) × (k ≡ 26 → ⊥)
+unfolding isLeaf
+not-leaf k h = go (leb k 24) refl (eqb k 26) refl (leb 31 k) refl h
+  where
+    go : (t : Bool) → leb k 24 ≡ t → (u : Bool) → eqb k 26 ≡ u → (x : Bool) → leb 31 k ≡ x → (t || (u || x)) ≡ false → (25 ≤ k) × (k ≤ 30) × (k ≡ 26 → ⊥)
+    go true a u b x c e = absurd (false≢true (sym e))
+    go false a true b x c e = absurd (false≢true (sym e))
+    go false a false b true c e = absurd (false≢true (sym e))
+    go false a false b false c e = (leb-false k 24 a, le (leb-false 31 k c), eqb-false k 26 b)
+      where
+        le : k < 31 → k ≤ 30
+        le p = omega arith
 
 -- kinds 29 and 30
 pub container-kind : (k : ℕ) → 29 ≤ k → k ≤ 30 → isContainerKind k ≡ true
@@ -150,3 +167,30 @@ module _ (s w : List ℕ) (at : ℕ) (v : NestingLevel) (p : isContainerKind (ki
   size-included u h =
       ap (λ x. fold (kindAt w at) (sizes x (trees s w (countAt w at - 1) (at + 4)))) (included v u h .1)
       ∙ sym (size-container s w at v p ∙ rw (included v u h .0))
+
+-- What is gathered of a container's fields: `all` of those before `at`, with the sizes of the `n` nodes from there on, makes `total`.
+pub record Gathered (k : ℕ) (v : NestingLevel) (w : List ℕ) (at n : ℕ) (all : Measured) (total : List ℕ → Option ℕ) : Type 0 where
+  pub there : TreesAt w at n
+  pub rest : (s : List ℕ) → (e : Option ℕ) × (all ≡ clip e) × (join k e (fold k (sizes v (trees s w n at))) ≡ total s)
+
+module _ {k : ℕ} {v : NestingLevel} {w : List ℕ} {at n : ℕ} {all : Measured} {total : List ℕ → Option ℕ} (g : Gathered k v w at n all total) where
+  pub gathered-end : n ≤ 0 → (s : List ℕ) → all ≡ clip (total s)
+  gathered-end p s = let i = g .rest s in i .1 ∙ ap clip (sym (fold-end s w at k v n (i .0) p) ∙ i .2)
+
+  module _ (p : 0 < n) where
+    pub gathered-node : NodeAt w at
+    gathered-node = first-node w at n (g .there) p
+
+    pub gathered-within : (1 ≤ countAt w at) × (countAt w at ≤ n) × (at + 4 * n ≤ length w)
+    gathered-within = (first-some w at n (g .there) p, first-within w at n (g .there) p, g .there .room)
+
+    pub gathered-turn : (x : Measured) → ((s : List ℕ) → x ≡ clip (sizeAt s w at v)) → {y : Measured} → y ≡ joinMeasured k all x → Gathered k v w (at + 4 * countAt w at) (n - countAt w at) y total
+    gathered-turn x e {y} d = record {
+      there = other-trees w at n (g .there) p;
+      rest = λ s.
+          let i = g .rest s in (
+            join k (i .0) (sizeAt s w at v),
+            d ∙ ap₂ (joinMeasured k) (i .1) (e s) ∙ clip-join k (i .0) (sizeAt s w at v),
+            sym (fold-turn s w at k v n (i .0) (first-some w at n (g .there) p) (first-within w at n (g .there) p)) ∙ i .2,
+          );
+    }

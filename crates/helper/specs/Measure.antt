@@ -7,9 +7,10 @@ use lib.Dec.{leb, eqb}
 use Rattle.kinds.specs.Compare.{compareEncodings, levelFor}
 use Rattle.kinds.specs.Level.{showsFields}
 use Rattle.kinds.specs.Parse.{maxU64}
-use Rattle.kinds.specs.Sheet.{countAt, labelAt, trees, isContainerKind, hasOneChild, label}
+use Rattle.kinds.specs.Primitive.{primitiveSize}
+use Rattle.kinds.specs.Sheet.{countAt, labelAt, trees, hasOneChild, label}
 use Rattle.kinds.specs.Size.{nodeSize, sizes, plus, larger, times, bitBytes, sum, largest}
-use Rattle.kinds.specs.Tree.{Label, Trees, isEnd, inside}
+use Rattle.kinds.specs.Tree.{Trees, isEnd, inside}
 use Rattle.kinds.specs.declared.NestingLevel.{NestingLevel}
 use Rattle.sheet.specs.declared.Checked.{Checked}
 use Rattle.sheet.specs.declared.Checked.the-variants.{NotASheet, BadName, Good}
@@ -65,6 +66,14 @@ holdingMeasured k a b x = cond (eqb k 25) (largerMeasured (Bytes (bitBytes b)) x
 
 unfoldable pub holding : ℕ → ℕ → ℕ → Option ℕ → Option ℕ
 holding k a b x = cond (eqb k 25) (larger (some (bitBytes b)) x) (cond (eqb k 28) (times a x) x)
+
+-- A node whose size does not depend on what it holds: a primitive, a bitfield without a type, a pointer, None.
+unfoldable pub isLeaf : ℕ → Bool
+isLeaf k = leb k 24 || (eqb k 26 || leb 31 k)
+
+-- The size of such a node with the second number `b`.
+unfoldable pub leafSize : ℕ → ℕ → Option ℕ
+leafSize k b = cond (leb k 23) (primitiveSize k) (cond (eqb k 24) (some (bitBytes b)) (cond (eqb k 26) (some 8) none))
 
 -- The size of the node at `at`.
 unfoldable pub sizeAt : List ℕ → List ℕ → ℕ → NestingLevel → Option ℕ

@@ -7,12 +7,12 @@ ghost use lib.ListN.{length, take, drop};
 ghost use Rattle.kinds.specs.Byte.{sameBytes};
 ghost use Rattle.kinds.specs.Compare.{compareLabels, levelFor};
 ghost use Rattle.kinds.specs.Primitive.{primitiveSize};
-ghost use Rattle.kinds.specs.Sheet.{label, labelAt, kindAt, firstAt, secondAt, isContainerKind, hasOneChild, trees};
+ghost use Rattle.kinds.specs.Sheet.{label, labelAt, firstAt, secondAt, isContainerKind, trees};
 ghost use Rattle.kinds.specs.Size.{bitBytes};
 ghost use Rattle.kinds.specs.Tree.{inside};
 ghost use Rattle.kinds.specs.Walk.{NodeAt, TreesAt, KindAndName, KindsAndNames};
 ghost use Rattle.helper.specs.Answer.{sizeAnswer, compareAnswer};
-ghost use Rattle.helper.specs.Measure.{clip, plusMeasured, largerMeasured, timesMeasured, joinMeasured, fold, holdingMeasured, sizeAt, compareFields, shownCount, levelAfter, bothChecked};
+ghost use Rattle.helper.specs.Measure.{clip, plusMeasured, largerMeasured, timesMeasured, joinMeasured, fold, holdingMeasured, isLeaf, leafSize, sizeAt, compareFields, shownCount, levelAfter, bothChecked};
 use kinds::Fields;
 use kinds::IndirectionKind;
 use kinds::NestingLevel;
@@ -195,27 +195,46 @@ fn level_below(kind: u64, level: NestingLevel) -> NestingLevel
     level.bitfield()
 }
 
-// The size of the node at `at`, from the sizes of its children.
+// A node whose size does not depend on what it holds: a primitive, a bitfield without a type, a pointer, None.
+fn is_leaf(kind: u64) -> bool
+    ensures { λ r. ⌜ r ≡ isLeaf kind ⌝ }
+{
+    if kind < 25 {
+        return true;
+    }
+    if kind == 26 {
+        return true;
+    }
+    30 < kind
+}
+
+fn leaf_size(kind: u64, bits: u64) -> Measured
+    ensures { λ r. ⌜ r ≡ clip (leafSize kind bits) ⌝ }
+{
+    if kind < 24 {
+        return Measured::of_primitive(kind);
+    }
+    if kind == 24 {
+        return Measured::Bytes(bit_bytes(bits));
+    }
+    if kind == 26 {
+        return Measured::Bytes(8);
+    }
+    Measured::Nothing
+}
+
+// The size of the node at `at`, from the sizes of its children. Leaves among a container's fields need no call of their own.
 fn size_of(nodes: &[u64], at: usize, level: NestingLevel) -> Measured
     requires { ⌜ NodeAt (now nodes) at ⌝ }
     ensures { λ r. ⌜ ((s : List ℕ) → r ≡ clip (sizeAt s (now (nodes .entry)) at level)) ⌝ }
 {
     let kind = nodes[at];
-    if kind < 24 {
-        return Measured::of_primitive(kind);
-    }
-    if kind == 24 {
-        return Measured::Bytes(bit_bytes(nodes[at + 2]));
-    }
-    if kind == 26 {
-        return Measured::Bytes(8);
+    if is_leaf(kind) {
+        return leaf_size(kind, nodes[at + 2]);
     }
     if kind < 29 {
         let item = size_of(nodes, at + 4, level_below(kind, level));
         return item.held_by(kind, nodes[at + 1], nodes[at + 2]);
-    }
-    if 30 < kind {
-        return Measured::Nothing;
     }
     let Fields::Included(inner) = level.container_include_fields() else {
         return Measured::Nothing;
@@ -224,10 +243,15 @@ fn size_of(nodes: &[u64], at: usize, level: NestingLevel) -> Measured
     let mut left = (nodes[at + 3] as usize) - 1;
     let mut all = Measured::of_no_fields(kind);
     while 0 < left {
-        all = all.join(kind, size_of(nodes, child, inner));
+        let field = nodes[child];
+        let mut item = leaf_size(field, nodes[child + 2]);
+        if !is_leaf(field) {
+            item = size_of(nodes, child, inner);
+        }
+        all = all.join(kind, item);
         let count = nodes[child + 3] as usize;
-        child = child + 4 * count;
-        left = left - count;
+        child += 4 * count;
+        left -= count;
     }
     all
 }
@@ -385,18 +409,8 @@ fn compare_fields(
             c = a[at + 3] as usize;
             d = b[bt + 3] as usize;
             let shown = shown_count(level_for(all, here), c - 1);
-            if !compare_fields(
-                a,
-                an,
-                at + 4,
-                shown,
-                b,
-                bn,
-                bt + 4,
-                d - 1,
-                NestingLevel::Within,
-                all,
-            ) {
+            let inner = NestingLevel::Within;
+            if !compare_fields(a, an, at + 4, shown, b, bn, bt + 4, d - 1, inner, all) {
                 return false;
             }
         }
@@ -447,20 +461,10 @@ pub fn compare_encodings(aw: &[u64], an: &[u8], bw: &[u64], bn: &[u8], all: bool
         Checked::NotASheet => Compared::Refused(Refusal::NotASheet),
         Checked::BadName => Compared::Refused(Refusal::BadName),
         Checked::Good => {
+            let top = NestingLevel::new();
             let n = aw[0] as usize;
             let m = bw[0] as usize;
-            Compared::Decided(compare_fields(
-                &aw[4..],
-                an,
-                0,
-                n,
-                &bw[4..],
-                bn,
-                0,
-                m,
-                NestingLevel::new(),
-                all,
-            ))
+            Compared::Decided(compare_fields(&aw[4..], an, 0, n, &bw[4..], bn, 0, m, top, all))
         }
     }
 }

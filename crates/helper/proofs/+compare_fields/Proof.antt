@@ -12,16 +12,15 @@ use Rattle.helper.proofs.shown_count.Reads as shown-count-reads
 use Rattle.helper.proofs.+compare_fields.{statement}
 use Rattle.helper.proofs.+compare_fields.Tie.{close}
 use borrow.Author.Tests.{not-true, not-false}
-use mathlib.Core.Path.{_≡_, refl, sym, ap, ap₂, _∙_}
+use mathlib.Core.Path.{sym, _∙_}
 use native.Mathlib.Omega.{arith}
 use borrow.Author.Needs.{needs}
-use Prim.Native.Nat.{_+_, _-_, _*_, _≤_}
+use Prim.Native.Nat.{_≤_}
 use mathlib.Core.Logic.{⊎-elim}
-use Rattle.kinds.specs.Compare.{compareEncodings, levelFor}
-use Rattle.kinds.specs.Sheet.{kindAt, countAt, trees}
-use Rattle.kinds.specs.Walk.{TreesAt}
-use Rattle.kinds.proofs.NodeLaws.{node-inner, first-some, first-within, first-node, walk-here, walk-inner, walk-first}
-use Rattle.helper.proofs.CompareLaws.{Left, resume-level, fields-first-none, fields-second-none, fields-some, shown-le, shown-trees, left-end, left-short, left-differ, left-fields, left-inner, left-after, left-next}
+use Rattle.kinds.specs.Sheet.{trees}
+use Rattle.kinds.proofs.NodeLaws.{walk-here}
+use Rattle.helper.specs.Measure.{compareFields}
+use Rattle.helper.proofs.CompareLaws.{Left, resume-level, fields-first-none, fields-second-none, fields-some, left-bounds, left-end, left-short, left-differ, left-fields, left-inner, left-after, left-next}
 
 abbrev μ-compare-fields : Measures 4 compare-fields-kinds.ps ℕ
 μ-compare-fields κs a = a .1 .1 .1 .0
@@ -46,109 +45,257 @@ abbrev compare-fields-claims : ℕ → compare-fields-lts.Claims
 compare-fields-claims t = (compare-labels-reads.Asked, compare-labels-reads.Learnt, is-container-reads.Asked, is-container-reads.Learnt, level-for-reads.Asked, level-for-reads.Learnt, shown-count-reads.Asked, shown-count-reads.Learnt, compare-fields-below t, compare-fields.Post, level-after-reads.Asked, level-after-reads.Learnt)
 
 abbrev compare-fields-Inv-loop : compare-fields-lts.InvT-loop
-compare-fields-Inv-loop a an from n b bn start m level all at₀ left₀ bt₀ more₀ here₀ at left bt more here = (left ≤ n) × Left all level an a bn b at left bt more here (compareEncodings all level (trees an a n from) (trees bn b m start))
+compare-fields-Inv-loop a an from n b bn start m level all at₀ left₀ bt₀ more₀ here₀ at left bt more here = (left ≤ n) × Left all level an a bn b at left bt more here (compareFields all level (trees an a n from) (trees bn b m start))
 
 abbrev compare-fields-μ-loop : compare-fields-lts.MeasureT-loop
 compare-fields-μ-loop a an from n b bn start m level all at₀ left₀ bt₀ more₀ here₀ at left bt more here = left
 
 compare-fields-returns : (t : ℕ) → compare-fields-lts.Need-returns (compare-fields-claims t) (compare-fields-at t) compare-fields.Post compare-fields-Inv-loop compare-fields-μ-loop
-compare-fields-returns t c = sym (fields-first-none (c .before .before .before .before .before .args .all) (c .before .before .before .before .before .args .level) (c .before .before .before .before .before .args .an .now) (c .before .before .before .before .before .args .a .now) (c .before .before .before .before .before .args .bn .now) (c .before .before .before .before .before .args .b .now) (c .before .before .before .before .before .args .n) (c .before .before .before .before .before .args .m) (c .before .before .before .before .before .args .from) (c .before .before .before .before .before .args .start) (omega arith))
+compare-fields-returns t c =
+    let a = c .before .before .before .before .before .args in
+    sym (fields-first-none (a .all) (a .level) (a .an .now) (a .a .now) (a .bn .now) (a .b .now) (a .n) (a .m) (a .from) (a .start) (omega arith))
 
 compare-fields-returns-2 : (t : ℕ) → compare-fields-lts.Need-returns-2 (compare-fields-claims t) (compare-fields-at t) compare-fields.Post compare-fields-Inv-loop compare-fields-μ-loop
-compare-fields-returns-2 t c = sym (fields-second-none (c .before .before .before .before .before .before .args .all) (c .before .before .before .before .before .before .args .level) (c .before .before .before .before .before .before .args .an .now) (c .before .before .before .before .before .before .args .a .now) (c .before .before .before .before .before .before .args .bn .now) (c .before .before .before .before .before .before .args .b .now) (c .before .before .before .before .before .before .args .n) (c .before .before .before .before .before .before .args .m) (c .before .before .before .before .before .before .args .from) (c .before .before .before .before .before .before .args .start) (omega arith))
+compare-fields-returns-2 t c =
+    let a = c .before .before .before .before .before .before .args in
+    sym (fields-second-none (a .all) (a .level) (a .an .now) (a .a .now) (a .bn .now) (a .b .now) (a .n) (a .m) (a .from) (a .start) (omega arith))
 
 compare-fields-loop-holds : (t : ℕ) → compare-fields-lts.Need-loop-holds (compare-fields-claims t) (compare-fields-at t) compare-fields.Post compare-fields-Inv-loop compare-fields-μ-loop
-compare-fields-loop-holds t c = (omega arith, record { first = c .before .before .before .before .before .before .pre .1 .0 .0; second = c .before .before .before .before .before .before .pre .1 .0 .1; first-walk = c .before .before .before .before .before .before .pre .1 .1 .0; second-walk = c .before .before .before .before .before .before .pre .1 .1 .1; rest = resume-level _ _ _ _ })
+compare-fields-loop-holds t c =
+    let pre = c .before .before .before .before .before .before .pre in
+    let a = c .before .before .before .before .before .before .args in
+    (omega arith, record { first = pre .1 .0 .0; second = pre .1 .0 .1; first-walk = pre .1 .1 .0; second-walk = pre .1 .1 .1; rest = resume-level _ _ _ _ ∙ sym (fields-some (a .all) (a .level) (a .an .now) (a .a .now) (a .bn .now) (a .b .now) (a .n) (a .m) (a .from) (a .start) (omega arith) (omega arith)) })
 
 compare-fields-returns-3 : (t : ℕ) → compare-fields-lts.Need-returns-3 (compare-fields-claims t) (compare-fields-at t) compare-fields.Post compare-fields-Inv-loop compare-fields-μ-loop
-compare-fields-returns-3 t c = left-short (c .before .before .before .before .before .before .before .before .before .args .all) (c .before .before .before .before .before .before .before .before .before .args .level) (c .before .before .before .before .before .before .before .before .before .args .an .now) (c .before .before .before .before .before .before .before .before .before .args .a .now) (c .before .before .before .before .before .before .before .before .before .args .bn .now) (c .before .before .before .before .before .before .before .before .before .args .b .now) (c .before .before .loop .at) (c .before .before .loop .left) (c .before .before .loop .bt) (c .before .before .loop .more) (c .before .before .loop .here) _ (c .before .before .loop .inv .1) (c .before .loop-test .taken) (omega arith) ∙ sym (fields-some (c .before .before .before .before .before .before .before .before .before .args .all) (c .before .before .before .before .before .before .before .before .before .args .level) (c .before .before .before .before .before .before .before .before .before .args .an .now) (c .before .before .before .before .before .before .before .before .before .args .a .now) (c .before .before .before .before .before .before .before .before .before .args .bn .now) (c .before .before .before .before .before .before .before .before .before .args .b .now) (c .before .before .before .before .before .before .before .before .before .args .n) (c .before .before .before .before .before .before .before .before .before .args .m) (c .before .before .before .before .before .before .before .before .before .args .from) (c .before .before .before .before .before .before .before .before .before .args .start) (omega arith) (omega arith))
+compare-fields-returns-3 t c = left-short (c .before .before .loop .inv .1) (c .before .loop-test .taken) (omega arith)
 
 compare-fields-compare-labels-requires : (t : ℕ) → compare-fields-lts.Need-compare-labels-requires (compare-fields-claims t) (compare-fields-at t) compare-fields.Post compare-fields-Inv-loop compare-fields-μ-loop
-compare-fields-compare-labels-requires t c κs = let r = c .before .before .loop .inv .1 .first .room in let u = c .before .before .loop .inv .1 .second .room in ((omega arith, omega arith), (walk-here _ _ _ _ (c .before .before .loop .inv .1 .first-walk) (c .before .loop-test .taken), walk-here _ _ _ _ (c .before .before .loop .inv .1 .second-walk) (omega arith)))
+compare-fields-compare-labels-requires t c κs =
+    let l = c .before .before .loop in
+    let test = c .before .loop-test in
+    let b = left-bounds (l .inv .1) (test .taken) (omega arith) in
+    ((omega arith, omega arith), (walk-here _ _ _ _ (l .inv .1 .first-walk) (test .taken), walk-here _ _ _ _ (l .inv .1 .second-walk) (omega arith)))
 
 compare-fields-returns-4 : (t : ℕ) → compare-fields-lts.Need-returns-4 (compare-fields-claims t) (compare-fields-at t) compare-fields.Post compare-fields-Inv-loop compare-fields-μ-loop
-compare-fields-returns-4 t c = left-differ (c .before .before .before .before .before .before .before .before .before .before .before .args .all) (c .before .before .before .before .before .before .before .before .before .before .before .args .level) (c .before .before .before .before .before .before .before .before .before .before .before .args .an .now) (c .before .before .before .before .before .before .before .before .before .before .before .args .a .now) (c .before .before .before .before .before .before .before .before .before .before .before .args .bn .now) (c .before .before .before .before .before .before .before .before .before .before .before .args .b .now) (c .before .before .before .before .loop .at) (c .before .before .before .before .loop .left) (c .before .before .before .before .loop .bt) (c .before .before .before .before .loop .more) (c .before .before .before .before .loop .here) _ (c .before .before .before .before .loop .inv .1) (c .before .before .before .loop-test .taken) (omega arith) (sym (c .before .compare-labels .ensures) ∙ not-true _ (c .if4 .taken)) ∙ sym (fields-some (c .before .before .before .before .before .before .before .before .before .before .before .args .all) (c .before .before .before .before .before .before .before .before .before .before .before .args .level) (c .before .before .before .before .before .before .before .before .before .before .before .args .an .now) (c .before .before .before .before .before .before .before .before .before .before .before .args .a .now) (c .before .before .before .before .before .before .before .before .before .before .before .args .bn .now) (c .before .before .before .before .before .before .before .before .before .before .before .args .b .now) (c .before .before .before .before .before .before .before .before .before .before .before .args .n) (c .before .before .before .before .before .before .before .before .before .before .before .args .m) (c .before .before .before .before .before .before .before .before .before .before .before .args .from) (c .before .before .before .before .before .before .before .before .before .before .before .args .start) (omega arith) (omega arith))
+compare-fields-returns-4 t c =
+    let l = c .before .before .before .before .loop in
+    left-differ (l .inv .1) (c .before .before .before .loop-test .taken) (omega arith) (sym (c .before .compare-labels .ensures) ∙ not-true _ (c .if4 .taken))
 
 compare-fields-mul-kind : (t : ℕ) → compare-fields-lts.Need-mul-kind (compare-fields-claims t) (compare-fields-at t) compare-fields.Post compare-fields-Inv-loop compare-fields-μ-loop
-compare-fields-mul-kind t c = let p = first-within _ _ _ (c .before .before .before .before .loop .inv .1 .first) (c .before .before .before .loop-test .taken) in let q = first-within _ _ _ (c .before .before .before .before .loop .inv .1 .second) (omega arith) in let x = first-some _ _ _ (c .before .before .before .before .loop .inv .1 .first) (c .before .before .before .loop-test .taken) in let y = first-some _ _ _ (c .before .before .before .before .loop .inv .1 .second) (omega arith) in let r = c .before .before .before .before .loop .inv .1 .first .room in let u = c .before .before .before .before .loop .inv .1 .second .room in let g = c .before .before .before .before .before .before .before .before .before .before .before .good .1 .1 .1 .1 .0 .0 in omega arith
+compare-fields-mul-kind t c =
+    let good = c .before .before .before .before .before .before .before .before .before .before .before .good in
+    let l = c .before .before .before .before .loop in
+    let b = left-bounds (l .inv .1) (c .before .before .before .loop-test .taken) (omega arith) in
+    let g = good .1 .1 .1 .1 .0 .0 in
+    omega arith
 
 compare-fields-shared-slice-read-kind : (t : ℕ) → compare-fields-lts.Need-shared-slice-read-kind (compare-fields-claims t) (compare-fields-at t) compare-fields.Post compare-fields-Inv-loop compare-fields-μ-loop
-compare-fields-shared-slice-read-kind t c = let p = first-within _ _ _ (c .before .before .before .before .before .loop .inv .1 .first) (c .before .before .before .before .loop-test .taken) in let q = first-within _ _ _ (c .before .before .before .before .before .loop .inv .1 .second) (omega arith) in let x = first-some _ _ _ (c .before .before .before .before .before .loop .inv .1 .first) (c .before .before .before .before .loop-test .taken) in let y = first-some _ _ _ (c .before .before .before .before .before .loop .inv .1 .second) (omega arith) in let r = c .before .before .before .before .before .loop .inv .1 .first .room in let u = c .before .before .before .before .before .loop .inv .1 .second .room in let g = c .before .before .before .before .before .before .before .before .before .before .before .before .good .1 .1 .1 .1 .0 .0 in omega arith
+compare-fields-shared-slice-read-kind t c =
+    let good = c .before .before .before .before .before .before .before .before .before .before .before .before .good in
+    let l = c .before .before .before .before .before .loop in
+    let test = c .before .before .before .before .loop-test in
+    let b = left-bounds (l .inv .1) (test .taken) (omega arith) in
+    let g = good .1 .1 .1 .1 .0 .0 in
+    omega arith
 
 compare-fields-is-container-requires : (t : ℕ) → compare-fields-lts.Need-is-container-requires (compare-fields-claims t) (compare-fields-at t) compare-fields.Post compare-fields-Inv-loop compare-fields-μ-loop
 compare-fields-is-container-requires t c κs = search needs
 
 compare-fields-add-c : (t : ℕ) → compare-fields-lts.Need-add-c (compare-fields-claims t) (compare-fields-at t) compare-fields.Post compare-fields-Inv-loop compare-fields-μ-loop
-compare-fields-add-c t c = let p = first-within _ _ _ (c .before .before .before .before .before .before .before .loop .inv .1 .first) (c .before .before .before .before .before .before .loop-test .taken) in let q = first-within _ _ _ (c .before .before .before .before .before .before .before .loop .inv .1 .second) (omega arith) in let x = first-some _ _ _ (c .before .before .before .before .before .before .before .loop .inv .1 .first) (c .before .before .before .before .before .before .loop-test .taken) in let y = first-some _ _ _ (c .before .before .before .before .before .before .before .loop .inv .1 .second) (omega arith) in let r = c .before .before .before .before .before .before .before .loop .inv .1 .first .room in let u = c .before .before .before .before .before .before .before .loop .inv .1 .second .room in let g = c .before .before .before .before .before .before .before .before .before .before .before .before .before .before .good .1 .1 .1 .1 .0 .0 in omega arith
+compare-fields-add-c t c =
+    let good = c .before .before .before .before .before .before .before .before .before .before .before .before .before .before .good in
+    let l = c .before .before .before .before .before .before .before .loop in
+    let test = c .before .before .before .before .before .before .loop-test in
+    let b = left-bounds (l .inv .1) (test .taken) (omega arith) in
+    let g = good .1 .1 .1 .1 .0 .0 in
+    omega arith
 
 compare-fields-mul-c : (t : ℕ) → compare-fields-lts.Need-mul-c (compare-fields-claims t) (compare-fields-at t) compare-fields.Post compare-fields-Inv-loop compare-fields-μ-loop
-compare-fields-mul-c t c = let p = first-within _ _ _ (c .before .before .before .before .before .before .before .loop .inv .1 .first) (c .before .before .before .before .before .before .loop-test .taken) in let q = first-within _ _ _ (c .before .before .before .before .before .before .before .loop .inv .1 .second) (omega arith) in let x = first-some _ _ _ (c .before .before .before .before .before .before .before .loop .inv .1 .first) (c .before .before .before .before .before .before .loop-test .taken) in let y = first-some _ _ _ (c .before .before .before .before .before .before .before .loop .inv .1 .second) (omega arith) in let r = c .before .before .before .before .before .before .before .loop .inv .1 .first .room in let u = c .before .before .before .before .before .before .before .loop .inv .1 .second .room in let g = c .before .before .before .before .before .before .before .before .before .before .before .before .before .before .good .1 .1 .1 .1 .0 .0 in omega arith
+compare-fields-mul-c t c =
+    let good = c .before .before .before .before .before .before .before .before .before .before .before .before .before .before .good in
+    let l = c .before .before .before .before .before .before .before .loop in
+    let test = c .before .before .before .before .before .before .loop-test in
+    let b = left-bounds (l .inv .1) (test .taken) (omega arith) in
+    let g = good .1 .1 .1 .1 .0 .0 in
+    omega arith
 
 compare-fields-shared-slice-read-c : (t : ℕ) → compare-fields-lts.Need-shared-slice-read-c (compare-fields-claims t) (compare-fields-at t) compare-fields.Post compare-fields-Inv-loop compare-fields-μ-loop
-compare-fields-shared-slice-read-c t c = let p = first-within _ _ _ (c .before .before .before .before .before .before .before .before .loop .inv .1 .first) (c .before .before .before .before .before .before .before .loop-test .taken) in let q = first-within _ _ _ (c .before .before .before .before .before .before .before .before .loop .inv .1 .second) (omega arith) in let x = first-some _ _ _ (c .before .before .before .before .before .before .before .before .loop .inv .1 .first) (c .before .before .before .before .before .before .before .loop-test .taken) in let y = first-some _ _ _ (c .before .before .before .before .before .before .before .before .loop .inv .1 .second) (omega arith) in let r = c .before .before .before .before .before .before .before .before .loop .inv .1 .first .room in let u = c .before .before .before .before .before .before .before .before .loop .inv .1 .second .room in let g = c .before .before .before .before .before .before .before .before .before .before .before .before .before .before .before .good .1 .1 .1 .1 .0 .0 in omega arith
+compare-fields-shared-slice-read-c t c =
+    let good = c .before .before .before .before .before .before .before .before .before .before .before .before .before .before .before .good in
+    let l = c .before .before .before .before .before .before .before .before .loop in
+    let test = c .before .before .before .before .before .before .before .loop-test in
+    let b = left-bounds (l .inv .1) (test .taken) (omega arith) in
+    let g = good .1 .1 .1 .1 .0 .0 in
+    omega arith
 
 compare-fields-add-d : (t : ℕ) → compare-fields-lts.Need-add-d (compare-fields-claims t) (compare-fields-at t) compare-fields.Post compare-fields-Inv-loop compare-fields-μ-loop
-compare-fields-add-d t c = let p = first-within _ _ _ (c .before .before .before .before .before .before .before .before .loop .inv .1 .first) (c .before .before .before .before .before .before .before .loop-test .taken) in let q = first-within _ _ _ (c .before .before .before .before .before .before .before .before .loop .inv .1 .second) (omega arith) in let x = first-some _ _ _ (c .before .before .before .before .before .before .before .before .loop .inv .1 .first) (c .before .before .before .before .before .before .before .loop-test .taken) in let y = first-some _ _ _ (c .before .before .before .before .before .before .before .before .loop .inv .1 .second) (omega arith) in let r = c .before .before .before .before .before .before .before .before .loop .inv .1 .first .room in let u = c .before .before .before .before .before .before .before .before .loop .inv .1 .second .room in let g = c .before .before .before .before .before .before .before .before .before .before .before .before .before .before .before .good .1 .1 .1 .1 .0 .0 in omega arith
+compare-fields-add-d t c =
+    let good = c .before .before .before .before .before .before .before .before .before .before .before .before .before .before .before .good in
+    let l = c .before .before .before .before .before .before .before .before .loop in
+    let test = c .before .before .before .before .before .before .before .loop-test in
+    let b = left-bounds (l .inv .1) (test .taken) (omega arith) in
+    let g = good .1 .1 .1 .1 .0 .0 in
+    omega arith
 
 compare-fields-mul-d : (t : ℕ) → compare-fields-lts.Need-mul-d (compare-fields-claims t) (compare-fields-at t) compare-fields.Post compare-fields-Inv-loop compare-fields-μ-loop
-compare-fields-mul-d t c = let p = first-within _ _ _ (c .before .before .before .before .before .before .before .before .loop .inv .1 .first) (c .before .before .before .before .before .before .before .loop-test .taken) in let q = first-within _ _ _ (c .before .before .before .before .before .before .before .before .loop .inv .1 .second) (omega arith) in let x = first-some _ _ _ (c .before .before .before .before .before .before .before .before .loop .inv .1 .first) (c .before .before .before .before .before .before .before .loop-test .taken) in let y = first-some _ _ _ (c .before .before .before .before .before .before .before .before .loop .inv .1 .second) (omega arith) in let r = c .before .before .before .before .before .before .before .before .loop .inv .1 .first .room in let u = c .before .before .before .before .before .before .before .before .loop .inv .1 .second .room in let g = c .before .before .before .before .before .before .before .before .before .before .before .before .before .before .before .good .1 .1 .1 .1 .0 .0 in omega arith
+compare-fields-mul-d t c =
+    let good = c .before .before .before .before .before .before .before .before .before .before .before .before .before .before .before .good in
+    let l = c .before .before .before .before .before .before .before .before .loop in
+    let test = c .before .before .before .before .before .before .before .loop-test in
+    let b = left-bounds (l .inv .1) (test .taken) (omega arith) in
+    let g = good .1 .1 .1 .1 .0 .0 in
+    omega arith
 
 compare-fields-shared-slice-read-d : (t : ℕ) → compare-fields-lts.Need-shared-slice-read-d (compare-fields-claims t) (compare-fields-at t) compare-fields.Post compare-fields-Inv-loop compare-fields-μ-loop
-compare-fields-shared-slice-read-d t c = let p = first-within _ _ _ (c .before .before .before .before .before .before .before .before .before .loop .inv .1 .first) (c .before .before .before .before .before .before .before .before .loop-test .taken) in let q = first-within _ _ _ (c .before .before .before .before .before .before .before .before .before .loop .inv .1 .second) (omega arith) in let x = first-some _ _ _ (c .before .before .before .before .before .before .before .before .before .loop .inv .1 .first) (c .before .before .before .before .before .before .before .before .loop-test .taken) in let y = first-some _ _ _ (c .before .before .before .before .before .before .before .before .before .loop .inv .1 .second) (omega arith) in let r = c .before .before .before .before .before .before .before .before .before .loop .inv .1 .first .room in let u = c .before .before .before .before .before .before .before .before .before .loop .inv .1 .second .room in let g = c .before .before .before .before .before .before .before .before .before .before .before .before .before .before .before .before .good .1 .1 .1 .1 .0 .0 in omega arith
+compare-fields-shared-slice-read-d t c =
+    let good = c .before .before .before .before .before .before .before .before .before .before .before .before .before .before .before .before .good in
+    let l = c .before .before .before .before .before .before .before .before .before .loop in
+    let test = c .before .before .before .before .before .before .before .before .loop-test in
+    let b = left-bounds (l .inv .1) (test .taken) (omega arith) in
+    let g = good .1 .1 .1 .1 .0 .0 in
+    omega arith
 
 compare-fields-level-for-requires : (t : ℕ) → compare-fields-lts.Need-level-for-requires (compare-fields-claims t) (compare-fields-at t) compare-fields.Post compare-fields-Inv-loop compare-fields-μ-loop
 compare-fields-level-for-requires t c κs = search needs
 
 compare-fields-sub-shown-count : (t : ℕ) → compare-fields-lts.Need-sub-shown-count (compare-fields-claims t) (compare-fields-at t) compare-fields.Post compare-fields-Inv-loop compare-fields-μ-loop
-compare-fields-sub-shown-count t c = let p = first-within _ _ _ (c .before .before .before .before .before .before .before .before .before .before .loop .inv .1 .first) (c .before .before .before .before .before .before .before .before .before .loop-test .taken) in let q = first-within _ _ _ (c .before .before .before .before .before .before .before .before .before .before .loop .inv .1 .second) (omega arith) in let x = first-some _ _ _ (c .before .before .before .before .before .before .before .before .before .before .loop .inv .1 .first) (c .before .before .before .before .before .before .before .before .before .loop-test .taken) in let y = first-some _ _ _ (c .before .before .before .before .before .before .before .before .before .before .loop .inv .1 .second) (omega arith) in let r = c .before .before .before .before .before .before .before .before .before .before .loop .inv .1 .first .room in let u = c .before .before .before .before .before .before .before .before .before .before .loop .inv .1 .second .room in let g = c .before .before .before .before .before .before .before .before .before .before .before .before .before .before .before .before .before .good .1 .1 .1 .1 .0 .0 in omega arith
+compare-fields-sub-shown-count t c =
+    let good = c .before .before .before .before .before .before .before .before .before .before .before .before .before .before .before .before .before .good in
+    let l = c .before .before .before .before .before .before .before .before .before .before .loop in
+    let test = c .before .before .before .before .before .before .before .before .before .loop-test in
+    let b = left-bounds (l .inv .1) (test .taken) (omega arith) in
+    let g = good .1 .1 .1 .1 .0 .0 in
+    omega arith
 
 compare-fields-shown-count-requires : (t : ℕ) → compare-fields-lts.Need-shown-count-requires (compare-fields-claims t) (compare-fields-at t) compare-fields.Post compare-fields-Inv-loop compare-fields-μ-loop
 compare-fields-shown-count-requires t c κs = search needs
 
 compare-fields-add-compare-fields : (t : ℕ) → compare-fields-lts.Need-add-compare-fields (compare-fields-claims t) (compare-fields-at t) compare-fields.Post compare-fields-Inv-loop compare-fields-μ-loop
-compare-fields-add-compare-fields t c = let p = first-within _ _ _ (c .before .before .before .before .before .before .before .before .before .before .before .loop .inv .1 .first) (c .before .before .before .before .before .before .before .before .before .before .loop-test .taken) in let q = first-within _ _ _ (c .before .before .before .before .before .before .before .before .before .before .before .loop .inv .1 .second) (omega arith) in let x = first-some _ _ _ (c .before .before .before .before .before .before .before .before .before .before .before .loop .inv .1 .first) (c .before .before .before .before .before .before .before .before .before .before .loop-test .taken) in let y = first-some _ _ _ (c .before .before .before .before .before .before .before .before .before .before .before .loop .inv .1 .second) (omega arith) in let r = c .before .before .before .before .before .before .before .before .before .before .before .loop .inv .1 .first .room in let u = c .before .before .before .before .before .before .before .before .before .before .before .loop .inv .1 .second .room in let g = c .before .before .before .before .before .before .before .before .before .before .before .before .before .before .before .before .before .before .good .1 .1 .1 .1 .0 .0 in omega arith
+compare-fields-add-compare-fields t c =
+    let good = c .before .before .before .before .before .before .before .before .before .before .before .before .before .before .before .before .before .before .good in
+    let l = c .before .before .before .before .before .before .before .before .before .before .before .loop in
+    let test = c .before .before .before .before .before .before .before .before .before .before .loop-test in
+    let b = left-bounds (l .inv .1) (test .taken) (omega arith) in
+    let g = good .1 .1 .1 .1 .0 .0 in
+    omega arith
 
 compare-fields-add-compare-fields-2 : (t : ℕ) → compare-fields-lts.Need-add-compare-fields-2 (compare-fields-claims t) (compare-fields-at t) compare-fields.Post compare-fields-Inv-loop compare-fields-μ-loop
-compare-fields-add-compare-fields-2 t c = let p = first-within _ _ _ (c .before .before .before .before .before .before .before .before .before .before .before .loop .inv .1 .first) (c .before .before .before .before .before .before .before .before .before .before .loop-test .taken) in let q = first-within _ _ _ (c .before .before .before .before .before .before .before .before .before .before .before .loop .inv .1 .second) (omega arith) in let x = first-some _ _ _ (c .before .before .before .before .before .before .before .before .before .before .before .loop .inv .1 .first) (c .before .before .before .before .before .before .before .before .before .before .loop-test .taken) in let y = first-some _ _ _ (c .before .before .before .before .before .before .before .before .before .before .before .loop .inv .1 .second) (omega arith) in let r = c .before .before .before .before .before .before .before .before .before .before .before .loop .inv .1 .first .room in let u = c .before .before .before .before .before .before .before .before .before .before .before .loop .inv .1 .second .room in let g = c .before .before .before .before .before .before .before .before .before .before .before .before .before .before .before .before .before .before .good .1 .1 .1 .1 .0 .0 in omega arith
+compare-fields-add-compare-fields-2 t c =
+    let good = c .before .before .before .before .before .before .before .before .before .before .before .before .before .before .before .before .before .before .good in
+    let l = c .before .before .before .before .before .before .before .before .before .before .before .loop in
+    let test = c .before .before .before .before .before .before .before .before .before .before .loop-test in
+    let b = left-bounds (l .inv .1) (test .taken) (omega arith) in
+    let g = good .1 .1 .1 .1 .0 .0 in
+    omega arith
 
 compare-fields-sub-compare-fields : (t : ℕ) → compare-fields-lts.Need-sub-compare-fields (compare-fields-claims t) (compare-fields-at t) compare-fields.Post compare-fields-Inv-loop compare-fields-μ-loop
-compare-fields-sub-compare-fields t c = let p = first-within _ _ _ (c .before .before .before .before .before .before .before .before .before .before .before .loop .inv .1 .first) (c .before .before .before .before .before .before .before .before .before .before .loop-test .taken) in let q = first-within _ _ _ (c .before .before .before .before .before .before .before .before .before .before .before .loop .inv .1 .second) (omega arith) in let x = first-some _ _ _ (c .before .before .before .before .before .before .before .before .before .before .before .loop .inv .1 .first) (c .before .before .before .before .before .before .before .before .before .before .loop-test .taken) in let y = first-some _ _ _ (c .before .before .before .before .before .before .before .before .before .before .before .loop .inv .1 .second) (omega arith) in let r = c .before .before .before .before .before .before .before .before .before .before .before .loop .inv .1 .first .room in let u = c .before .before .before .before .before .before .before .before .before .before .before .loop .inv .1 .second .room in let g = c .before .before .before .before .before .before .before .before .before .before .before .before .before .before .before .before .before .before .good .1 .1 .1 .1 .0 .0 in omega arith
+compare-fields-sub-compare-fields t c =
+    let good = c .before .before .before .before .before .before .before .before .before .before .before .before .before .before .before .before .before .before .good in
+    let l = c .before .before .before .before .before .before .before .before .before .before .before .loop in
+    let test = c .before .before .before .before .before .before .before .before .before .before .loop-test in
+    let b = left-bounds (l .inv .1) (test .taken) (omega arith) in
+    let g = good .1 .1 .1 .1 .0 .0 in
+    omega arith
 
 compare-fields-compare-fields-requires : (t : ℕ) → compare-fields-lts.Need-compare-fields-requires (compare-fields-claims t) (compare-fields-at t) compare-fields.Post compare-fields-Inv-loop compare-fields-μ-loop
-compare-fields-compare-fields-requires t c κs = let i = left-inner (c .before .before .before .before .before .before .before .before .before .before .before .before .before .before .before .before .before .before .args .all) (c .before .before .before .before .before .before .before .before .before .before .before .before .before .before .before .before .before .before .args .level) (c .before .before .before .before .before .before .before .before .before .before .before .before .before .before .before .before .before .before .args .an .now) (c .before .before .before .before .before .before .before .before .before .before .before .before .before .before .before .before .before .before .args .a .now) (c .before .before .before .before .before .before .before .before .before .before .before .before .before .before .before .before .before .before .args .bn .now) (c .before .before .before .before .before .before .before .before .before .before .before .before .before .before .before .before .before .before .args .b .now) (c .before .before .before .before .before .before .before .before .before .before .before .loop .at) (c .before .before .before .before .before .before .before .before .before .before .before .loop .left) (c .before .before .before .before .before .before .before .before .before .before .before .loop .bt) (c .before .before .before .before .before .before .before .before .before .before .before .loop .more) (c .before .before .before .before .before .before .before .before .before .before .before .loop .here) _ (c .before .before .before .before .before .before .before .before .before .before .before .loop .inv .1) (c .before .before .before .before .before .before .before .before .before .before .loop-test .taken) (omega arith) (sym (c .before .before .before .before .before .before .before .before .compare-labels .ensures) ∙ not-false _ (c .before .before .before .before .before .before .before .if4 .left)) (sym (c .before .before .before .before .before .is-container .ensures) ∙ c .before .before .before .before .if5 .taken) _ (c .before .level-for .ensures) _ (c .shown-count .ensures) in (let j = i .0 in omega arith, (i .1, i .2))
+compare-fields-compare-fields-requires t c κs =
+    let l = c .before .before .before .before .before .before .before .before .before .before .before .loop in
+    let test = c .before .before .before .before .before .before .before .before .before .before .loop-test in
+    let labels = c .before .before .before .before .before .before .before .before .compare-labels in
+    let if4 = c .before .before .before .before .before .before .before .if4 in
+    let container = c .before .before .before .before .before .is-container in
+    let if5 = c .before .before .before .before .if5 in
+    let i = left-inner (l .inv .1) (test .taken) (omega arith) (sym (labels .ensures) ∙ not-false _ (if4 .left)) (sym (container .ensures) ∙ if5 .taken) (c .before .level-for .ensures) (c .shown-count .ensures) in
+    (let j = i .0 in omega arith, (i .1, i .2))
 
 compare-fields-returns-5 : (t : ℕ) → compare-fields-lts.Need-returns-5 (compare-fields-claims t) (compare-fields-at t) compare-fields.Post compare-fields-Inv-loop compare-fields-μ-loop
-compare-fields-returns-5 t c = left-fields (c .before .before .before .before .before .before .before .before .before .before .before .before .before .before .before .before .before .before .before .before .args .all) (c .before .before .before .before .before .before .before .before .before .before .before .before .before .before .before .before .before .before .before .before .args .level) (c .before .before .before .before .before .before .before .before .before .before .before .before .before .before .before .before .before .before .before .before .args .an .now) (c .before .before .before .before .before .before .before .before .before .before .before .before .before .before .before .before .before .before .before .before .args .a .now) (c .before .before .before .before .before .before .before .before .before .before .before .before .before .before .before .before .before .before .before .before .args .bn .now) (c .before .before .before .before .before .before .before .before .before .before .before .before .before .before .before .before .before .before .before .before .args .b .now) (c .before .before .before .before .before .before .before .before .before .before .before .before .before .loop .at) (c .before .before .before .before .before .before .before .before .before .before .before .before .before .loop .left) (c .before .before .before .before .before .before .before .before .before .before .before .before .before .loop .bt) (c .before .before .before .before .before .before .before .before .before .before .before .before .before .loop .more) (c .before .before .before .before .before .before .before .before .before .before .before .before .before .loop .here) _ (c .before .before .before .before .before .before .before .before .before .before .before .before .before .loop .inv .1) (c .before .before .before .before .before .before .before .before .before .before .before .before .loop-test .taken) (omega arith) (sym (c .before .before .before .before .before .before .before .before .before .before .compare-labels .ensures) ∙ not-false _ (c .before .before .before .before .before .before .before .before .before .if4 .left)) (sym (c .before .before .before .before .before .before .before .is-container .ensures) ∙ c .before .before .before .before .before .before .if5 .taken) _ (c .before .before .before .level-for .ensures) _ (c .before .before .shown-count .ensures) (sym (c .before .compare-fields .ensures) ∙ not-true _ (c .if6 .taken)) ∙ sym (fields-some (c .before .before .before .before .before .before .before .before .before .before .before .before .before .before .before .before .before .before .before .before .args .all) (c .before .before .before .before .before .before .before .before .before .before .before .before .before .before .before .before .before .before .before .before .args .level) (c .before .before .before .before .before .before .before .before .before .before .before .before .before .before .before .before .before .before .before .before .args .an .now) (c .before .before .before .before .before .before .before .before .before .before .before .before .before .before .before .before .before .before .before .before .args .a .now) (c .before .before .before .before .before .before .before .before .before .before .before .before .before .before .before .before .before .before .before .before .args .bn .now) (c .before .before .before .before .before .before .before .before .before .before .before .before .before .before .before .before .before .before .before .before .args .b .now) (c .before .before .before .before .before .before .before .before .before .before .before .before .before .before .before .before .before .before .before .before .args .n) (c .before .before .before .before .before .before .before .before .before .before .before .before .before .before .before .before .before .before .before .before .args .m) (c .before .before .before .before .before .before .before .before .before .before .before .before .before .before .before .before .before .before .before .before .args .from) (c .before .before .before .before .before .before .before .before .before .before .before .before .before .before .before .before .before .before .before .before .args .start) (omega arith) (omega arith))
+compare-fields-returns-5 t c =
+    let l = c .before .before .before .before .before .before .before .before .before .before .before .before .before .loop in
+    let test = c .before .before .before .before .before .before .before .before .before .before .before .before .loop-test in
+    let labels = c .before .before .before .before .before .before .before .before .before .before .compare-labels in
+    let if4 = c .before .before .before .before .before .before .before .before .before .if4 in
+    let container = c .before .before .before .before .before .before .before .is-container in
+    let if5 = c .before .before .before .before .before .before .if5 in
+    left-fields (l .inv .1) (test .taken) (omega arith) (sym (labels .ensures) ∙ not-false _ (if4 .left)) (sym (container .ensures) ∙ if5 .taken) (c .before .before .before .level-for .ensures) (c .before .before .shown-count .ensures) (sym (c .before .compare-fields .ensures) ∙ not-true _ (c .if6 .taken))
 
 compare-fields-mul-at : (t : ℕ) → compare-fields-lts.Need-mul-at (compare-fields-claims t) (compare-fields-at t) compare-fields.Post compare-fields-Inv-loop compare-fields-μ-loop
-compare-fields-mul-at t c = let p = first-within _ _ _ (c .before .before .before .before .before .before .before .before .loop .inv .1 .first) (c .before .before .before .before .before .before .before .loop-test .taken) in let q = first-within _ _ _ (c .before .before .before .before .before .before .before .before .loop .inv .1 .second) (omega arith) in let x = first-some _ _ _ (c .before .before .before .before .before .before .before .before .loop .inv .1 .first) (c .before .before .before .before .before .before .before .loop-test .taken) in let y = first-some _ _ _ (c .before .before .before .before .before .before .before .before .loop .inv .1 .second) (omega arith) in let r = c .before .before .before .before .before .before .before .before .loop .inv .1 .first .room in let u = c .before .before .before .before .before .before .before .before .loop .inv .1 .second .room in let g = c .before .before .before .before .before .before .before .before .before .before .before .before .before .before .before .good .1 .1 .1 .1 .0 .0 in ⊎-elim (λ i. let e = i .8 in omega arith) (λ i. let e = i .2 in omega arith) (c .before .if5 .came)
+compare-fields-mul-at t c =
+    let good = c .before .before .before .before .before .before .before .before .before .before .before .before .before .before .before .good in
+    let l = c .before .before .before .before .before .before .before .before .loop in
+    let test = c .before .before .before .before .before .before .before .loop-test in
+    let b = left-bounds (l .inv .1) (test .taken) (omega arith) in
+    let g = good .1 .1 .1 .1 .0 .0 in
+    ⊎-elim (λ i. omega arith) (λ i. omega arith) (c .before .if5 .came)
 
 compare-fields-add-at : (t : ℕ) → compare-fields-lts.Need-add-at (compare-fields-claims t) (compare-fields-at t) compare-fields.Post compare-fields-Inv-loop compare-fields-μ-loop
-compare-fields-add-at t c = let p = first-within _ _ _ (c .before .before .before .before .before .before .before .before .loop .inv .1 .first) (c .before .before .before .before .before .before .before .loop-test .taken) in let q = first-within _ _ _ (c .before .before .before .before .before .before .before .before .loop .inv .1 .second) (omega arith) in let x = first-some _ _ _ (c .before .before .before .before .before .before .before .before .loop .inv .1 .first) (c .before .before .before .before .before .before .before .loop-test .taken) in let y = first-some _ _ _ (c .before .before .before .before .before .before .before .before .loop .inv .1 .second) (omega arith) in let r = c .before .before .before .before .before .before .before .before .loop .inv .1 .first .room in let u = c .before .before .before .before .before .before .before .before .loop .inv .1 .second .room in let g = c .before .before .before .before .before .before .before .before .before .before .before .before .before .before .before .good .1 .1 .1 .1 .0 .0 in ⊎-elim (λ i. let e = i .8 in omega arith) (λ i. let e = i .2 in omega arith) (c .before .if5 .came)
+compare-fields-add-at t c =
+    let good = c .before .before .before .before .before .before .before .before .before .before .before .before .before .before .before .good in
+    let l = c .before .before .before .before .before .before .before .before .loop in
+    let test = c .before .before .before .before .before .before .before .loop-test in
+    let b = left-bounds (l .inv .1) (test .taken) (omega arith) in
+    let g = good .1 .1 .1 .1 .0 .0 in
+    ⊎-elim (λ i. omega arith) (λ i. omega arith) (c .before .if5 .came)
 
 compare-fields-sub-left : (t : ℕ) → compare-fields-lts.Need-sub-left (compare-fields-claims t) (compare-fields-at t) compare-fields.Post compare-fields-Inv-loop compare-fields-μ-loop
-compare-fields-sub-left t c = let p = first-within _ _ _ (c .before .before .before .before .before .before .before .before .loop .inv .1 .first) (c .before .before .before .before .before .before .before .loop-test .taken) in let q = first-within _ _ _ (c .before .before .before .before .before .before .before .before .loop .inv .1 .second) (omega arith) in let x = first-some _ _ _ (c .before .before .before .before .before .before .before .before .loop .inv .1 .first) (c .before .before .before .before .before .before .before .loop-test .taken) in let y = first-some _ _ _ (c .before .before .before .before .before .before .before .before .loop .inv .1 .second) (omega arith) in let r = c .before .before .before .before .before .before .before .before .loop .inv .1 .first .room in let u = c .before .before .before .before .before .before .before .before .loop .inv .1 .second .room in let g = c .before .before .before .before .before .before .before .before .before .before .before .before .before .before .before .good .1 .1 .1 .1 .0 .0 in ⊎-elim (λ i. let e = i .8 in omega arith) (λ i. let e = i .2 in omega arith) (c .before .if5 .came)
+compare-fields-sub-left t c =
+    let good = c .before .before .before .before .before .before .before .before .before .before .before .before .before .before .before .good in
+    let l = c .before .before .before .before .before .before .before .before .loop in
+    let test = c .before .before .before .before .before .before .before .loop-test in
+    let b = left-bounds (l .inv .1) (test .taken) (omega arith) in
+    let g = good .1 .1 .1 .1 .0 .0 in
+    ⊎-elim (λ i. omega arith) (λ i. omega arith) (c .before .if5 .came)
 
 compare-fields-mul-bt : (t : ℕ) → compare-fields-lts.Need-mul-bt (compare-fields-claims t) (compare-fields-at t) compare-fields.Post compare-fields-Inv-loop compare-fields-μ-loop
-compare-fields-mul-bt t c = let p = first-within _ _ _ (c .before .before .before .before .before .before .before .before .before .loop .inv .1 .first) (c .before .before .before .before .before .before .before .before .loop-test .taken) in let q = first-within _ _ _ (c .before .before .before .before .before .before .before .before .before .loop .inv .1 .second) (omega arith) in let x = first-some _ _ _ (c .before .before .before .before .before .before .before .before .before .loop .inv .1 .first) (c .before .before .before .before .before .before .before .before .loop-test .taken) in let y = first-some _ _ _ (c .before .before .before .before .before .before .before .before .before .loop .inv .1 .second) (omega arith) in let r = c .before .before .before .before .before .before .before .before .before .loop .inv .1 .first .room in let u = c .before .before .before .before .before .before .before .before .before .loop .inv .1 .second .room in let g = c .before .before .before .before .before .before .before .before .before .before .before .before .before .before .before .before .good .1 .1 .1 .1 .0 .0 in ⊎-elim (λ i. let e = i .8 in omega arith) (λ i. let e = i .2 in omega arith) (c .before .before .if5 .came)
+compare-fields-mul-bt t c =
+    let good = c .before .before .before .before .before .before .before .before .before .before .before .before .before .before .before .before .good in
+    let l = c .before .before .before .before .before .before .before .before .before .loop in
+    let test = c .before .before .before .before .before .before .before .before .loop-test in
+    let b = left-bounds (l .inv .1) (test .taken) (omega arith) in
+    let g = good .1 .1 .1 .1 .0 .0 in
+    ⊎-elim (λ i. omega arith) (λ i. omega arith) (c .before .before .if5 .came)
 
 compare-fields-add-bt : (t : ℕ) → compare-fields-lts.Need-add-bt (compare-fields-claims t) (compare-fields-at t) compare-fields.Post compare-fields-Inv-loop compare-fields-μ-loop
-compare-fields-add-bt t c = let p = first-within _ _ _ (c .before .before .before .before .before .before .before .before .before .loop .inv .1 .first) (c .before .before .before .before .before .before .before .before .loop-test .taken) in let q = first-within _ _ _ (c .before .before .before .before .before .before .before .before .before .loop .inv .1 .second) (omega arith) in let x = first-some _ _ _ (c .before .before .before .before .before .before .before .before .before .loop .inv .1 .first) (c .before .before .before .before .before .before .before .before .loop-test .taken) in let y = first-some _ _ _ (c .before .before .before .before .before .before .before .before .before .loop .inv .1 .second) (omega arith) in let r = c .before .before .before .before .before .before .before .before .before .loop .inv .1 .first .room in let u = c .before .before .before .before .before .before .before .before .before .loop .inv .1 .second .room in let g = c .before .before .before .before .before .before .before .before .before .before .before .before .before .before .before .before .good .1 .1 .1 .1 .0 .0 in ⊎-elim (λ i. let e = i .8 in omega arith) (λ i. let e = i .2 in omega arith) (c .before .before .if5 .came)
+compare-fields-add-bt t c =
+    let good = c .before .before .before .before .before .before .before .before .before .before .before .before .before .before .before .before .good in
+    let l = c .before .before .before .before .before .before .before .before .before .loop in
+    let test = c .before .before .before .before .before .before .before .before .loop-test in
+    let b = left-bounds (l .inv .1) (test .taken) (omega arith) in
+    let g = good .1 .1 .1 .1 .0 .0 in
+    ⊎-elim (λ i. omega arith) (λ i. omega arith) (c .before .before .if5 .came)
 
 compare-fields-sub-more : (t : ℕ) → compare-fields-lts.Need-sub-more (compare-fields-claims t) (compare-fields-at t) compare-fields.Post compare-fields-Inv-loop compare-fields-μ-loop
-compare-fields-sub-more t c = let p = first-within _ _ _ (c .before .before .before .before .before .before .before .before .before .loop .inv .1 .first) (c .before .before .before .before .before .before .before .before .loop-test .taken) in let q = first-within _ _ _ (c .before .before .before .before .before .before .before .before .before .loop .inv .1 .second) (omega arith) in let x = first-some _ _ _ (c .before .before .before .before .before .before .before .before .before .loop .inv .1 .first) (c .before .before .before .before .before .before .before .before .loop-test .taken) in let y = first-some _ _ _ (c .before .before .before .before .before .before .before .before .before .loop .inv .1 .second) (omega arith) in let r = c .before .before .before .before .before .before .before .before .before .loop .inv .1 .first .room in let u = c .before .before .before .before .before .before .before .before .before .loop .inv .1 .second .room in let g = c .before .before .before .before .before .before .before .before .before .before .before .before .before .before .before .before .good .1 .1 .1 .1 .0 .0 in ⊎-elim (λ i. let e = i .8 in omega arith) (λ i. let e = i .2 in omega arith) (c .before .before .if5 .came)
+compare-fields-sub-more t c =
+    let good = c .before .before .before .before .before .before .before .before .before .before .before .before .before .before .before .before .good in
+    let l = c .before .before .before .before .before .before .before .before .before .loop in
+    let test = c .before .before .before .before .before .before .before .before .loop-test in
+    let b = left-bounds (l .inv .1) (test .taken) (omega arith) in
+    let g = good .1 .1 .1 .1 .0 .0 in
+    ⊎-elim (λ i. omega arith) (λ i. omega arith) (c .before .before .if5 .came)
 
 compare-fields-level-after-requires : (t : ℕ) → compare-fields-lts.Need-level-after-requires (compare-fields-claims t) (compare-fields-at t) compare-fields.Post compare-fields-Inv-loop compare-fields-μ-loop
 compare-fields-level-after-requires t c κs = search needs
 
 compare-fields-loop-less : (t : ℕ) → compare-fields-lts.Need-loop-less (compare-fields-claims t) (compare-fields-at t) compare-fields.Post compare-fields-Inv-loop compare-fields-μ-loop
-compare-fields-loop-less t c = let p = first-within _ _ _ (c .before .before .before .before .before .before .before .before .before .before .loop .inv .1 .first) (c .before .before .before .before .before .before .before .before .before .loop-test .taken) in let q = first-within _ _ _ (c .before .before .before .before .before .before .before .before .before .before .loop .inv .1 .second) (omega arith) in let x = first-some _ _ _ (c .before .before .before .before .before .before .before .before .before .before .loop .inv .1 .first) (c .before .before .before .before .before .before .before .before .before .loop-test .taken) in let y = first-some _ _ _ (c .before .before .before .before .before .before .before .before .before .before .loop .inv .1 .second) (omega arith) in let r = c .before .before .before .before .before .before .before .before .before .before .loop .inv .1 .first .room in let u = c .before .before .before .before .before .before .before .before .before .before .loop .inv .1 .second .room in let g = c .before .before .before .before .before .before .before .before .before .before .before .before .before .before .before .before .before .good .1 .1 .1 .1 .0 .0 in ⊎-elim (λ i. let e = i .8 in omega arith) (λ i. let e = i .2 in omega arith) (c .before .before .before .if5 .came)
+compare-fields-loop-less t c =
+    let good = c .before .before .before .before .before .before .before .before .before .before .before .before .before .before .before .before .before .good in
+    let l = c .before .before .before .before .before .before .before .before .before .before .loop in
+    let test = c .before .before .before .before .before .before .before .before .before .loop-test in
+    let b = left-bounds (l .inv .1) (test .taken) (omega arith) in
+    let g = good .1 .1 .1 .1 .0 .0 in
+    ⊎-elim (λ i. omega arith) (λ i. omega arith) (c .before .before .before .if5 .came)
 
 compare-fields-loop-again : (t : ℕ) → compare-fields-lts.Need-loop-again (compare-fields-claims t) (compare-fields-at t) compare-fields.Post compare-fields-Inv-loop compare-fields-μ-loop
-compare-fields-loop-again t c = let p = first-within _ _ _ (c .before .before .before .before .before .before .before .before .before .before .loop .inv .1 .first) (c .before .before .before .before .before .before .before .before .before .loop-test .taken) in let q = first-within _ _ _ (c .before .before .before .before .before .before .before .before .before .before .loop .inv .1 .second) (omega arith) in let x = first-some _ _ _ (c .before .before .before .before .before .before .before .before .before .before .loop .inv .1 .first) (c .before .before .before .before .before .before .before .before .before .loop-test .taken) in let y = first-some _ _ _ (c .before .before .before .before .before .before .before .before .before .before .loop .inv .1 .second) (omega arith) in let r = c .before .before .before .before .before .before .before .before .before .before .loop .inv .1 .first .room in let u = c .before .before .before .before .before .before .before .before .before .before .loop .inv .1 .second .room in let g = c .before .before .before .before .before .before .before .before .before .before .before .before .before .before .before .before .before .good .1 .1 .1 .1 .0 .0 in ⊎-elim (λ i. (omega arith, left-after (c .before .before .before .before .before .before .before .before .before .before .before .before .before .before .before .before .before .args .all) (c .before .before .before .before .before .before .before .before .before .before .before .before .before .before .before .before .before .args .level) (c .before .before .before .before .before .before .before .before .before .before .before .before .before .before .before .before .before .args .an .now) (c .before .before .before .before .before .before .before .before .before .before .before .before .before .before .before .before .before .args .a .now) (c .before .before .before .before .before .before .before .before .before .before .before .before .before .before .before .before .before .args .bn .now) (c .before .before .before .before .before .before .before .before .before .before .before .before .before .before .before .before .before .args .b .now) (c .before .before .before .before .before .before .before .before .before .before .loop .at) (c .before .before .before .before .before .before .before .before .before .before .loop .left) (c .before .before .before .before .before .before .before .before .before .before .loop .bt) (c .before .before .before .before .before .before .before .before .before .before .loop .more) (c .before .before .before .before .before .before .before .before .before .before .loop .here) _ (c .before .before .before .before .before .before .before .before .before .before .loop .inv .1) (c .before .before .before .before .before .before .before .before .before .loop-test .taken) (omega arith) (sym (c .before .before .before .before .before .before .before .compare-labels .ensures) ∙ not-false _ (c .before .before .before .before .before .before .if4 .left)) (sym (c .before .before .before .before .is-container .ensures) ∙ i .0 .taken) _ (i .3 .ensures) _ (i .4 .ensures) (sym (i .5 .ensures) ∙ not-false _ (i .6 .left)) _ _ (i .7) (i .8) _ (c .level-after .ensures))) (λ i. (omega arith, left-next (c .before .before .before .before .before .before .before .before .before .before .before .before .before .before .before .before .before .args .all) (c .before .before .before .before .before .before .before .before .before .before .before .before .before .before .before .before .before .args .level) (c .before .before .before .before .before .before .before .before .before .before .before .before .before .before .before .before .before .args .an .now) (c .before .before .before .before .before .before .before .before .before .before .before .before .before .before .before .before .before .args .a .now) (c .before .before .before .before .before .before .before .before .before .before .before .before .before .before .before .before .before .args .bn .now) (c .before .before .before .before .before .before .before .before .before .before .before .before .before .before .before .before .before .args .b .now) (c .before .before .before .before .before .before .before .before .before .before .loop .at) (c .before .before .before .before .before .before .before .before .before .before .loop .left) (c .before .before .before .before .before .before .before .before .before .before .loop .bt) (c .before .before .before .before .before .before .before .before .before .before .loop .more) (c .before .before .before .before .before .before .before .before .before .before .loop .here) _ (c .before .before .before .before .before .before .before .before .before .before .loop .inv .1) (c .before .before .before .before .before .before .before .before .before .loop-test .taken) (omega arith) (sym (c .before .before .before .before .before .before .before .compare-labels .ensures) ∙ not-false _ (c .before .before .before .before .before .before .if4 .left)) (sym (c .before .before .before .before .is-container .ensures) ∙ i .0 .left) _ _ (i .1) (i .2) _ (c .level-after .ensures))) (c .before .before .before .if5 .came)
+compare-fields-loop-again t c =
+    let l = c .before .before .before .before .before .before .before .before .before .before .loop in
+    let test = c .before .before .before .before .before .before .before .before .before .loop-test in
+    let labels = c .before .before .before .before .before .before .before .compare-labels in
+    let if4 = c .before .before .before .before .before .before .if4 in
+    let container = c .before .before .before .before .is-container in
+    let b = left-bounds (l .inv .1) (test .taken) (omega arith) in
+    ⊎-elim (λ i. (omega arith, left-after (l .inv .1) (test .taken) (omega arith) (sym (labels .ensures) ∙ not-false _ (if4 .left)) (sym (container .ensures) ∙ i .0 .taken) (i .3 .ensures) (i .4 .ensures) (sym (i .5 .ensures) ∙ not-false _ (i .6 .left)) (i .7) (i .8) (c .level-after .ensures))) (λ i. (omega arith, left-next (l .inv .1) (test .taken) (omega arith) (sym (labels .ensures) ∙ not-false _ (if4 .left)) (sym (container .ensures) ∙ i .0 .left) (i .1) (i .2) (c .level-after .ensures))) (c .before .before .before .if5 .came)
 
 compare-fields-returns-6 : (t : ℕ) → compare-fields-lts.Need-returns-6 (compare-fields-claims t) (compare-fields-at t) compare-fields.Post compare-fields-Inv-loop compare-fields-μ-loop
-compare-fields-returns-6 t c = left-end (c .before .before .before .before .before .before .before .before .args .all) (c .before .before .before .before .before .before .before .before .args .level) (c .before .before .before .before .before .before .before .before .args .an .now) (c .before .before .before .before .before .before .before .before .args .a .now) (c .before .before .before .before .before .before .before .before .args .bn .now) (c .before .before .before .before .before .before .before .before .args .b .now) (c .before .loop .at) (c .before .loop .left) (c .before .loop .bt) (c .before .loop .more) (c .before .loop .here) _ (c .before .loop .inv .1) (c .loop-test .left) ∙ sym (fields-some (c .before .before .before .before .before .before .before .before .args .all) (c .before .before .before .before .before .before .before .before .args .level) (c .before .before .before .before .before .before .before .before .args .an .now) (c .before .before .before .before .before .before .before .before .args .a .now) (c .before .before .before .before .before .before .before .before .args .bn .now) (c .before .before .before .before .before .before .before .before .args .b .now) (c .before .before .before .before .before .before .before .before .args .n) (c .before .before .before .before .before .before .before .before .args .m) (c .before .before .before .before .before .before .before .before .args .from) (c .before .before .before .before .before .before .before .before .args .start) (omega arith) (omega arith))
+compare-fields-returns-6 t c = left-end (c .before .loop .inv .1) (c .loop-test .left)
 
 pub +compare-fields-spec : {M : Type 1} → statement M
 +compare-fields-spec = close μ-compare-fields λ t. compare-fields-lts.spec (compare-fields-claims t)

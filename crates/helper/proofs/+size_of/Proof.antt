@@ -7,27 +7,25 @@ use Rattle.helper.proofs.+size_of.Lts-size_of as size-of-lts
 use Rattle.helper.proofs.Measured.held_by.Reads as held-by-reads
 use Rattle.helper.proofs.Measured.join.Reads as join-reads
 use Rattle.helper.proofs.Measured.of_no_fields.Reads as of-no-fields-reads
-use Rattle.helper.proofs.Measured.of_primitive.Reads as of-primitive-reads
-use Rattle.helper.proofs.bit_bytes.Reads as bit-bytes-reads
+use Rattle.helper.proofs.is_leaf.Reads as is-leaf-reads
+use Rattle.helper.proofs.leaf_size.Reads as leaf-size-reads
 use Rattle.helper.proofs.level_below.Reads as level-below-reads
 use Rattle.kinds.proofs.NestingLevel.container_include_fields.Reads as container-include-fields-reads
 use Rattle.helper.proofs.+size_of.{statement}
 use Rattle.helper.proofs.+size_of.Tie.{close}
-use borrow.Author.Tests.{not-true, not-false}
-use mathlib.Core.Path.{_≡_, refl, sym, ap, ap₂, _∙_}
+use borrow.Author.Tests.{not-false}
+use mathlib.Core.Path.{sym, ap, _∙_}
 use native.Mathlib.Omega.{arith}
 use borrow.Author.Needs.{needs}
-use Prim.Native.Nat.{_+_, _-_, _*_, _≤_}
-use mathlib.Core.List.{List, []}
-use mathlib.Core.Option.{Option}
+use Prim.Native.Nat.{_+_, _-_, _≤_}
+use mathlib.Core.List.{[]}
+use mathlib.Core.Logic.{⊎-elim}
 use Rattle.kinds.specs.Sheet.{kindAt, countAt, trees}
 use Rattle.kinds.specs.Size.{sizes}
-use Rattle.kinds.specs.Walk.{TreesAt}
-use Rattle.kinds.proofs.NodeLaws.{node-inner, child-count, node-child, first-some, first-within, first-node, other-trees}
-use Rattle.helper.specs.Measure.{clip, joinMeasured, holdingMeasured, join, fold, sizeAt}
-use Rattle.helper.specs.declared.Measured.the-variants.{Bytes}
-use Rattle.helper.proofs.SizeLaws.{clip-some, clip-join, clip-holding, join-unit}
-use Rattle.helper.proofs.NodeSizeLaws.{size-primitive, size-bits, size-pointer, size-none, size-held, size-dropped, size-included, fold-turn, fold-end, clip-bits, bits-fit, container-kind}
+use Rattle.kinds.proofs.NodeLaws.{node-inner, child-count, node-child}
+use Rattle.helper.specs.Measure.{clip, holdingMeasured, fold, sizeAt}
+use Rattle.helper.proofs.SizeLaws.{clip-holding, join-unit}
+use Rattle.helper.proofs.NodeSizeLaws.{Gathered, gathered-end, gathered-node, gathered-within, gathered-turn, size-leaf, not-leaf, size-held, size-dropped, size-included, bits-fit, container-kind}
 
 abbrev μ-size-of : Measures 1 size-of-kinds.ps ℕ
 μ-size-of κs a = countAt (a .0 .now) (a .1 .0)
@@ -39,10 +37,10 @@ abbrev size-of-below : ℕ → In 1 size-of-kinds.ps
 size-of-below t = and 1 size-of-kinds.ps (falls 1 size-of-kinds.ps _<_ μ-size-of t) size-of.Pre
 
 abbrev size-of-claims : ℕ → size-of-lts.Claims
-size-of-claims t = (of-primitive-reads.Asked, of-primitive-reads.Learnt, bit-bytes-reads.Asked, bit-bytes-reads.Learnt, level-below-reads.Asked, level-below-reads.Learnt, size-of-below t, size-of.Post, held-by-reads.Asked, held-by-reads.Learnt, container-include-fields-reads.Asked, container-include-fields-reads.Learnt, of-no-fields-reads.Asked, of-no-fields-reads.Learnt, join-reads.Asked, join-reads.Learnt)
+size-of-claims t = (is-leaf-reads.Asked, is-leaf-reads.Learnt, leaf-size-reads.Asked, leaf-size-reads.Learnt, level-below-reads.Asked, level-below-reads.Learnt, size-of-below t, size-of.Post, held-by-reads.Asked, held-by-reads.Learnt, container-include-fields-reads.Asked, container-include-fields-reads.Learnt, of-no-fields-reads.Asked, of-no-fields-reads.Learnt, join-reads.Asked, join-reads.Learnt)
 
 abbrev size-of-Inv-loop : size-of-lts.InvT-loop
-size-of-Inv-loop nodes at kind inner child₀ left₀ all₀ child left all = (left < countAt nodes at) × TreesAt nodes child left × ((s : List ℕ) → (e : Option ℕ) × (all ≡ clip e) × (join kind e (fold kind (sizes inner (trees s nodes left child))) ≡ fold kind (sizes inner (trees s nodes (countAt nodes at - 1) (at + 4)))))
+size-of-Inv-loop nodes at kind inner child₀ left₀ all₀ child left all = (left < countAt nodes at) × Gathered kind inner nodes child left all (λ s. fold kind (sizes inner (trees s nodes (countAt nodes at - 1) (at + 4))))
 
 abbrev size-of-μ-loop : size-of-lts.MeasureT-loop
 size-of-μ-loop nodes at kind inner child₀ left₀ all₀ child left all = left
@@ -53,38 +51,44 @@ size-of-mul-kind t c = search needs
 size-of-shared-slice-read-kind : (t : ℕ) → size-of-lts.Need-shared-slice-read-kind (size-of-claims t) (size-of-at t) size-of.Post size-of-Inv-loop size-of-μ-loop
 size-of-shared-slice-read-kind t c = search needs
 
-size-of-of-primitive-requires : (t : ℕ) → size-of-lts.Need-of-primitive-requires (size-of-claims t) (size-of-at t) size-of.Post size-of-Inv-loop size-of-μ-loop
-size-of-of-primitive-requires t c κs = search needs
+size-of-is-leaf-requires : (t : ℕ) → size-of-lts.Need-is-leaf-requires (size-of-claims t) (size-of-at t) size-of.Post size-of-Inv-loop size-of-μ-loop
+size-of-is-leaf-requires t c κs = search needs
+
+size-of-add-leaf-size : (t : ℕ) → size-of-lts.Need-add-leaf-size (size-of-claims t) (size-of-at t) size-of.Post size-of-Inv-loop size-of-μ-loop
+size-of-add-leaf-size t c = search needs
+
+size-of-mul-leaf-size : (t : ℕ) → size-of-lts.Need-mul-leaf-size (size-of-claims t) (size-of-at t) size-of.Post size-of-Inv-loop size-of-μ-loop
+size-of-mul-leaf-size t c = search needs
+
+size-of-shared-slice-read-leaf-size : (t : ℕ) → size-of-lts.Need-shared-slice-read-leaf-size (size-of-claims t) (size-of-at t) size-of.Post size-of-Inv-loop size-of-μ-loop
+size-of-shared-slice-read-leaf-size t c = search needs
+
+size-of-leaf-size-requires : (t : ℕ) → size-of-lts.Need-leaf-size-requires (size-of-claims t) (size-of-at t) size-of.Post size-of-Inv-loop size-of-μ-loop
+size-of-leaf-size-requires t c κs = search needs
 
 size-of-returns : (t : ℕ) → size-of-lts.Need-returns (size-of-claims t) (size-of-at t) size-of.Post size-of-Inv-loop size-of-μ-loop
-size-of-returns t c = λ s. c .of-primitive .ensures ∙ sym (ap clip (size-primitive s _ _ (c .before .before .before .before .args .level) (c .before .if1 .taken)))
-
-size-of-add-bit-bytes : (t : ℕ) → size-of-lts.Need-add-bit-bytes (size-of-claims t) (size-of-at t) size-of.Post size-of-Inv-loop size-of-μ-loop
-size-of-add-bit-bytes t c = search needs
-
-size-of-mul-bit-bytes : (t : ℕ) → size-of-lts.Need-mul-bit-bytes (size-of-claims t) (size-of-at t) size-of.Post size-of-Inv-loop size-of-μ-loop
-size-of-mul-bit-bytes t c = search needs
-
-size-of-shared-slice-read-bit-bytes : (t : ℕ) → size-of-lts.Need-shared-slice-read-bit-bytes (size-of-claims t) (size-of-at t) size-of.Post size-of-Inv-loop size-of-μ-loop
-size-of-shared-slice-read-bit-bytes t c = search needs
-
-size-of-bit-bytes-requires : (t : ℕ) → size-of-lts.Need-bit-bytes-requires (size-of-claims t) (size-of-at t) size-of.Post size-of-Inv-loop size-of-μ-loop
-size-of-bit-bytes-requires t c κs = search needs
-
-size-of-returns-2 : (t : ℕ) → size-of-lts.Need-returns-2 (size-of-claims t) (size-of-at t) size-of.Post size-of-Inv-loop size-of-μ-loop
-size-of-returns-2 t c = λ s. ap Bytes (c .bit-bytes .ensures) ∙ sym (ap clip (size-bits s (c .before .before .before .before .before .before .args .nodes .now) (c .before .before .before .before .before .before .args .at) (c .before .before .before .before .before .before .args .level) (c .before .before .if2 .taken)) ∙ clip-bits _)
-
-size-of-returns-3 : (t : ℕ) → size-of-lts.Need-returns-3 (size-of-claims t) (size-of-at t) size-of.Post size-of-Inv-loop size-of-μ-loop
-size-of-returns-3 t c = λ s. sym (ap clip (size-pointer s (c .before .before .before .before .before .args .nodes .now) (c .before .before .before .before .before .args .at) (c .before .before .before .before .before .args .level) (c .if3 .taken)) ∙ clip-some 8 (omega arith))
+size-of-returns t c =
+    let a = c .before .before .before .before .before .before .args in
+    λ s. c .leaf-size .ensures ∙ sym (ap clip (size-leaf s (a .nodes .now) (a .at) (a .level) (sym (c .before .before .before .is-leaf .ensures) ∙ c .before .before .if1 .taken)))
 
 size-of-add-size-of : (t : ℕ) → size-of-lts.Need-add-size-of (size-of-claims t) (size-of-at t) size-of.Post size-of-Inv-loop size-of-μ-loop
 size-of-add-size-of t c = search needs
 
 size-of-level-below-requires : (t : ℕ) → size-of-lts.Need-level-below-requires (size-of-claims t) (size-of-at t) size-of.Post size-of-Inv-loop size-of-μ-loop
-size-of-level-below-requires t c κs = (omega arith, omega arith)
+size-of-level-below-requires t c κs =
+    let a = c .before .before .before .before .before .args in
+    let n = not-leaf (kindAt (a .nodes .now) (a .at)) (sym (c .before .before .is-leaf .ensures) ∙ c .before .if1 .left) in
+    (omega arith, omega arith)
 
 size-of-size-of-requires : (t : ℕ) → size-of-lts.Need-size-of-requires (size-of-claims t) (size-of-at t) size-of.Post size-of-Inv-loop size-of-μ-loop
-size-of-size-of-requires t c κs = let lo : 25 ≤ kindAt (c .before .before .before .before .before .before .before .args .nodes .now) (c .before .before .before .before .before .before .before .args .at) = omega arith in let hi : kindAt (c .before .before .before .before .before .before .before .args .nodes .now) (c .before .before .before .before .before .before .before .args .at) ≤ 28 = omega arith in let k = child-count _ _ (c .before .before .before .before .before .before .before .pre .1) lo hi in (omega arith, node-child _ _ (c .before .before .before .before .before .before .before .pre .1) lo hi)
+size-of-size-of-requires t c κs =
+    let a = c .before .before .before .before .before .before .args in
+    let pre = c .before .before .before .before .before .before .pre in
+    let n = not-leaf (kindAt (a .nodes .now) (a .at)) (sym (c .before .before .before .is-leaf .ensures) ∙ c .before .before .if1 .left) in
+    let lo : 25 ≤ kindAt (a .nodes .now) (a .at) = omega arith in
+    let hi : kindAt (a .nodes .now) (a .at) ≤ 28 = omega arith in
+    let k = child-count _ _ (pre .1) lo hi in
+    (omega arith, node-child _ _ (pre .1) lo hi)
 
 size-of-add-held-by : (t : ℕ) → size-of-lts.Need-add-held-by (size-of-claims t) (size-of-at t) size-of.Post size-of-Inv-loop size-of-μ-loop
 size-of-add-held-by t c = search needs
@@ -107,12 +111,17 @@ size-of-shared-slice-read-held-by-2 t c = search needs
 size-of-held-by-requires : (t : ℕ) → size-of-lts.Need-held-by-requires (size-of-claims t) (size-of-at t) size-of.Post size-of-Inv-loop size-of-μ-loop
 size-of-held-by-requires t c κs = search needs
 
-size-of-returns-4 : (t : ℕ) → size-of-lts.Need-returns-4 (size-of-claims t) (size-of-at t) size-of.Post size-of-Inv-loop size-of-μ-loop
-size-of-returns-4 t c = λ s. let lo : 25 ≤ kindAt (c .before .before .before .before .before .before .before .before .before .before .before .args .nodes .now) (c .before .before .before .before .before .before .before .before .before .before .before .args .at) = omega arith in let hi : kindAt (c .before .before .before .before .before .before .before .before .before .before .before .args .nodes .now) (c .before .before .before .before .before .before .before .before .before .before .before .args .at) ≤ 28 = omega arith in c .held-by .ensures ∙ ap (holdingMeasured _ _ _) (c .before .before .before .size-of .ensures s ∙ ap (λ v. clip (sizeAt s (c .before .before .before .before .before .before .before .before .before .before .before .args .nodes .now) (c .before .before .before .before .before .before .before .before .before .before .before .args .at + 4) v)) (c .before .before .before .before .level-below .ensures s _ _)) ∙ clip-holding _ _ _ _ (bits-fit _) ∙ sym (ap clip (size-held s (c .before .before .before .before .before .before .before .before .before .before .before .args .nodes .now) (c .before .before .before .before .before .before .before .before .before .before .before .args .at) (c .before .before .before .before .before .before .before .before .before .before .before .pre .1) lo hi (c .before .before .before .before .before .before .before .before .before .before .before .args .level) (c .before .before .before .before .before .before .if3 .left)))
-
-size-of-returns-5 : (t : ℕ) → size-of-lts.Need-returns-5 (size-of-claims t) (size-of-at t) size-of.Post size-of-Inv-loop size-of-μ-loop
-unfolding clip
-size-of-returns-5 t c = λ s. sym (ap clip (size-none s (c .before .before .before .before .before .before .before .args .nodes .now) (c .before .before .before .before .before .before .before .args .at) (c .before .before .before .before .before .before .before .args .level) (c .if5 .taken)))
+size-of-returns-2 : (t : ℕ) → size-of-lts.Need-returns-2 (size-of-claims t) (size-of-at t) size-of.Post size-of-Inv-loop size-of-μ-loop
+size-of-returns-2 t c =
+    let a = c .before .before .before .before .before .before .before .before .before .before .args in
+    let pre = c .before .before .before .before .before .before .before .before .before .before .pre in
+    let is-leaf = c .before .before .before .before .before .before .before .is-leaf in
+    let if1 = c .before .before .before .before .before .before .if1 in
+    let level-below = c .before .before .before .before .level-below in
+    let n = not-leaf (kindAt (a .nodes .now) (a .at)) (sym (is-leaf .ensures) ∙ if1 .left) in
+    let lo : 25 ≤ kindAt (a .nodes .now) (a .at) = omega arith in
+    let hi : kindAt (a .nodes .now) (a .at) ≤ 28 = omega arith in
+    λ s. c .held-by .ensures ∙ ap (holdingMeasured _ _ _) (c .before .before .before .size-of .ensures s ∙ ap (λ v. clip (sizeAt s (a .nodes .now) (a .at + 4) v)) (level-below .ensures s _ _)) ∙ clip-holding _ _ _ _ (bits-fit _) ∙ sym (ap clip (size-held s (a .nodes .now) (a .at) (pre .1) lo hi (a .level) (n .2)))
 
 size-of-container-include-fields-requires :
     (t : ℕ) → size-of-lts.Need-container-include-fields-requires (size-of-claims t) (size-of-at t) size-of.Post size-of-Inv-loop size-of-μ-loop
@@ -124,9 +133,14 @@ size-of-enum-known-inner t c = search needs
 size-of-enum-told : (t : ℕ) → size-of-lts.Need-enum-told (size-of-claims t) (size-of-at t) size-of.Post size-of-Inv-loop size-of-μ-loop
 size-of-enum-told t c = search needs
 
-size-of-returns-6 : (t : ℕ) → size-of-lts.Need-returns-6 (size-of-claims t) (size-of-at t) size-of.Post size-of-Inv-loop size-of-μ-loop
+size-of-returns-3 : (t : ℕ) → size-of-lts.Need-returns-3 (size-of-claims t) (size-of-at t) size-of.Post size-of-Inv-loop size-of-μ-loop
 unfolding clip
-size-of-returns-6 t c = λ s. sym (ap clip (size-dropped s (c .before .before .before .before .before .before .before .before .before .before .args .nodes .now) (c .before .before .before .before .before .before .before .before .before .before .args .at) (c .before .before .before .before .before .before .before .before .before .before .args .level) (container-kind (kindAt (c .before .before .before .before .before .before .before .before .before .before .args .nodes .now) (c .before .before .before .before .before .before .before .before .before .before .args .at)) (omega arith) (omega arith)) (sym (c .before .before .container-include-fields .ensures) ∙ c .enum-told .given .1)))
+size-of-returns-3 t c =
+    let a = c .before .before .before .before .before .before .before .before .args in
+    let is-leaf = c .before .before .before .before .before .is-leaf in
+    let if1 = c .before .before .before .before .if1 in
+    let n = not-leaf (kindAt (a .nodes .now) (a .at)) (sym (is-leaf .ensures) ∙ if1 .left) in
+    λ s. sym (ap clip (size-dropped s (a .nodes .now) (a .at) (a .level) (container-kind (kindAt (a .nodes .now) (a .at)) (omega arith) (omega arith)) (sym (c .before .before .container-include-fields .ensures) ∙ c .enum-told .given .1)))
 
 size-of-add-child : (t : ℕ) → size-of-lts.Need-add-child (size-of-claims t) (size-of-at t) size-of.Post size-of-Inv-loop size-of-μ-loop
 size-of-add-child t c = search needs
@@ -147,40 +161,107 @@ size-of-of-no-fields-requires : (t : ℕ) → size-of-lts.Need-of-no-fields-requ
 size-of-of-no-fields-requires t c κs = search needs
 
 size-of-loop-holds : (t : ℕ) → size-of-lts.Need-loop-holds (size-of-claims t) (size-of-at t) size-of.Post size-of-Inv-loop size-of-μ-loop
-size-of-loop-holds t c = let o = c .before .before .before .before .before .before .before .before .before .before .before .before .before .pre .1 .some-node in (omega arith, node-inner _ _ (c .before .before .before .before .before .before .before .before .before .before .before .before .before .pre .1), λ s. (fold (kindAt (c .before .before .before .before .before .before .before .before .before .before .before .before .before .args .nodes .now) (c .before .before .before .before .before .before .before .before .before .before .before .before .before .args .at)) [], c .of-no-fields .ensures, join-unit _ _))
+size-of-loop-holds t c =
+    let pre = c .before .before .before .before .before .before .before .before .before .before .before .pre in
+    let a = c .before .before .before .before .before .before .before .before .before .before .before .args in
+    let o = pre .1 .some-node in
+    (omega arith, record { there = node-inner _ _ (pre .1); rest = λ s. (fold (kindAt (a .nodes .now) (a .at)) [], c .of-no-fields .ensures, join-unit _ _) })
+
+size-of-mul-field : (t : ℕ) → size-of-lts.Need-mul-field (size-of-claims t) (size-of-at t) size-of.Post size-of-Inv-loop size-of-μ-loop
+size-of-mul-field t c = let b = gathered-within (c .before .loop .inv .1) (c .loop-test .taken) in omega arith
+
+size-of-shared-slice-read-field : (t : ℕ) → size-of-lts.Need-shared-slice-read-field (size-of-claims t) (size-of-at t) size-of.Post size-of-Inv-loop size-of-μ-loop
+size-of-shared-slice-read-field t c = let b = gathered-within (c .before .before .loop .inv .1) (c .before .loop-test .taken) in omega arith
+
+size-of-add-leaf-size-2 : (t : ℕ) → size-of-lts.Need-add-leaf-size-2 (size-of-claims t) (size-of-at t) size-of.Post size-of-Inv-loop size-of-μ-loop
+size-of-add-leaf-size-2 t c = let b = gathered-within (c .before .before .loop .inv .1) (c .before .loop-test .taken) in omega arith
+
+size-of-mul-leaf-size-2 : (t : ℕ) → size-of-lts.Need-mul-leaf-size-2 (size-of-claims t) (size-of-at t) size-of.Post size-of-Inv-loop size-of-μ-loop
+size-of-mul-leaf-size-2 t c = let b = gathered-within (c .before .before .loop .inv .1) (c .before .loop-test .taken) in omega arith
+
+size-of-shared-slice-read-leaf-size-2 : (t : ℕ) → size-of-lts.Need-shared-slice-read-leaf-size-2 (size-of-claims t) (size-of-at t) size-of.Post size-of-Inv-loop size-of-μ-loop
+size-of-shared-slice-read-leaf-size-2 t c = let b = gathered-within (c .before .before .before .loop .inv .1) (c .before .before .loop-test .taken) in omega arith
+
+size-of-leaf-size-requires-2 : (t : ℕ) → size-of-lts.Need-leaf-size-requires-2 (size-of-claims t) (size-of-at t) size-of.Post size-of-Inv-loop size-of-μ-loop
+size-of-leaf-size-requires-2 t c κs = search needs
+
+size-of-is-leaf-requires-2 : (t : ℕ) → size-of-lts.Need-is-leaf-requires-2 (size-of-claims t) (size-of-at t) size-of.Post size-of-Inv-loop size-of-μ-loop
+size-of-is-leaf-requires-2 t c κs = search needs
 
 size-of-size-of-requires-2 : (t : ℕ) → size-of-lts.Need-size-of-requires-2 (size-of-claims t) (size-of-at t) size-of.Post size-of-Inv-loop size-of-μ-loop
-size-of-size-of-requires-2 t c κs = let q = first-within _ _ _ (c .before .loop .inv .1) (c .loop-test .taken) in let p = first-some _ _ _ (c .before .loop .inv .1) (c .loop-test .taken) in (omega arith, first-node _ _ _ (c .before .loop .inv .1) (c .loop-test .taken))
+size-of-size-of-requires-2 t c κs =
+    let l = c .before .before .before .before .before .before .loop in
+    let test = c .before .before .before .before .before .loop-test in
+    let b = gathered-within (l .inv .1) (test .taken) in
+    (omega arith, gathered-node (l .inv .1) (test .taken))
 
 size-of-join-requires : (t : ℕ) → size-of-lts.Need-join-requires (size-of-claims t) (size-of-at t) size-of.Post size-of-Inv-loop size-of-μ-loop
 size-of-join-requires t c κs = search needs
 
 size-of-add-count : (t : ℕ) → size-of-lts.Need-add-count (size-of-claims t) (size-of-at t) size-of.Post size-of-Inv-loop size-of-μ-loop
-size-of-add-count t c = let q = first-within _ _ _ (c .before .before .before .loop .inv .1) (c .before .before .loop-test .taken) in let p = first-some _ _ _ (c .before .before .before .loop .inv .1) (c .before .before .loop-test .taken) in omega arith
+size-of-add-count t c =
+    let l = c .before .before .before .before .before .before .before .loop in
+    let test = c .before .before .before .before .before .before .loop-test in
+    let b = gathered-within (l .inv .1) (test .taken) in
+    omega arith
 
 size-of-mul-count : (t : ℕ) → size-of-lts.Need-mul-count (size-of-claims t) (size-of-at t) size-of.Post size-of-Inv-loop size-of-μ-loop
 size-of-mul-count t c = search needs
 
 size-of-shared-slice-read-count : (t : ℕ) → size-of-lts.Need-shared-slice-read-count (size-of-claims t) (size-of-at t) size-of.Post size-of-Inv-loop size-of-μ-loop
-size-of-shared-slice-read-count t c = let q = first-within _ _ _ (c .before .before .before .before .loop .inv .1) (c .before .before .before .loop-test .taken) in let p = first-some _ _ _ (c .before .before .before .before .loop .inv .1) (c .before .before .before .loop-test .taken) in omega arith
+size-of-shared-slice-read-count t c =
+    let l = c .before .before .before .before .before .before .before .before .loop in
+    let test = c .before .before .before .before .before .before .before .loop-test in
+    let b = gathered-within (l .inv .1) (test .taken) in
+    omega arith
 
 size-of-mul-child : (t : ℕ) → size-of-lts.Need-mul-child (size-of-claims t) (size-of-at t) size-of.Post size-of-Inv-loop size-of-μ-loop
-size-of-mul-child t c = let q = first-within _ _ _ (c .before .before .before .before .loop .inv .1) (c .before .before .before .loop-test .taken) in let p = first-some _ _ _ (c .before .before .before .before .loop .inv .1) (c .before .before .before .loop-test .taken) in omega arith
+size-of-mul-child t c =
+    let l = c .before .before .before .before .before .before .before .before .loop in
+    let test = c .before .before .before .before .before .before .before .loop-test in
+    let b = gathered-within (l .inv .1) (test .taken) in
+    omega arith
 
 size-of-add-child-2 : (t : ℕ) → size-of-lts.Need-add-child-2 (size-of-claims t) (size-of-at t) size-of.Post size-of-Inv-loop size-of-μ-loop
-size-of-add-child-2 t c = let q = first-within _ _ _ (c .before .before .before .before .loop .inv .1) (c .before .before .before .loop-test .taken) in let p = first-some _ _ _ (c .before .before .before .before .loop .inv .1) (c .before .before .before .loop-test .taken) in omega arith
+size-of-add-child-2 t c =
+    let l = c .before .before .before .before .before .before .before .before .loop in
+    let test = c .before .before .before .before .before .before .before .loop-test in
+    let b = gathered-within (l .inv .1) (test .taken) in
+    omega arith
 
 size-of-sub-left-2 : (t : ℕ) → size-of-lts.Need-sub-left-2 (size-of-claims t) (size-of-at t) size-of.Post size-of-Inv-loop size-of-μ-loop
-size-of-sub-left-2 t c = let q = first-within _ _ _ (c .before .before .before .before .loop .inv .1) (c .before .before .before .loop-test .taken) in let p = first-some _ _ _ (c .before .before .before .before .loop .inv .1) (c .before .before .before .loop-test .taken) in omega arith
+size-of-sub-left-2 t c =
+    let l = c .before .before .before .before .before .before .before .before .loop in
+    let test = c .before .before .before .before .before .before .before .loop-test in
+    let b = gathered-within (l .inv .1) (test .taken) in
+    omega arith
 
 size-of-loop-less : (t : ℕ) → size-of-lts.Need-loop-less (size-of-claims t) (size-of-at t) size-of.Post size-of-Inv-loop size-of-μ-loop
-size-of-loop-less t c = let q = first-within _ _ _ (c .before .before .before .before .loop .inv .1) (c .before .before .before .loop-test .taken) in let p = first-some _ _ _ (c .before .before .before .before .loop .inv .1) (c .before .before .before .loop-test .taken) in omega arith
+size-of-loop-less t c =
+    let l = c .before .before .before .before .before .before .before .before .loop in
+    let test = c .before .before .before .before .before .before .before .loop-test in
+    let b = gathered-within (l .inv .1) (test .taken) in
+    omega arith
 
 size-of-loop-again : (t : ℕ) → size-of-lts.Need-loop-again (size-of-claims t) (size-of-at t) size-of.Post size-of-Inv-loop size-of-μ-loop
-size-of-loop-again t c = let q = first-within _ _ _ (c .before .before .before .before .loop .inv .1) (c .before .before .before .loop-test .taken) in let p = first-some _ _ _ (c .before .before .before .before .loop .inv .1) (c .before .before .before .loop-test .taken) in (omega arith, other-trees _ _ _ (c .before .before .before .before .loop .inv .1) (c .before .before .before .loop-test .taken), λ s. let k = kindAt (c .before .before .before .before .before .before .before .before .before .before .before .before .before .before .before .before .before .before .args .nodes .now) (c .before .before .before .before .before .before .before .before .before .before .before .before .before .before .before .before .before .before .args .at) in let i = c .before .before .before .before .loop .inv .2 s in (join k (i .0) (sizeAt s (c .before .before .before .before .before .before .before .before .before .before .before .before .before .before .before .before .before .before .args .nodes .now) (c .before .before .before .before .loop .child) (c .before .before .before .before .before .before .before .before .inner .given .0 .0)), c .before .join .ensures ∙ ap₂ (joinMeasured k) (i .1) (c .before .before .size-of2 .ensures s) ∙ clip-join _ _ _, sym (fold-turn s (c .before .before .before .before .before .before .before .before .before .before .before .before .before .before .before .before .before .before .args .nodes .now) (c .before .before .before .before .loop .child) k (c .before .before .before .before .before .before .before .before .inner .given .0 .0) (c .before .before .before .before .loop .left) (i .0) p q) ∙ i .2))
+size-of-loop-again t c =
+    let a = c .before .before .before .before .before .before .before .before .before .before .before .before .before .before .before .before .before .before .before .before .args in
+    let l = c .before .before .before .before .before .before .before .before .loop in
+    let test = c .before .before .before .before .before .before .before .loop-test in
+    let leaf-size2 = c .before .before .before .before .leaf-size2 in
+    let if3 = c .before .before .if3 in
+    let b = gathered-within (l .inv .1) (test .taken) in
+    (omega arith, gathered-turn (l .inv .1) (test .taken) (if3 .item) (λ s. ⊎-elim (λ j. j .2 ∙ j .1 .ensures s) (λ j. j .1 ∙ leaf-size2 .ensures ∙ sym (ap clip (size-leaf s (a .nodes .now) (l .child) _ (sym (c .before .before .before .is-leaf2 .ensures) ∙ not-false _ (j .0 .left))))) (if3 .came)) (c .before .join .ensures))
 
-size-of-returns-7 : (t : ℕ) → size-of-lts.Need-returns-7 (size-of-claims t) (size-of-at t) size-of.Post size-of-Inv-loop size-of-μ-loop
-size-of-returns-7 t c = λ s. let k = kindAt (c .before .before .before .before .before .before .before .before .before .before .before .before .before .before .before .args .nodes .now) (c .before .before .before .before .before .before .before .before .before .before .before .before .before .before .before .args .at) in let i = c .before .loop .inv .2 s in i .1 ∙ ap clip (sym (fold-end s (c .before .before .before .before .before .before .before .before .before .before .before .before .before .before .before .args .nodes .now) (c .before .loop .child) k (c .before .before .before .before .before .inner .given .0 .0) (c .before .loop .left) (i .0) (c .loop-test .left)) ∙ i .2 ∙ size-included s (c .before .before .before .before .before .before .before .before .before .before .before .before .before .before .before .args .nodes .now) (c .before .before .before .before .before .before .before .before .before .before .before .before .before .before .before .args .at) (c .before .before .before .before .before .before .before .before .before .before .before .before .before .before .before .args .level) (container-kind (kindAt (c .before .before .before .before .before .before .before .before .before .before .before .before .before .before .before .args .nodes .now) (c .before .before .before .before .before .before .before .before .before .before .before .before .before .before .before .args .at)) (omega arith) (omega arith)) _ (sym (c .before .before .before .before .before .before .before .container-include-fields .ensures) ∙ c .before .before .before .before .before .inner .given .1))
+size-of-returns-4 : (t : ℕ) → size-of-lts.Need-returns-4 (size-of-claims t) (size-of-at t) size-of.Post size-of-Inv-loop size-of-μ-loop
+size-of-returns-4 t c =
+    let a = c .before .before .before .before .before .before .before .before .before .before .before .before .before .args in
+    let is-leaf = c .before .before .before .before .before .before .before .before .before .before .is-leaf in
+    let if1 = c .before .before .before .before .before .before .before .before .before .if1 in
+    let fields = c .before .before .before .before .before .before .before .container-include-fields in
+    let inner = c .before .before .before .before .before .inner in
+    let n = not-leaf (kindAt (a .nodes .now) (a .at)) (sym (is-leaf .ensures) ∙ if1 .left) in
+    λ s. gathered-end (c .before .loop .inv .1) (c .loop-test .left) s ∙ ap clip (size-included s (a .nodes .now) (a .at) (a .level) (container-kind (kindAt (a .nodes .now) (a .at)) (omega arith) (omega arith)) _ (sym (fields .ensures) ∙ inner .given .1))
 
 pub +size-of-spec : {M : Type 1} → statement M
 +size-of-spec = close μ-size-of λ t. size-of-lts.spec (size-of-claims t)
@@ -190,14 +271,12 @@ pub +size-of-spec : {M : Type 1} → statement M
     size-of-μ-loop
     (size-of-mul-kind t)
     (size-of-shared-slice-read-kind t)
-    (size-of-of-primitive-requires t)
+    (size-of-is-leaf-requires t)
+    (size-of-add-leaf-size t)
+    (size-of-mul-leaf-size t)
+    (size-of-shared-slice-read-leaf-size t)
+    (size-of-leaf-size-requires t)
     (size-of-returns t)
-    (size-of-add-bit-bytes t)
-    (size-of-mul-bit-bytes t)
-    (size-of-shared-slice-read-bit-bytes t)
-    (size-of-bit-bytes-requires t)
-    (size-of-returns-2 t)
-    (size-of-returns-3 t)
     (size-of-add-size-of t)
     (size-of-level-below-requires t)
     (size-of-size-of-requires t)
@@ -208,12 +287,11 @@ pub +size-of-spec : {M : Type 1} → statement M
     (size-of-mul-held-by-2 t)
     (size-of-shared-slice-read-held-by-2 t)
     (size-of-held-by-requires t)
-    (size-of-returns-4 t)
-    (size-of-returns-5 t)
+    (size-of-returns-2 t)
     (size-of-container-include-fields-requires t)
     (size-of-enum-known-inner t)
     (size-of-enum-told t)
-    (size-of-returns-6 t)
+    (size-of-returns-3 t)
     (size-of-add-child t)
     (size-of-add-left t)
     (size-of-mul-left t)
@@ -221,6 +299,13 @@ pub +size-of-spec : {M : Type 1} → statement M
     (size-of-sub-left t)
     (size-of-of-no-fields-requires t)
     (size-of-loop-holds t)
+    (size-of-mul-field t)
+    (size-of-shared-slice-read-field t)
+    (size-of-add-leaf-size-2 t)
+    (size-of-mul-leaf-size-2 t)
+    (size-of-shared-slice-read-leaf-size-2 t)
+    (size-of-leaf-size-requires-2 t)
+    (size-of-is-leaf-requires-2 t)
     (size-of-size-of-requires-2 t)
     (size-of-join-requires t)
     (size-of-add-count t)
@@ -231,4 +316,4 @@ pub +size-of-spec : {M : Type 1} → statement M
     (size-of-sub-left-2 t)
     (size-of-loop-less t)
     (size-of-loop-again t)
-    (size-of-returns-7 t)
+    (size-of-returns-4 t)

@@ -1,12 +1,6 @@
 use Rattle.helper.proofs.bit_bytes.Statement.{statement}
 use Rattle.helper.proofs.bit_bytes.Tie as tie
-use Rattle.helper.proofs.bit_bytes.Reads as reads
-use Rattle.helper.proofs.bit_bytes.Lts as lts
-use borrow.Author.Needs.{needs}
-use borrow.Author.Tests.{le-leb, lt-leb, leb-true, leb-false, eq-eqb, ne-eqb, eqb-true, eqb-false, not-true, not-false, ltb-true, ltb-false}
-use mathlib.Core.Path.{_≡_, refl, sym, ap, ap₂, _∙_, subst}
-use native.Mathlib.Omega.{arith}
-use Prim.Native.Nat.{ℕ, zero, suc, _+_, _-_, _*_, _≤_, _<_, max}
+use borrow.Author.Tests.{le-leb, lt-leb}
 use Rattle.kinds.specs.Size.{bitBytes}
 
 returns : tie.Need-returns

@@ -1,9 +1,6 @@
 use Rattle.helper.proofs.is_container.Statement.{statement}
 use Rattle.helper.proofs.is_container.Tie as tie
-use Rattle.helper.proofs.is_container.Reads as reads
-use Rattle.helper.proofs.is_container.Lts as lts
-use borrow.Author.Tests.{le-leb, lt-leb, leb-true, leb-false, eq-eqb, ne-eqb, eqb-true, eqb-false, not-true, not-false, ltb-true, ltb-false}
-use Rattle.kinds.specs.Sheet.{isContainerKind}
+use borrow.Author.Tests.{eq-eqb, ne-eqb}
 
 returns : tie.Need-returns
 returns c = simp (eq-eqb _ _ (c .if1 .taken))

@@ -1,12 +1,8 @@
 use borrow.Author.Needs.{needs}
 use Rattle.helper.proofs.level_after.Statement.{statement}
 use Rattle.helper.proofs.level_after.Tie as tie
-use Rattle.helper.proofs.level_after.Reads as reads
-use Rattle.helper.proofs.level_after.Lts as lts
-use Rattle.helper.proofs.level_below.Reads as level-below-reads
-use Rattle.helper.proofs.level_for.Reads as level-for-reads
-use borrow.Author.Tests.{le-leb, lt-leb, eq-eqb, ne-eqb, not-true, not-false}
-use mathlib.Core.Path.{_≡_, refl, sym, ap, ap₂, _∙_}
+use borrow.Author.Tests.{le-leb, lt-leb}
+use mathlib.Core.Path.{ap, _∙_}
 use native.Mathlib.Omega.{arith}
 use mathlib.Core.List.{[]}
 use Rattle.kinds.specs.Sheet.{label}

@@ -1,12 +1,7 @@
 use borrow.Author.Needs.{needs}
 use Rattle.helper.proofs.level_below.Statement.{statement}
 use Rattle.helper.proofs.level_below.Tie as tie
-use Rattle.helper.proofs.level_below.Reads as reads
-use Rattle.helper.proofs.level_below.Lts as lts
-use Rattle.kinds.proofs.NestingLevel.array.Reads as array-reads
-use Rattle.kinds.proofs.NestingLevel.bitfield.Reads as bitfield-reads
-use Rattle.kinds.proofs.NestingLevel.indirection.Reads as indirection-reads
-use mathlib.Core.Path.{_≡_, refl, sym, ap, ap₂, _∙_}
+use mathlib.Core.Path.{_≡_}
 use native.Mathlib.Omega.{arith}
 use Rattle.kinds.specs.Sheet.{label}
 

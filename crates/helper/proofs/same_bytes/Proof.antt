@@ -1,14 +1,11 @@
 use Rattle.helper.proofs.same_bytes.Statement.{statement}
 use Rattle.helper.proofs.same_bytes.Tie as tie
-use Rattle.helper.proofs.same_bytes.Reads as reads
-use Rattle.helper.proofs.same_bytes.Lts as lts
 use borrow.Author.Needs.{needs}
-use borrow.Author.Tests.{le-leb, lt-leb, leb-true, leb-false, eq-eqb, ne-eqb, eqb-true, eqb-false, not-true, not-false, ltb-true, ltb-false}
-use mathlib.Core.Path.{_≡_, refl, sym, ap, ap₂, _∙_, subst}
+use borrow.Author.Tests.{eq-eqb, ne-eqb}
+use mathlib.Core.Path.{_≡_, refl, sym, _∙_}
 use native.Mathlib.Omega.{arith}
-use mathlib.Core.Bool.{Bool, true, false, cond, _&&_, _||_, and-true, or-false}
-use lib.ListN.{length, getD, take, drop}
-use Prim.Native.Nat.{ℕ, zero, suc, _+_, _-_, _*_, _≤_, _<_}
+use lib.ListN.{length, drop}
+use Prim.Native.Nat.{_-_, _≤_}
 use Rattle.kinds.specs.Byte.{sameBytes}
 use Rattle.helper.proofs.CompareLaws.{bytes-differ, bytes-step, bytes-end}
 

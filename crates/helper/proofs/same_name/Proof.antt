@@ -1,15 +1,9 @@
 use borrow.Author.Needs.{needs}
 use Rattle.helper.proofs.same_name.Statement.{statement}
 use Rattle.helper.proofs.same_name.Tie as tie
-use Rattle.helper.proofs.same_name.Reads as reads
-use Rattle.helper.proofs.same_name.Lts as lts
-use Rattle.helper.proofs.same_bytes.Reads as same-bytes-reads
-use borrow.Author.Tests.{le-leb, lt-leb, leb-true, leb-false, eq-eqb, ne-eqb, eqb-true, eqb-false, not-true, not-false, ltb-true, ltb-false}
-use mathlib.Core.Path.{_≡_, refl, sym, ap, ap₂, _∙_, subst}
-use native.Mathlib.Omega.{arith}
-use mathlib.Core.Bool.{Bool, true, false, cond, _&&_, _||_, and-true, or-false}
-use lib.ListN.{length, getD, take, drop}
-use Prim.Native.Nat.{ℕ, zero, suc, _+_, _-_, _*_, _≤_, _<_}
+use mathlib.Core.Path.{ap₂, _∙_}
+use lib.ListN.{take, drop}
+use Prim.Native.Nat.{ℕ}
 use native.Mathlib.Nat.{add-sub-cancel-left}
 use Rattle.kinds.specs.Byte.{sameBytes}
 use Rattle.kinds.specs.Sheet.{firstAt, secondAt}
@@ -78,7 +72,9 @@ same-bytes-requires : tie.Need-same-bytes-requires
 same-bytes-requires c κs = search needs
 
 returns : tie.Need-returns
-returns c = (c .same-bytes .ensures) ∙ ap₂ (λ (i j : ℕ). sameBytes (take i (drop (firstAt ((c .before .before .before .before .before .before .before .before .before .before .before .args .a) .now) (c .before .before .before .before .before .before .before .before .before .before .before .args .at)) ((c .before .before .before .before .before .before .before .before .before .before .before .args .an) .now))) (take j (drop (firstAt ((c .before .before .before .before .before .before .before .before .before .before .before .args .b) .now) (c .before .before .before .before .before .before .before .before .before .before .before .args .bt)) ((c .before .before .before .before .before .before .before .before .before .before .before .args .bn) .now)))) (add-sub-cancel-left (firstAt ((c .before .before .before .before .before .before .before .before .before .before .before .args .a) .now) (c .before .before .before .before .before .before .before .before .before .before .before .args .at)) (secondAt ((c .before .before .before .before .before .before .before .before .before .before .before .args .a) .now) (c .before .before .before .before .before .before .before .before .before .before .before .args .at))) (add-sub-cancel-left (firstAt ((c .before .before .before .before .before .before .before .before .before .before .before .args .b) .now) (c .before .before .before .before .before .before .before .before .before .before .before .args .bt)) (secondAt ((c .before .before .before .before .before .before .before .before .before .before .before .args .b) .now) (c .before .before .before .before .before .before .before .before .before .before .before .args .bt)))
+returns c =
+    let a = c .before .before .before .before .before .before .before .before .before .before .before .args in
+    (c .same-bytes .ensures) ∙ ap₂ (λ (i j : ℕ). sameBytes (take i (drop (firstAt ((a .a) .now) (a .at)) ((a .an) .now))) (take j (drop (firstAt ((a .b) .now) (a .bt)) ((a .bn) .now)))) (add-sub-cancel-left (firstAt ((a .a) .now) (a .at)) (secondAt ((a .a) .now) (a .at))) (add-sub-cancel-left (firstAt ((a .b) .now) (a .bt)) (secondAt ((a .b) .now) (a .bt)))
 
 pub same-name-spec : {M : Type 1} → statement M
 same-name-spec =

@@ -1,9 +1,7 @@
 use Rattle.helper.proofs.same_numbers.Statement.{statement}
 use Rattle.helper.proofs.same_numbers.Tie as tie
-use Rattle.helper.proofs.same_numbers.Reads as reads
-use Rattle.helper.proofs.same_numbers.Lts as lts
-use borrow.Author.Tests.{le-leb, lt-leb, eq-eqb, ne-eqb, not-true, not-false}
-use mathlib.Core.Path.{_≡_, refl, sym, ap, ap₂, _∙_}
+use borrow.Author.Tests.{eq-eqb, ne-eqb}
+use mathlib.Core.Path.{sym, _∙_}
 use Rattle.helper.proofs.CompareLaws.{labels-bits, labels-typed, labels-array, labels-plain}
 
 returns : tie.Need-returns

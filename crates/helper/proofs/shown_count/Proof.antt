@@ -1,12 +1,7 @@
 use borrow.Author.Needs.{needs}
 use Rattle.helper.proofs.shown_count.Statement.{statement}
 use Rattle.helper.proofs.shown_count.Tie as tie
-use Rattle.helper.proofs.shown_count.Reads as reads
-use Rattle.helper.proofs.shown_count.Lts as lts
-use Rattle.kinds.proofs.NestingLevel.container_include_fields.Reads as container-include-fields-reads
-use borrow.Author.Tests.{le-leb, lt-leb, eq-eqb, ne-eqb, not-true, not-false}
-use mathlib.Core.Path.{_≡_, refl, sym, ap, ap₂, _∙_}
-use Rattle.helper.specs.Measure.{shownCount}
+use mathlib.Core.Path.{sym, _∙_}
 use Rattle.helper.proofs.CompareLaws.{count-included, count-dropped}
 
 container-include-fields-requires : tie.Need-container-include-fields-requires

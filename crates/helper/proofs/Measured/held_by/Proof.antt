@@ -1,13 +1,8 @@
 use borrow.Author.Needs.{needs}
 use Rattle.helper.proofs.Measured.held_by.Statement.{statement}
 use Rattle.helper.proofs.Measured.held_by.Tie as tie
-use Rattle.helper.proofs.Measured.held_by.Reads as reads
-use Rattle.helper.proofs.Measured.held_by.Lts as lts
-use Rattle.helper.proofs.Measured.larger.Reads as larger-reads
-use Rattle.helper.proofs.Measured.times.Reads as times-reads
-use Rattle.helper.proofs.bit_bytes.Reads as bit-bytes-reads
-use borrow.Author.Tests.{le-leb, lt-leb, eq-eqb, ne-eqb, not-true, not-false}
-use mathlib.Core.Path.{_≡_, refl, sym, ap, ap₂, _∙_}
+use borrow.Author.Tests.{eq-eqb, ne-eqb}
+use mathlib.Core.Path.{ap, _∙_}
 use Rattle.helper.specs.Measure.{holdingMeasured, largerMeasured}
 use Rattle.helper.specs.declared.Measured.the-variants.{Bytes}
 

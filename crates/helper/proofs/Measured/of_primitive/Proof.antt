@@ -1,10 +1,7 @@
 use borrow.Author.Needs.{needs}
 use Rattle.helper.proofs.Measured.of_primitive.Statement.{statement}
 use Rattle.helper.proofs.Measured.of_primitive.Tie as tie
-use Rattle.helper.proofs.Measured.of_primitive.Reads as reads
-use Rattle.helper.proofs.Measured.of_primitive.Lts as lts
-use Rattle.kinds.proofs.primitive_size.Reads as primitive-size-reads
-use mathlib.Core.Path.{_≡_, refl, sym, ap, ap₂, _∙_}
+use mathlib.Core.Path.{sym, ap, _∙_}
 use native.Mathlib.Omega.{arith}
 use Rattle.kinds.specs.Primitive.{sizeOf}
 use Rattle.helper.specs.Measure.{clip}

@@ -1,15 +1,10 @@
 use borrow.Author.Needs.{needs}
 use Rattle.helper.proofs.Measured.plus.Statement.{statement}
 use Rattle.helper.proofs.Measured.plus.Tie as tie
-use Rattle.helper.proofs.Measured.plus.Reads as reads
-use Rattle.helper.proofs.Measured.plus.Lts as lts
-use borrow.Author.Tests.{le-leb, lt-leb, leb-true, leb-false, eq-eqb, ne-eqb, eqb-true, eqb-false, not-true, not-false, ltb-true, ltb-false}
-use mathlib.Core.Path.{_≡_, refl, sym, ap, ap₂, _∙_, subst}
+use mathlib.Core.Path.{sym}
 use native.Mathlib.Omega.{arith}
-use Prim.Native.Nat.{ℕ, zero, suc, _+_, _-_, _*_, _≤_, _<_, max}
-use Rattle.helper.specs.Measure.{plusMeasured, largerMeasured, timesMeasured, joinMeasured, fit, clip, fold}
-use Rattle.helper.specs.declared.Measured.the-variants.{Bytes}
-use Rattle.helper.proofs.SizeLaws.{fit-le, fit-gt, product-fits, product-over}
+use Rattle.helper.specs.Measure.{plusMeasured}
+use Rattle.helper.proofs.SizeLaws.{fit-le, fit-gt}
 
 enum-told : tie.Need-enum-told
 enum-told c = search needs

@@ -1,15 +1,11 @@
 use borrow.Author.Needs.{needs}
 use Rattle.helper.proofs.Measured.times.Statement.{statement}
 use Rattle.helper.proofs.Measured.times.Tie as tie
-use Rattle.helper.proofs.Measured.times.Reads as reads
-use Rattle.helper.proofs.Measured.times.Lts as lts
-use borrow.Author.Tests.{le-leb, lt-leb, leb-true, leb-false, eq-eqb, ne-eqb, eqb-true, eqb-false, not-true, not-false, ltb-true, ltb-false}
-use mathlib.Core.Path.{_≡_, refl, sym, ap, ap₂, _∙_, subst}
+use borrow.Author.Tests.{eq-eqb, ne-eqb}
+use mathlib.Core.Path.{sym, ap, _∙_}
 use native.Mathlib.Omega.{arith}
-use Prim.Native.Nat.{ℕ, zero, suc, _+_, _-_, _*_, _≤_, _<_, max}
 use native.Mathlib.Nat.{zero-mul}
-use Rattle.helper.specs.Measure.{plusMeasured, largerMeasured, timesMeasured, joinMeasured, fit, clip, fold}
-use Rattle.helper.specs.declared.Measured.the-variants.{Bytes}
+use Rattle.helper.specs.Measure.{timesMeasured, fit}
 use Rattle.helper.proofs.SizeLaws.{fit-le, fit-gt, product-fits, product-over}
 
 enum-told : tie.Need-enum-told

@@ -1,0 +1,10 @@
+-- Laws of the definitions that belong to no one function.
+pub mod Laws
+pub mod Names
+pub mod Stores
+pub mod Text
+pub mod Sheets
+pub mod Cycle
+pub mod Entry
+pub mod FromStr
+pub mod Skip

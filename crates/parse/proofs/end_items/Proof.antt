@@ -1,0 +1,61 @@
+use borrow.Author.Needs.{needs}
+use mathlib.Core.Path.{refl, sym, _∙_}
+use Rattle.parse.proofs.end_items.Statement.{statement}
+use Rattle.parse.proofs.end_items.Tie as tie
+
+enum-told : tie.Need-enum-told
+enum-told c = search needs
+
+enum-told-2 : tie.Need-enum-told-2
+enum-told-2 c = search needs
+
+enum-known-p : tie.Need-enum-known-p
+enum-known-p c = search needs
+
+same-container-requires : tie.Need-same-container-requires
+same-container-requires c κs = search needs
+
+end-byte-requires : tie.Need-end-byte-requires
+end-byte-requires c κs = search needs
+
+enum-known-p-2 : tie.Need-enum-known-p-2
+enum-known-p-2 c = search needs
+
+enum-known-p-3 : tie.Need-enum-known-p-3
+enum-known-p-3 c = search needs
+
+returns : tie.Need-returns
+returns c = rw (c .enum-told .given .1) refl
+
+returns-2 : tie.Need-returns-2
+returns-2 c = rw (c .enum-told2 .given .1) refl
+
+returns-3 : tie.Need-returns-3
+returns-3 c = rw (c .before .before .before .p .given .1, sym (c .before .same-container .ensures) ∙ c .if1 .taken) refl
+
+returns-4 : tie.Need-returns-4
+returns-4 c = rw (c .before .before .before .before .p .given .1, sym (c .before .before .same-container .ensures) ∙ c .before .if1 .left, c .end-byte .ensures) refl
+
+returns-5 : tie.Need-returns-5
+returns-5 c = rw (c .before .p2 .given .1) refl
+
+returns-6 : tie.Need-returns-6
+returns-6 c = rw (c .before .p3 .given .1) refl
+
+pub end-items-spec : {M : Type 1} → statement M
+end-items-spec =
+    tie.close
+    (tie.spec
+    enum-told
+    enum-told-2
+    enum-known-p
+    same-container-requires
+    end-byte-requires
+    enum-known-p-2
+    enum-known-p-3
+    returns
+    returns-2
+    returns-3
+    returns-4
+    returns-5
+    returns-6)

@@ -1,0 +1,91 @@
+use borrow.Author.Needs.{needs}
+use mathlib.Core.Path.{refl, sym, _∙_}
+use native.Mathlib.Omega.{arith}
+use Rattle.parse.proofs.Laws.{closed-in}
+use Rattle.parse.proofs.put_array.Statement.{statement}
+use Rattle.parse.proofs.put_array.Tie as tie
+
+enum-told : tie.Need-enum-told
+enum-told c = search needs
+
+enum-known-p : tie.Need-enum-known-p
+enum-known-p c = search needs
+
+closes-item-requires : tie.Need-closes-item-requires
+closes-item-requires c κs = search needs
+
+sub-put-node : tie.Need-sub-put-node
+sub-put-node c = rw (c .before .before .before .before .p .given .1) at (c .before .before .before .before .before .before .before .before .pre .1)
+
+put-node-requires : tie.Need-put-node-requires
+put-node-requires c κs = search needs
+
+add-t23 : tie.Need-add-t23
+add-t23 c = let h = closed-in (c .before .before .before .before .before .before .before .before .before .before .before .args .text .now) (c .before .before .before .before .before .before .before .p .given .0 .0) (sym (c .before .before .before .before .before .closes-item .ensures) ∙ c .before .before .before .before .if1 .taken) in omega (arith, c .before .before .before .before .before .before .before .before .before .before .before .good .1 .0)
+
+enum-known-p-2 : tie.Need-enum-known-p-2
+enum-known-p-2 c = search needs
+
+end-byte-requires : tie.Need-end-byte-requires
+end-byte-requires c κs = search needs
+
+enum-known-p-3 : tie.Need-enum-known-p-3
+enum-known-p-3 c = search needs
+
+put-none-under-requires : tie.Need-put-none-under-requires
+put-none-under-requires c κs = search needs
+
+add-t31 : tie.Need-add-t31
+add-t31 c = search needs
+
+enum-known-p-4 : tie.Need-enum-known-p-4
+enum-known-p-4 c = search needs
+
+returns : tie.Need-returns
+returns c = rw (c .enum-told .given .1) (refl, refl)
+
+same-length : tie.Need-same-length
+same-length c = search needs
+
+returns-2 : tie.Need-returns-2
+returns-2 c = rw (c .before .before .before .before .before .before .before .p .given .1, sym (c .before .before .before .before .before .closes-item .ensures) ∙ c .before .before .before .before .if1 .taken) (refl, c .before .before .put-node .ensures)
+
+returns-3 : tie.Need-returns-3
+returns-3 c = rw (c .before .before .before .p .given .1, sym (c .before .closes-item .ensures) ∙ c .if1 .left) (refl, refl)
+
+returns-4 : tie.Need-returns-4
+returns-4 c = rw (c .before .before .p2 .given .1, c .end-byte .ensures) (refl, refl)
+
+same-length-2 : tie.Need-same-length-2
+same-length-2 c = search needs
+
+returns-5 : tie.Need-returns-5
+returns-5 c = rw (c .before .before .before .before .before .p3 .given .1) (refl, c .before .before .put-none-under .ensures)
+
+returns-6 : tie.Need-returns-6
+returns-6 c = rw (c .before .p4 .given .1) (refl, refl)
+
+pub put-array-spec : {M : Type 1} → statement M
+put-array-spec =
+    tie.close
+    (tie.spec
+    enum-told
+    enum-known-p
+    closes-item-requires
+    sub-put-node
+    put-node-requires
+    add-t23
+    enum-known-p-2
+    end-byte-requires
+    enum-known-p-3
+    put-none-under-requires
+    add-t31
+    enum-known-p-4
+    returns
+    same-length
+    returns-2
+    returns-3
+    returns-4
+    same-length-2
+    returns-5
+    returns-6)

@@ -1,0 +1,243 @@
+-- What the reader's outcomes say, against the definitions.
+use Prim.Native.Nat.{ℕ, suc, _+_, _*_, _-_, _≤_, _<_}
+use mathlib.Core.Path.{_≡_}
+use mathlib.Core.List.{List, []}
+use lib.ListN.{length, take, drop, getD}
+use lib.Seq.{sets}
+use lib.Dec.{ltb, eqb}
+use mathlib.Core.Bool.{_||_}
+use mathlib.Core.Logic.{_⊎_}
+use mathlib.Core.Option.{some, none}
+use Rattle.kinds.specs.Parse as R
+use Rattle.kinds.specs.Container.{endByte}
+use Rattle.kinds.specs.Parse.{value, noNumber, empty, encoding, containerEnd, arrayEnd, refused, items, itemsRefused, parseInner, parseItems, start, integral}
+use Rattle.kinds.specs.Sheet.{nodes, namesOf, sheetOf}
+use Rattle.kinds.specs.Tree.{Label, Trees, end, node, count, primitive, bitField, typedBitField}
+use Rattle.parse.specs.Room.{slack}
+use Rattle.kinds.specs.declared.ContainerKind.{ContainerKind}
+use Rattle.parse.specs.declared.Number.{Number}
+use Rattle.parse.specs.declared.Number.the-variants.{Value, Refused as NoNumber}
+use Rattle.parse.specs.declared.Leaf.{Leaf}
+use Rattle.parse.specs.declared.Leaf.the-variants.{Is, Refused as NoLeaf}
+use Rattle.parse.specs.declared.Bits.{Bits}
+use Rattle.parse.specs.declared.Bits.the-variants.{Plain, Typed, Refused as NoBits}
+use Rattle.parse.specs.declared.Items.{Items}
+use Rattle.parse.specs.declared.Items.the-variants.{Read, Refused as NoItems}
+use Rattle.parse.specs.declared.Name.{Name}
+use Rattle.parse.specs.declared.Name.the-variants as N
+use Rattle.parse.specs.declared.Named.{Named}
+use Rattle.parse.specs.declared.Named.the-variants as D
+use Rattle.kinds.specs.declared.ErrorKind.{ErrorKind}
+use Rattle.parse.specs.EncodingBox.{used, turnedAway, filled}
+use Rattle.parse.specs.declared.Encoded.{Encoded}
+use Rattle.parse.specs.declared.Encoded.the-variants as E
+use Rattle.parse.specs.declared.Parsed.{Parsed}
+use Rattle.parse.specs.declared.Parsed.the-variants.{Empty, Encoding, ContainerEnd, ArrayEnd, Refused}
+
+-- A place at or after `at`, within the text.
+abbrev pub Onward : List ℕ → ℕ → ℕ → Type 0
+Onward text at to = (at ≤ to) × (to ≤ length text)
+
+abbrev pub NumberIs : List ℕ → ℕ → Number → R.Number → Type 0
+NumberIs text at (Value v to) q = (q ≡ value v (drop to text)) × Onward text at to
+NumberIs text at (NoNumber why to) q = (q ≡ noNumber why (drop to text)) × Onward text at to
+
+-- The lists at entry and at exit.
+pub record Lists : Type 0 where
+  pub words : List ℕ
+  pub names : List ℕ
+
+-- A tree read: its nodes and name bytes are written in.
+pub record FoundIs (text : List ℕ) (n m : ℕ) (before after : Lists) (to k l : ℕ) (q : R.Parsed) : Type 0 where
+  pub label : Label
+  pub children : Trees
+  pub is : q ≡ encoding label children (drop to text)
+  pub count-is : k ≡ n + suc (count children)
+  pub names-is : l ≡ m + length (namesOf (node label children end))
+  pub words-are : after .words ≡ sets (before .words) (4 * n) (nodes (node label children end) m)
+  pub names-are : after .names ≡ sets (before .names) m (namesOf (node label children end))
+
+abbrev pub ParsedIs : List ℕ → ℕ → ℕ → Lists → Lists → Parsed → R.Parsed → Type 0
+ParsedIs text n m b a Empty q = q ≡ empty
+ParsedIs text n m b a (Encoding to k l) q = FoundIs text n m b a to k l q
+ParsedIs text n m b a (ContainerEnd kind to) q = q ≡ containerEnd kind (drop to text)
+ParsedIs text n m b a (ArrayEnd to) q = q ≡ arrayEnd (drop to text)
+ParsedIs text n m b a (Refused why to) q = q ≡ refused why (drop to text)
+
+-- Nothing is written.
+pub record Kept (before after : Lists) : Type 0 where
+  pub words-kept : after .words ≡ before .words
+  pub names-kept : after .names ≡ before .names
+
+-- Nothing is written at or beyond what may be made of the bytes unread.
+pub record Frame (text : List ℕ) (at n m : ℕ) (before after : Lists) : Type 0 where
+  pub words-frame : (e : ℕ) → 4 * (n + slack (drop at text)) ≤ e → drop e (after .words) ≡ drop e (before .words)
+  pub names-frame : (e : ℕ) → m + (length text - at) ≤ e → drop e (after .names) ≡ drop e (before .names)
+
+pub record FoundBound (text : List ℕ) (at n m to k l : ℕ) : Type 0 where
+  pub onward : at < to
+  pub within : to ≤ length text
+  pub more : n < k
+  pub room : k + slack (drop to text) ≤ n + slack (drop at text)
+  pub names-on : m ≤ l
+  pub names-room : l + (length text - to) ≤ m + (length text - at)
+
+-- A closer was read.
+pub record Ended (text : List ℕ) (at : ℕ) (before after : Lists) (to : ℕ) : Type 0 where
+  pub next : to ≡ at + 1
+  pub within : to ≤ length text
+  pub closer : slack (drop at text) ≡ length text - at
+  pub kept : Kept before after
+
+abbrev pub Bound : List ℕ → ℕ → ℕ → ℕ → Lists → Lists → Parsed → Type 0
+Bound text at n m b a Empty = (at ≡ length text) × Kept b a
+Bound text at n m b a (Encoding to k l) = FoundBound text at n m to k l
+Bound text at n m b a (ContainerEnd kind to) = Ended text at b a to
+Bound text at n m b a (ArrayEnd to) = Ended text at b a to
+Bound text at n m b a (Refused why to) = (to ≤ length text) × Frame text at n m b a
+
+-- What reading asks: a place in the text, and room for what the bytes unread may make.
+pub record Ready (text : List ℕ) (at n m : ℕ) (before : Lists) : Type 0 where
+  pub at-place : at ≤ length text
+  pub words-room : 4 * (n + slack (drop at text)) ≤ length (before .words)
+  pub names-room : m + (length text - at) ≤ length (before .names)
+
+-- The outcome of reading at a place, whatever the fuel.
+pub record Reads (text : List ℕ) (at n m : ℕ) (before after : Lists) (r : Parsed) : Type 0 where
+  pub bound : Bound text at n m before after r
+  pub says : (f : ℕ) → length (drop at text) + length (drop at text) ≤ f → ParsedIs text n m before after r (parseInner f (drop at text))
+
+abbrev pub LeafIs : List ℕ → ℕ → Leaf → R.Parsed → Type 0
+LeafIs text at (Is p to) q = ((q ≡ encoding (primitive p) end (drop to text)) × (p < 24)) × Onward text at to
+LeafIs text at (NoLeaf why to) q = (q ≡ refused why (drop to text)) × Onward text at to
+
+abbrev pub BitsIs : List ℕ → ℕ → Bits → R.Parsed → Type 0
+BitsIs text at (Plain size to) q = (q ≡ encoding (bitField size) end (drop to text)) × Onward text at to
+BitsIs text at (Typed offset p size to) q = (q ≡ encoding (typedBitField offset size) (node (primitive p) end end) (drop to text)) × ((at < to) × (to ≤ length text))
+BitsIs text at (NoBits why to) q = (q ≡ refused why (drop to text)) × Onward text at to
+
+-- The primitive that a byte is the code of, or 255.
+pub record CodeIs (b r : ℕ) : Type 0 where
+  pub code-known : r < 255 → start b ≡ R.single r
+  pub code-none : r ≡ 255 → start b ≡ R.inOthers b R.others
+  pub integral-is : integral b ≡ (ltb r 10 || eqb r 16)
+  pub code-range : (r < 24) ⊎ (r ≡ 255)
+
+abbrev pub UntypedIs : ℕ → ℕ → Bits → Type 0
+UntypedIs n to r = (text : List ℕ) (at : ℕ) → at ≤ to → to ≤ length text → BitsIs text at r (R.untyped n (drop to text))
+
+-- Where a name ends: at `=`, at the container's own closer, or with the text.
+pub record NameEnd (text : List ℕ) (at : ℕ) (kind : ContainerKind) (r : ℕ) : Type 0 where
+  pub onward : at ≤ r
+  pub within : r ≤ length text
+  pub scanned : R.parseName kind [] (drop at text) ≡ R.parseName kind (take (r - at) (drop at text)) (drop r text)
+  pub stopped : r < length text → (getD text r 0 ≡ 61 → ⊥) → getD text r 0 ≡ endByte kind
+
+-- The name goes up to `e`, and reading goes on at `to`.
+pub record NameRead (text : List ℕ) (at e to : ℕ) (q : R.Named) : Type 0 where
+  pub is : q ≡ R.named (take (e - at) (drop at text)) (drop to text)
+  pub some : at < e
+  pub passed : e ≤ to
+  pub within : to ≤ length text
+
+abbrev pub NameIs : List ℕ → ℕ → Name → R.Named → Type 0
+NameIs text at (N.Is e to) q = NameRead text at e to q
+NameIs text at (N.Refused why to) q = (q ≡ R.unnamed why (drop to text)) × (to ≤ length text)
+
+pub record NameFound (text : List ℕ) (at m : ℕ) (before after : List ℕ) (to l : ℕ) (q : R.Named) : Type 0 where
+  pub name : List ℕ
+  pub is : q ≡ R.named name (drop to text)
+  pub names-is : l ≡ m + length name
+  pub names-are : after ≡ sets before m name
+  pub onward : at < to
+  pub within : to ≤ length text
+  pub names-room : l + (length text - to) ≤ m + (length text - at)
+
+abbrev pub NamedIs : List ℕ → ℕ → ℕ → List ℕ → List ℕ → Named → R.Named → Type 0
+NamedIs text at m b a (D.Is to l) q = NameFound text at m b a to l q
+NamedIs text at m b a (D.Refused why to) q = ((q ≡ R.unnamed why (drop to text)) × (to ≤ length text)) × (a ≡ b)
+
+abbrev pub lists : List ℕ → List ℕ → Lists
+lists w ns = record { words = w; names = ns }
+
+-- The outcome of reading a byte that begins nothing with parts, whatever reads parts.
+pub record Simple (text : List ℕ) (at n m : ℕ) (w w' : List ℕ) (r : Parsed) : Type 0 where
+  pub bound : (ns : List ℕ) → Bound text at n m (lists w ns) (lists w' ns) r
+  pub says : (ns : List ℕ) (inner : List ℕ → R.Parsed) (fields : ContainerKind → List ℕ → R.Items)
+      → ParsedIs text n m (lists w ns) (lists w' ns) r (R.begin (getD text at 0) (R.start (getD text at 0)) (drop (at + 1) text) inner fields)
+
+-- The byte begins nothing with parts.
+abbrev pub WithoutParts : ℕ → Type 0
+WithoutParts b = ((((b ≡ 94 → ⊥) × (b ≡ 65 → ⊥)) × (b ≡ 91 → ⊥)) × (b ≡ 123 → ⊥)) × (b ≡ 40 → ⊥)
+
+pub record SimpleReady (text : List ℕ) (at n : ℕ) (w : List ℕ) : Type 0 where
+  pub at-place : at < length text
+  pub words-room : 4 * (n + slack (drop at text)) ≤ length w
+  pub plain : WithoutParts (getD text at 0)
+
+-- ---- The fields of a container.
+
+pub record ItemsFound (text : List ℕ) (n m : ℕ) (before after : Lists) (to k l : ℕ) (q : R.Items) : Type 0 where
+  pub trees : Trees
+  pub is : q ≡ items trees (drop to text)
+  pub count-is : k ≡ n + count trees
+  pub names-is : l ≡ m + length (namesOf trees)
+  pub words-are : after .words ≡ sets (before .words) (4 * n) (nodes trees m)
+  pub names-are : after .names ≡ sets (before .names) m (namesOf trees)
+
+abbrev pub ItemsIs : List ℕ → ℕ → ℕ → Lists → Lists → Items → R.Items → Type 0
+ItemsIs text n m b a (Read to k l) q = ItemsFound text n m b a to k l q
+ItemsIs text n m b a (NoItems why to) q = q ≡ itemsRefused why (drop to text)
+
+pub record ItemsBound (text : List ℕ) (at n m to k l : ℕ) : Type 0 where
+  pub onward : at < to
+  pub within : to ≤ length text
+  pub more : n ≤ k
+  pub room : k + (length text - to) + 1 ≤ n + slack (drop at text)
+  pub names-on : m ≤ l
+  pub names-room : l + (length text - to) ≤ m + (length text - at)
+
+abbrev pub ItemsWithin : List ℕ → ℕ → ℕ → ℕ → Lists → Lists → Items → Type 0
+ItemsWithin text at n m b a (Read to k l) = ItemsBound text at n m to k l
+ItemsWithin text at n m b a (NoItems why to) = (to ≤ length text) × Frame text at n m b a
+
+pub record ItemsReads (text : List ℕ) (at : ℕ) (kind : ContainerKind) (n m : ℕ) (before after : Lists) (r : Items) : Type 0 where
+  pub bound : ItemsWithin text at n m before after r
+  pub says : (f : ℕ) → length (drop at text) + length (drop at text) < f → ItemsIs text n m before after r (parseItems f kind (drop at text))
+
+-- A container is to be read: its opening byte is at the place.
+pub record ContainerReady (text : List ℕ) (at : ℕ) (kind : ContainerKind) (n m : ℕ) (before : Lists) : Type 0 where
+  pub ready : Ready text at n m before
+  pub at-byte : at < length text
+  pub opens : start (getD text at 0) ≡ R.openContainer kind
+
+-- ---- The whole text.
+
+-- A tree at the start of the text, its sheet written and zeros up to what reading uses.
+pub record TreeAt (text : List ℕ) (before after : Lists) (to : ℕ) : Type 0 where
+  pub away : turnedAway text (before .words) (before .names) ≡ none
+  pub label : Label
+  pub children : Trees
+  pub is : R.parseEncodingOrNone text ≡ R.encoded label children (drop to text)
+  pub words-room : used (length text) ≤ length (before .words)
+  pub names-room : length text ≤ length (before .names)
+  pub within : to ≤ length text
+  pub words-are : after .words ≡ filled (used (length text)) (sheetOf (node label children end)) (before .words)
+  pub names-are : after .names ≡ filled (length text) (namesOf (node label children end)) (before .names)
+  pub words-fit : length (sheetOf (node label children end)) ≤ used (length text)
+  pub names-fit : length (namesOf (node label children end)) ≤ length text
+
+-- No tree, and zeros in what reading uses.
+pub record NoTree (text : List ℕ) (before after : Lists) (why : ErrorKind) (to : ℕ) : Type 0 where
+  pub away : turnedAway text (before .words) (before .names) ≡ none
+  pub is : R.parseEncodingOrNone text ≡ R.notEncoded why (drop to text)
+  pub words-room : used (length text) ≤ length (before .words)
+  pub names-room : length text ≤ length (before .names)
+  pub within : to ≤ length text
+  pub words-are : after .words ≡ filled (used (length text)) [] (before .words)
+  pub names-are : after .names ≡ filled (length text) [] (before .names)
+
+abbrev pub EncodedIs : List ℕ → Lists → Lists → Encoded → Type 0
+EncodedIs text b a (E.Tree to) = TreeAt text b a to
+EncodedIs text b a (E.Away why) = (turnedAway text (b .words) (b .names) ≡ some why) × Kept b a
+EncodedIs text b a (E.Refused why to) = NoTree text b a why to
