@@ -1,12 +1,18 @@
 -- The answers as numbers: 0 where the input is accepted, else 01's number of the refusal; and what stands in the lent answer, 0 throughout on a refusal.
-use Prim.Native.Nat.{ℕ}
+use Prim.Native.Nat.{ℕ, _-_}
 use mathlib.Core.Bool.{Bool, true, false}
 use mathlib.Core.List.{List, [], _∷_}
-use Rattle.kinds.specs.Refusal.{number}
+use lib.ListN.{length}
+use Rattle.kinds.specs.Refusal.{number, values}
+use Rattle.expect.specs.declared.Compared as M
+use Rattle.expect.specs.declared.Compared.the-variants as E
 use Rattle.helper.specs.declared.Compared.{Compared}
 use Rattle.helper.specs.declared.Compared.the-variants as C
 use Rattle.helper.specs.declared.Sized.{Sized}
 use Rattle.helper.specs.declared.Sized.the-variants as S
+use Rattle.parse.specs.EncodingBox.{fromStartAnswer, fromStartRest}
+use Rattle.parse.specs.declared.Reading.{Reading}
+use Rattle.parse.specs.declared.Reading.the-variants as G
 use Rattle.static_str.specs.declared.Printed.{Printed}
 use Rattle.static_str.specs.declared.Printed.the-variants as P
 
@@ -39,3 +45,26 @@ printNumber (P.Bytes n) = 0
 abbrev pub printValues : Printed → List ℕ
 printValues (P.Refused r) = 0 ∷ []
 printValues (P.Bytes n) = n ∷ []
+
+abbrev pub readNumber : Reading → ℕ
+readNumber G.Tree = 0
+readNumber (G.Refused r) = number r
+
+-- The refusal's place, byte and container; `place` and zeros for a tree.
+abbrev pub readValues : ℕ → Reading → List ℕ
+readValues place G.Tree = place ∷ 0 ∷ 0 ∷ []
+readValues place (G.Refused r) = values r
+
+-- The place where the rest begins.
+abbrev pub restPlace : List ℕ → List ℕ → List ℕ → ℕ
+restPlace text words names = length text - length (fromStartRest text words names)
+
+-- Tree against text, as tree against tree.
+abbrev pub matchNumber : M.Compared → ℕ
+matchNumber (E.Refused r) = number r
+matchNumber (E.Decided y) = 0
+
+abbrev pub matchValues : M.Compared → List ℕ
+matchValues (E.Refused r) = 0 ∷ []
+matchValues (E.Decided true) = 1 ∷ []
+matchValues (E.Decided false) = 0 ∷ []

@@ -3,11 +3,14 @@
 ghost use mathlib.Core.Path.{_≡_};
 ghost use mathlib.Core.Bool.{true, false};
 ghost use lib.ListN.{length};
+ghost use Rattle.parse.specs.EncodingBox.{fromStrAnswer, fromStrWords, fromStrNames, fromStartAnswer, fromStartWords, fromStartNames};
+ghost use Rattle.expect.specs.Encoding.{compared};
 ghost use Rattle.helper.specs.Answer.{sizeAnswer, compareAnswer};
 ghost use Rattle.static_str.specs.Outcome.{encodingLen, encodingArray, encodingOutput};
-ghost use Rattle.berzhotun.specs.Numbers.{sizeNumber, sizeValues, compareNumber, compareValues, printNumber, printValues};
+ghost use Rattle.berzhotun.specs.Numbers.{sizeNumber, sizeValues, compareNumber, compareValues, printNumber, printValues, readNumber, readValues, restPlace, matchNumber, matchValues};
 use helper::Compared;
 use helper::Sized;
+use parse::Reading;
 use static_str::Printed;
 
 // A comparison's answer as numbers.
@@ -65,6 +68,44 @@ fn give_sized(s: Sized, answer: &mut [u64; 2]) -> u64
         Sized::Bytes(n) => {
             *answer = [1, n];
             0
+        }
+    }
+}
+
+// The answer of tree against text as numbers.
+fn give_matched(c: expect::Compared, answer: &mut [u64; 1]) -> u64
+    ensures returns { λ r. ⌜ r ≡ matchNumber c ⌝ }
+    ensures answers { λ _. ⌜ now (answer .exit) ≡ matchValues c ⌝ }
+{
+    match c {
+        expect::Compared::Refused(why) => {
+            *answer = [0];
+            why.number()
+        }
+        expect::Compared::Decided(yes) => {
+            if yes {
+                *answer = [1];
+            } else {
+                *answer = [0];
+            }
+            0
+        }
+    }
+}
+
+// A whole-text reading's answer as numbers.
+fn give_reading(reading: Reading, values: &mut [u64; 3]) -> u64
+    ensures returns { λ r. ⌜ r ≡ readNumber reading ⌝ }
+    ensures answers { λ _. ⌜ now (values .exit) ≡ readValues 0 reading ⌝ }
+{
+    match reading {
+        Reading::Tree => {
+            *values = [0, 0, 0];
+            0
+        }
+        Reading::Refused(why) => {
+            *values = why.values();
+            why.number()
         }
     }
 }
@@ -146,4 +187,41 @@ pub extern "C" fn berzhotun_static_encoding_str_array(
         static_str::static_encoding_str_array(words, names, out),
         answer,
     )
+}
+
+#[no_mangle]
+pub extern "C" fn berzhotun_from_str(text: &[u8], words: &mut [u64], names: &mut [u8], values: &mut [u64; 3]) -> u64
+    ensures returns { λ r. ⌜ r ≡ readNumber (fromStrAnswer (now (text .entry)) (now (words .entry)) (now (names .entry))) ⌝ }
+    ensures answers { λ _. ⌜ now (values .exit) ≡ readValues 0 (fromStrAnswer (now (text .entry)) (now (words .entry)) (now (names .entry))) ⌝ }
+    ensures fills { λ _. ⌜ now (words .exit) ≡ fromStrWords (now (text .entry)) (now (words .entry)) (now (names .entry)) ⌝ }
+    ensures names { λ _. ⌜ now (names .exit) ≡ fromStrNames (now (text .entry)) (now (words .entry)) (now (names .entry)) ⌝ }
+{
+    give_reading(parse::from_str(text, words, names), values)
+}
+
+// The rest goes out as the place where it begins: the caller has the text.
+#[no_mangle]
+pub extern "C" fn berzhotun_from_start_of_str(text: &[u8], words: &mut [u64], names: &mut [u8], values: &mut [u64; 3]) -> u64
+    ensures returns { λ r. ⌜ r ≡ readNumber (fromStartAnswer (now (text .entry)) (now (words .entry)) (now (names .entry))) ⌝ }
+    ensures answers { λ _. ⌜ now (values .exit) ≡ readValues (restPlace (now (text .entry)) (now (words .entry)) (now (names .entry))) (fromStartAnswer (now (text .entry)) (now (words .entry)) (now (names .entry))) ⌝ }
+    ensures fills { λ _. ⌜ now (words .exit) ≡ fromStartWords (now (text .entry)) (now (words .entry)) (now (names .entry)) ⌝ }
+    ensures names { λ _. ⌜ now (names .exit) ≡ fromStartNames (now (text .entry)) (now (words .entry)) (now (names .entry)) ⌝ }
+{
+    let mut answer = [0; 4];
+    let rest = parse::from_start_of_str(text, words, names, &mut answer);
+    let number = answer[0];
+    if number == 0 {
+        *values = [(text.len() - rest.len()) as u64, 0, 0];
+        return 0;
+    }
+    *values = [answer[1], answer[2], answer[3]];
+    number
+}
+
+#[no_mangle]
+pub extern "C" fn berzhotun_equivalent_to_str(words: &[u64], names: &[u8], text: &[u8], answer: &mut [u64; 1]) -> u64
+    ensures returns { λ r. ⌜ r ≡ matchNumber (compared (now (words .entry)) (now (names .entry)) (now (text .entry))) ⌝ }
+    ensures answers { λ _. ⌜ now (answer .exit) ≡ matchValues (compared (now (words .entry)) (now (names .entry)) (now (text .entry))) ⌝ }
+{
+    give_matched(expect::equivalent_to_str(words, names, text), answer)
 }

@@ -1,10 +1,13 @@
 -- What the calls answer for good sheets, from the trees that they hold.
-use Prim.Native.Nat.{ℕ}
+use Prim.Native.Nat.{ℕ, _≤_}
 use mathlib.Core.Bool.{Bool, true, false, cond, _&&_}
 use mathlib.Core.List.{List}
 use mathlib.Core.Path.{_≡_, refl, sym, ap, _∙_}
+use lib.Dec.{ltb}
 use lib.ListN.{length}
+use borrow.Author.Tests.{le-ltb}
 use Rattle.kinds.specs.Compare.{compareEncodings, equivalentTo}
+use Rattle.kinds.specs.Expect.{equivalentToStr}
 use Rattle.kinds.specs.Print.{print}
 use Rattle.kinds.specs.Sheet.{isSheet, treeOf}
 use Rattle.kinds.specs.Size.{size}
@@ -17,6 +20,9 @@ use Rattle.kinds.proofs.TableLaws.{both}
 use Rattle.sheet.specs.Check.{checked}
 use Rattle.sheet.specs.declared.Checked.the-variants.{Good}
 use Rattle.sheet.proofs.CheckLaws.{is-good}
+use Rattle.expect.specs.Encoding.{maxText, comparedSheet, compared}
+use Rattle.expect.specs.declared.Compared as M
+use Rattle.expect.specs.declared.Compared.the-variants as E
 use Rattle.helper.specs.Answer.{sized, sizeAnswer, compareAnswer}
 use Rattle.helper.specs.declared.Compared.{Compared}
 use Rattle.helper.specs.declared.Compared.the-variants as C
@@ -56,6 +62,23 @@ module _ (w s : List ℕ) (h : GoodSheet w s) where
   pub size-answer : sizeAnswer w s ≡ sized (size (treeOf w s))
   unfolding sizeAnswer
   size-answer = rw (h .sheet, h .good-names)
+
+-- The answer for a text, from that of the tree.
+unfoldable pub againstText : List ℕ → (List ℕ → Bool) → M.Compared
+againstText text answer = cond (ltb maxText (length text)) (E.Refused R.TextTooLong) (E.Decided (answer text))
+
+module _ (w s : List ℕ) (h : GoodSheet w s) where
+  pub text-answer : (text : List ℕ) → compared w s text ≡ againstText text (equivalentToStr (treeOf w s))
+  unfolding compared againstText
+  text-answer text = rw (good-checked w s h)
+
+  pub text-decided : (text : List ℕ) → length text ≤ maxText → compared w s text ≡ E.Decided (equivalentToStr (treeOf w s) text)
+  unfolding againstText
+  text-decided text q = text-answer text ∙ rw (le-ltb maxText (length text) q)
+
+same-text : (text : List ℕ) (f g : List ℕ → Bool) → f text ≡ g text → againstText text f ≡ againstText text g
+unfolding againstText
+same-text text f g e = ap (λ (b : Bool). cond (ltb maxText (length text)) (E.Refused R.TextTooLong) (E.Decided b)) e
 
 -- The answer of a comparison with other lists, from that of the trees.
 unfoldable pub againstOther : Bool → Bool → Bool → Compared
@@ -98,4 +121,5 @@ module _ (aw an bw bn : List ℕ) (a : GoodSheet aw an) (b : GoodSheet bw bn) (e
     second = λ cw cn. compare-second aw an a cw cn
         ∙ where-sheet (isSheet cw cn) (goodNames (treeOf cw cn)) _ _ (λ q. trees .second (valid-tree aw an a) (valid-tree bw bn b) (treeOf cw cn) (test-holds cw cn q .valid-tree))
         ∙ sym (compare-second bw bn b cw cn);
+    texts = λ text. text-answer aw an a text ∙ same-text text (equivalentToStr (treeOf aw an)) (equivalentToStr (treeOf bw bn)) (trees .texts text) ∙ sym (text-answer bw bn b text);
   }

@@ -7,6 +7,7 @@ use Rattle.kinds.specs.Sheet.{isSheet, treeOf}
 use Rattle.kinds.specs.Sound.{goodNames, sound}
 use Rattle.kinds.specs.Tree.{Trees, shown}
 use Rattle.kinds.specs.declared.NestingLevel.the-variants.{Top}
+use Rattle.expect.specs.Encoding.{compared}
 use Rattle.helper.specs.Answer.{sizeAnswer, compareAnswer}
 use Rattle.static_str.specs.Outcome.{encodingLen, encodingArray, encodingOutput}
 
@@ -33,3 +34,5 @@ pub record SheetsAlike (aw an bw bn : List ℕ) : Type 0 where
   -- By levels, with any lists on the other side.
   pub first : (cw cn : List ℕ) → compareAnswer false aw an cw cn ≡ compareAnswer false bw bn cw cn
   pub second : (cw cn : List ℕ) → compareAnswer false cw cn aw an ≡ compareAnswer false cw cn bw bn
+  -- With any text.
+  pub texts : (text : List ℕ) → compared aw an text ≡ compared bw bn text

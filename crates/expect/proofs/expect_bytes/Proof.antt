@@ -1,0 +1,62 @@
+use Prim.Native.Nat.{_-_, _≤_}
+use mathlib.Core.Path.{_≡_, refl, _∙_}
+use native.Mathlib.Omega.{arith}
+use lib.ListN.{length, drop}
+use borrow.Author.Needs.{needs}
+use Rattle.kinds.specs.Expect.{expectBytes}
+use Rattle.expect.proofs.TextLaws.{byte-end, byte-other, bytes-off, bytes-more, bytes-done}
+use Rattle.expect.proofs.expect_bytes.Statement.{statement}
+use Rattle.expect.proofs.expect_bytes.Tie as tie
+
+abbrev Inv-loop : tie.InvT-loop
+Inv-loop bytes text at i₀ to₀ i to = (expectBytes bytes (drop at text) ≡ expectBytes (drop i bytes) (drop to text)) × (to ≤ length text)
+
+abbrev μ-loop : tie.MeasureT-loop
+μ-loop bytes text at i₀ to₀ i to = length bytes - i
+
+loop-holds : tie.Need-loop-holds Inv-loop μ-loop
+loop-holds c = (refl, search needs)
+
+returns : tie.Need-returns Inv-loop μ-loop
+returns c = c .before .before .loop .inv .0 ∙ bytes-off _ _ (c .before .before .before .args .text .now) (c .before .before .loop .to) (c .before .loop-test .taken) (byte-end _ (c .before .before .before .args .text .now) (c .before .before .loop .to) (c .if1 .taken))
+
+shared-slice-read-if2 : tie.Need-shared-slice-read-if2 Inv-loop μ-loop
+shared-slice-read-if2 c = search needs
+
+shared-slice-read-if2-2 : tie.Need-shared-slice-read-if2-2 Inv-loop μ-loop
+shared-slice-read-if2-2 c = search needs
+
+returns-2 : tie.Need-returns-2 Inv-loop μ-loop
+returns-2 c = c .before .before .before .before .before .loop .inv .0 ∙ bytes-off _ _ (c .before .before .before .before .before .before .args .text .now) (c .before .before .before .before .before .loop .to) (c .before .before .before .before .loop-test .taken) (byte-other _ (c .before .before .before .before .before .before .args .text .now) (c .before .before .before .before .before .loop .to) (c .before .before .before .if1 .left) (c .if2 .taken))
+
+add-i : tie.Need-add-i Inv-loop μ-loop
+add-i c = search needs
+
+add-to : tie.Need-add-to Inv-loop μ-loop
+add-to c = search needs
+
+loop-less : tie.Need-loop-less Inv-loop μ-loop
+loop-less c = search needs
+
+loop-again : tie.Need-loop-again Inv-loop μ-loop
+loop-again c = (c .before .before .before .before .before .loop .inv .0 ∙ bytes-more _ _ (c .before .before .before .before .before .before .args .text .now) (c .before .before .before .before .before .loop .to) (c .before .before .before .before .loop-test .taken) (c .before .before .before .if1 .left) (omega (arith, c .if2 .left)), omega arith)
+
+returns-3 : tie.Need-returns-3 Inv-loop μ-loop
+returns-3 c = (c .before .loop .inv .0 ∙ bytes-done _ _ (c .before .before .args .text .now) (c .before .loop .to) (c .loop-test .left), c .before .loop .inv .1)
+
+pub expect-bytes-spec : {M : Type 1} → statement M
+expect-bytes-spec =
+    tie.close
+    (tie.spec
+    Inv-loop
+    μ-loop
+    loop-holds
+    returns
+    shared-slice-read-if2
+    shared-slice-read-if2-2
+    returns-2
+    add-i
+    add-to
+    loop-less
+    loop-again
+    returns-3)

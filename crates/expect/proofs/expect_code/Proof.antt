@@ -1,0 +1,62 @@
+use lib.ListN.{drop}
+use mathlib.Core.Path.{ap, _∙_}
+use borrow.Author.Needs.{needs}
+use Rattle.kinds.specs.Expect.{expectBytes}
+use Rattle.kinds.specs.Primitive.{codeBytes}
+use Rattle.kinds.specs.declared.Code.{Code}
+use Rattle.expect.proofs.TextLaws.{code-none, same-outcome, code-one, code-off, code-two}
+use Rattle.expect.proofs.expect_code.Statement.{statement}
+use Rattle.expect.proofs.expect_code.Tie as tie
+
+enum-told : tie.Need-enum-told
+enum-told c = search needs
+
+enum-known-code : tie.Need-enum-known-code
+enum-known-code c = search needs
+
+expect-byte-requires : tie.Need-expect-byte-requires
+expect-byte-requires c κs = search needs
+
+enum-known-code-2 : tie.Need-enum-known-code-2
+enum-known-code-2 c = search needs
+
+expect-byte-requires-2 : tie.Need-expect-byte-requires-2
+expect-byte-requires-2 c κs = search needs
+
+enum-told-2 : tie.Need-enum-told-2
+enum-told-2 c = search needs
+
+enum-known-to : tie.Need-enum-known-to
+enum-known-to c = search needs
+
+expect-byte-requires-3 : tie.Need-expect-byte-requires-3
+expect-byte-requires-3 c κs = search needs
+
+returns : tie.Need-returns
+returns c = (ap (λ (k : Code). expectBytes (codeBytes k) (drop (c .before .before .before .args .at) (c .before .before .before .args .text .now))) (c .enum-told .given .1) ∙ code-none _, (c .before .before .before .pre))
+
+returns-2 : tie.Need-returns-2
+returns-2 c = same-outcome _ (c .expect-byte .result) _ _ (ap (λ (k : Code). expectBytes (codeBytes k) (drop (c .before .before .before .before .before .args .at) (c .before .before .before .before .before .args .text .now))) (c .before .before .code .given .1) ∙ code-one _ _) (c .expect-byte .ensures)
+
+returns-3 : tie.Need-returns-3
+returns-3 c = let n = rw (c .enum-told2 .given .1) at (c .before .before .expect-byte2 .ensures) in ap (λ (k : Code). expectBytes (codeBytes k) (drop (c .before .before .before .before .before .before .before .args .at) (c .before .before .before .before .before .before .before .args .text .now))) (c .before .before .before .before .code2 .given .1) ∙ code-off _ _ _ n
+
+returns-4 : tie.Need-returns-4
+returns-4 c = let n = rw (c .before .before .to .given .1) at (c .before .before .before .before .expect-byte2 .ensures) in same-outcome _ (c .expect-byte3 .result) _ _ (ap (λ (k : Code). expectBytes (codeBytes k) (drop (c .before .before .before .before .before .before .before .before .before .args .at) (c .before .before .before .before .before .before .before .before .before .args .text .now))) (c .before .before .before .before .before .before .code2 .given .1) ∙ code-two _ _ _ _ (n .0)) (c .expect-byte3 .ensures)
+
+pub expect-code-spec : {M : Type 1} → statement M
+expect-code-spec =
+    tie.close
+    (tie.spec
+    enum-told
+    enum-known-code
+    expect-byte-requires
+    enum-known-code-2
+    expect-byte-requires-2
+    enum-told-2
+    enum-known-to
+    expect-byte-requires-3
+    returns
+    returns-2
+    returns-3
+    returns-4)

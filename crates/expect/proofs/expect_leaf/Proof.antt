@@ -1,0 +1,43 @@
+use native.Mathlib.Omega.{arith}
+use borrow.Author.Tests.{le-leb, lt-leb}
+use borrow.Author.Needs.{needs}
+use Rattle.expect.proofs.TextLaws.{same-outcome, then-mismatch, then-remaining}
+use Rattle.expect.proofs.expect_leaf.Statement.{statement}
+use Rattle.expect.proofs.expect_leaf.Tie as tie
+
+expect-primitive-requires : tie.Need-expect-primitive-requires
+expect-primitive-requires c κs = search needs
+
+returns : tie.Need-returns
+returns c = same-outcome _ (c .expect-primitive .result) _ _ (rw (le-leb (c .before .before .before .args .kind) 23 (omega (arith, c .before .if1 .taken)))) (c .expect-primitive .ensures)
+
+expect-byte-requires : tie.Need-expect-byte-requires
+expect-byte-requires c κs = search needs
+
+enum-known-to : tie.Need-enum-known-to
+enum-known-to c = search needs
+
+enum-told : tie.Need-enum-told
+enum-told c = search needs
+
+returns-2 : tie.Need-returns-2
+returns-2 c = let n = rw (c .enum-told .given .1) at (c .before .before .expect-byte .ensures) in rw (lt-leb (c .before .before .before .before .before .args .kind) 23 (omega (arith, c .before .before .before .if1 .left))) (then-mismatch _ _ n)
+
+expect-u8-requires : tie.Need-expect-u8-requires
+expect-u8-requires c κs = let n = rw (c .before .to .given .1) at (c .before .before .before .expect-byte .ensures) in n .1
+
+returns-3 : tie.Need-returns-3
+returns-3 c = let n = rw (c .before .before .to .given .1) at (c .before .before .before .before .expect-byte .ensures) in same-outcome _ (c .expect-u8 .result) _ _ (rw (lt-leb (c .before .before .before .before .before .before .before .args .kind) 23 (omega (arith, c .before .before .before .before .before .if1 .left))) (then-remaining _ _ _ (n .0))) (c .expect-u8 .ensures)
+
+pub expect-leaf-spec : {M : Type 1} → statement M
+expect-leaf-spec =
+    tie.close
+    (tie.spec
+    expect-primitive-requires
+    returns
+    expect-byte-requires
+    enum-known-to
+    enum-told
+    returns-2
+    expect-u8-requires
+    returns-3)

@@ -1,0 +1,54 @@
+use native.Mathlib.Omega.{arith}
+use borrow.Author.Needs.{needs}
+use Rattle.expect.proofs.TextLaws.{object-end, object-class, object-other, object-last, object-block, object-bare}
+use Rattle.expect.proofs.expect_object.Statement.{statement}
+use Rattle.expect.proofs.expect_object.Tie as tie
+
+returns : tie.Need-returns
+returns c = object-end _ _ (c .if1 .taken)
+
+shared-slice-read-b : tie.Need-shared-slice-read-b
+shared-slice-read-b c = search needs
+
+add-t9 : tie.Need-add-t9
+add-t9 c = search needs
+
+returns-2 : tie.Need-returns-2
+returns-2 c = (object-class _ _ (c .before .before .if1 .left) (c .if2 .taken), omega arith)
+
+returns-3 : tie.Need-returns-3
+returns-3 c = object-other _ _ (c .before .before .before .if1 .left) (c .before .if2 .left) (c .if3 .taken)
+
+add-next : tie.Need-add-next
+add-next c = search needs
+
+returns-4 : tie.Need-returns-4
+returns-4 c = (object-last _ _ (c .before .before .before .before .if1 .left) (omega (arith, c .before .if3 .left)) (c .if4 .taken), omega arith)
+
+shared-slice-read-if5 : tie.Need-shared-slice-read-if5
+shared-slice-read-if5 c = search needs
+
+add-t11 : tie.Need-add-t11
+add-t11 c = search needs
+
+returns-5 : tie.Need-returns-5
+returns-5 c = (object-block _ _ (c .before .before .before .before .before .before .if1 .left) (omega (arith, c .before .before .before .if3 .left)) (c .before .before .if4 .left) (c .if5 .taken), omega arith)
+
+returns-6 : tie.Need-returns-6
+returns-6 c = (object-bare _ _ (c .before .before .before .before .before .before .if1 .left) (omega (arith, c .before .before .before .if3 .left)) (c .before .before .if4 .left) (c .if5 .left), omega arith)
+
+pub expect-object-spec : {M : Type 1} → statement M
+expect-object-spec =
+    tie.close
+    (tie.spec
+    returns
+    shared-slice-read-b
+    add-t9
+    returns-2
+    returns-3
+    add-next
+    returns-4
+    shared-slice-read-if5
+    add-t11
+    returns-5
+    returns-6)

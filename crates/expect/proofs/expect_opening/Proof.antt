@@ -1,0 +1,37 @@
+use borrow.Author.Needs.{needs}
+use Rattle.expect.proofs.TextLaws.{same-outcome, opening-off, opening-more}
+use Rattle.expect.proofs.expect_opening.Statement.{statement}
+use Rattle.expect.proofs.expect_opening.Tie as tie
+
+opening-byte-requires : tie.Need-opening-byte-requires
+opening-byte-requires c κs = search needs
+
+expect-byte-requires : tie.Need-expect-byte-requires
+expect-byte-requires c κs = search needs
+
+enum-known-to : tie.Need-enum-known-to
+enum-known-to c = search needs
+
+enum-told : tie.Need-enum-told
+enum-told c = search needs
+
+returns : tie.Need-returns
+returns c = let n = rw (c .enum-told .given .1) at (c .before .before .expect-byte .ensures) in opening-off _ _ _ (rw (c .before .before .before .opening-byte .ensures) at n)
+
+expect-u64-requires : tie.Need-expect-u64-requires
+expect-u64-requires c κs = let n = rw (c .before .to .given .1) at (c .before .before .before .expect-byte .ensures) in n .1
+
+returns-2 : tie.Need-returns-2
+returns-2 c = let n = rw (c .before .before .to .given .1) at (c .before .before .before .before .expect-byte .ensures) in same-outcome _ (c .expect-u64 .result) _ _ (opening-more _ _ _ _ (rw (c .before .before .before .before .before .opening-byte .ensures) at (n .0))) (c .expect-u64 .ensures)
+
+pub expect-opening-spec : {M : Type 1} → statement M
+expect-opening-spec =
+    tie.close
+    (tie.spec
+    opening-byte-requires
+    expect-byte-requires
+    enum-known-to
+    enum-told
+    returns
+    expect-u64-requires
+    returns-2)

@@ -1,0 +1,59 @@
+use lib.ListN.{drop}
+use mathlib.Core.Path.{sym, ap, _∙_}
+use borrow.Author.Tests.{not-true, not-false}
+use Prim.Native.Nat.{ℕ}
+use mathlib.Core.List.{List}
+use borrow.Author.Needs.{needs}
+use Rattle.kinds.specs.Expect.{expectBytes}
+use Rattle.expect.proofs.TextLaws.{same-outcome, primitive-alone, primitive-off, primitive-object, primitive-other}
+use Rattle.expect.proofs.expect_primitive.Statement.{statement}
+use Rattle.expect.proofs.expect_primitive.Tie as tie
+
+is-object-requires : tie.Need-is-object-requires
+is-object-requires c κs = search needs
+
+primitive-code-requires : tie.Need-primitive-code-requires
+primitive-code-requires c κs = search needs
+
+expect-code-requires : tie.Need-expect-code-requires
+expect-code-requires c κs = search needs
+
+returns : tie.Need-returns
+returns c = same-outcome _ (c .expect-code .result) _ _ (primitive-alone _ _ (sym (c .before .before .before .is-object .ensures) ∙ not-true _ (c .before .before .if1 .taken)) ∙ ap (λ (b : List ℕ). expectBytes b (drop (c .before .before .before .before .before .args .at) (c .before .before .before .before .before .args .text .now))) (sym (c .before .primitive-code .ensures))) (c .expect-code .ensures)
+
+expect-object-requires : tie.Need-expect-object-requires
+expect-object-requires c κs = search needs
+
+enum-known-to : tie.Need-enum-known-to
+enum-known-to c = search needs
+
+enum-told : tie.Need-enum-told
+enum-told c = search needs
+
+returns-2 : tie.Need-returns-2
+returns-2 c = let n = rw (c .enum-told .given .1) at (c .before .before .expect-object .ensures) in primitive-off _ _ (sym (c .before .before .before .before .is-object .ensures) ∙ not-false _ (c .before .before .before .if1 .left)) n
+
+class-name-requires : tie.Need-class-name-requires
+class-name-requires c κs = let n = rw (c .before .before .to .given .1) at (c .before .before .before .before .expect-object .ensures) in n .1
+
+returns-3 : tie.Need-returns-3
+returns-3 c = let n = rw (c .before .before .before .to .given .1) at (c .before .before .before .before .before .expect-object .ensures) in same-outcome _ (c .class-name .result) _ _ (primitive-object _ _ (sym (c .before .before .before .before .before .before .before .is-object .ensures) ∙ not-false _ (c .before .before .before .before .before .before .if1 .left)) _ (n .0) (c .before .if2 .taken)) (c .class-name .ensures)
+
+returns-4 : tie.Need-returns-4
+returns-4 c = let n = rw (c .before .before .to .given .1) at (c .before .before .before .before .expect-object .ensures) in (primitive-other _ _ (sym (c .before .before .before .before .before .before .is-object .ensures) ∙ not-false _ (c .before .before .before .before .before .if1 .left)) _ (n .0) (c .if2 .left), n .1)
+
+pub expect-primitive-spec : {M : Type 1} → statement M
+expect-primitive-spec =
+    tie.close
+    (tie.spec
+    is-object-requires
+    primitive-code-requires
+    expect-code-requires
+    returns
+    expect-object-requires
+    enum-known-to
+    enum-told
+    returns-2
+    class-name-requires
+    returns-3
+    returns-4)

@@ -1,0 +1,3 @@
+-- The definitions, in the order in which they are read.
+pub mod Agree
+pub mod Encoding

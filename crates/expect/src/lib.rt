@@ -1,0 +1,478 @@
+// Tree against text: parse.rs's `expect_encoding` over the node words of a sheet and a place in the text.
+ghost use mathlib.Core.Path.{_≡_};
+ghost use mathlib.Core.Bool.{true};
+ghost use Prim.Native.Nat.{_+_, _-_, _≤_};
+ghost use lib.Dec.{eqb};
+ghost use lib.ListN.{length, drop};
+ghost use Rattle.kinds.specs.Expect.{_then_, expectByte, expectBytes, expectNumber, expectQuote, className, expectPrimitive, expectNode, expectEncoding, isEmpty};
+ghost use Rattle.kinds.specs.Expect as E;
+ghost use Rattle.kinds.specs.Parse.{container, maxU64, maxU8};
+ghost use Rattle.kinds.specs.Primitive.{codeBytes};
+ghost use Rattle.kinds.specs.Sheet.{kindAt, countAt, isContainerKind, labelAt, trees};
+ghost use Rattle.kinds.specs.Tree.{isEnd};
+ghost use Rattle.kinds.specs.Walk.{NodeAt, TreesAt, KindAndName, KindsAndNames};
+ghost use Rattle.expect.specs.Agree.{ExpectedIs, expectAt, containerOf, anyObject, expectLeaf, openingByte, opening, closing, afterName, InText, OpenedIs, indirectionOf, ReachedIs};
+ghost use Rattle.expect.specs.Encoding.{compared};
+use kinds::Code;
+use kinds::ContainerKind;
+use kinds::Fields;
+use kinds::IndirectionKind;
+use kinds::NestingLevel;
+use kinds::Refusal;
+use kinds::is_object;
+use kinds::primitive_code;
+use parse::Number;
+use parse::SkippedFields;
+use parse::parse_u8;
+use parse::parse_u64;
+use parse::skip_fields;
+use parse::strip_leading_qualifiers;
+use sheet::Checked;
+use sheet::check;
+
+// The place after what was taken, or no match.
+enum Expected {
+    Remaining(usize),
+    Mismatch,
+}
+
+// A container up to its fields: taken whole, or its fields are still to come, at a level.
+enum Opened {
+    Taken(usize),
+    Mismatch,
+    Fields(usize, NestingLevel),
+}
+
+// The node behind pointers and atomics, its level, and the place after their bytes.
+enum Reached {
+    Node(usize, NestingLevel, usize),
+    Mismatch,
+}
+
+// What tree against text answers.
+pub enum Compared {
+    Refused(Refusal),
+    Decided(bool),
+}
+
+fn expect_byte(byte: u8, text: &[u8], at: usize) -> Expected
+    ensures { λ r. ⌜ ExpectedIs (now (text .entry)) r (expectByte byte (drop at (now (text .entry)))) ⌝ }
+{
+    if text.len() <= at {
+        return Expected::Mismatch;
+    }
+    if text[at] != byte {
+        return Expected::Mismatch;
+    }
+    Expected::Remaining(at + 1)
+}
+
+fn expect_bytes(bytes: &[u8], text: &[u8], at: usize) -> Expected
+    requires { ⌜ at ≤ length (now text) ⌝ }
+    ensures { λ r. ⌜ ExpectedIs (now (text .entry)) r (expectBytes (now (bytes .entry)) (drop at (now (text .entry)))) ⌝ }
+{
+    let mut i = 0;
+    let mut to = at;
+    while i < bytes.len() {
+        if text.len() <= to {
+            return Expected::Mismatch;
+        }
+        if text[to] != bytes[i] {
+            return Expected::Mismatch;
+        }
+        i += 1;
+        to += 1;
+    }
+    Expected::Remaining(to)
+}
+
+fn expect_u64(n: u64, text: &[u8], at: usize) -> Expected
+    requires { ⌜ at ≤ length (now text) ⌝ }
+    ensures { λ r. ⌜ ExpectedIs (now (text .entry)) r (expectNumber maxU64 n (drop at (now (text .entry)))) ⌝ }
+{
+    match parse_u64(&text[at..]) {
+        Number::Refused(_, _) => Expected::Mismatch,
+        Number::Value(m, to) => {
+            if m == n {
+                return Expected::Remaining(at + to);
+            }
+            Expected::Mismatch
+        }
+    }
+}
+
+fn expect_u8(n: u64, text: &[u8], at: usize) -> Expected
+    requires { ⌜ at ≤ length (now text) ⌝ }
+    ensures { λ r. ⌜ ExpectedIs (now (text .entry)) r (expectNumber maxU8 n (drop at (now (text .entry)))) ⌝ }
+{
+    match parse_u8(&text[at..]) {
+        Number::Refused(_, _) => Expected::Mismatch,
+        Number::Value(m, to) => {
+            if m == n {
+                return Expected::Remaining(at + to);
+            }
+            Expected::Mismatch
+        }
+    }
+}
+
+// Up to the closing quote.
+fn expect_quote(text: &[u8], at: usize) -> Expected
+    requires { ⌜ at ≤ length (now text) ⌝ }
+    ensures { λ r. ⌜ ExpectedIs (now (text .entry)) r (expectQuote (drop at (now (text .entry)))) ⌝ }
+{
+    let mut i = at;
+    while i < text.len() {
+        if text[i] == b'"' {
+            return Expected::Remaining(i + 1);
+        }
+        i += 1;
+    }
+    Expected::Mismatch
+}
+
+// The class name that may follow an Object.
+fn class_name(text: &[u8], at: usize) -> Expected
+    requires { ⌜ at ≤ length (now text) ⌝ }
+    ensures { λ r. ⌜ ExpectedIs (now (text .entry)) r (className (drop at (now (text .entry)))) ⌝ }
+{
+    if text.len() <= at {
+        return Expected::Remaining(at);
+    }
+    if text[at] != b'"' {
+        return Expected::Remaining(at);
+    }
+    expect_quote(text, at + 1)
+}
+
+fn expect_code(code: Code, text: &[u8], at: usize) -> Expected
+    requires { ⌜ at ≤ length (now text) ⌝ }
+    ensures { λ r. ⌜ ExpectedIs (now (text .entry)) r (expectBytes (codeBytes code) (drop at (now (text .entry)))) ⌝ }
+{
+    match code {
+        Code::Empty => Expected::Remaining(at),
+        Code::One(a) => expect_byte(a, text, at),
+        Code::Two(a, b) => match expect_byte(a, text, at) {
+            Expected::Mismatch => Expected::Mismatch,
+            Expected::Remaining(to) => expect_byte(b, text, to),
+        },
+    }
+}
+
+// The codes of Block, Object and Class, which are one group.
+fn expect_object(text: &[u8], at: usize) -> Expected
+    ensures { λ r. ⌜ ExpectedIs (now (text .entry)) r (anyObject (drop at (now (text .entry)))) ⌝ }
+{
+    if text.len() <= at {
+        return Expected::Mismatch;
+    }
+    let b = text[at];
+    if b == b'#' {
+        return Expected::Remaining(at + 1);
+    }
+    if b != b'@' {
+        return Expected::Mismatch;
+    }
+    let next = at + 1;
+    if text.len() <= next {
+        return Expected::Remaining(next);
+    }
+    if text[next] == b'?' {
+        return Expected::Remaining(next + 1);
+    }
+    Expected::Remaining(next)
+}
+
+fn expect_primitive(kind: u64, text: &[u8], at: usize) -> Expected
+    requires { ⌜ at ≤ length (now text) ⌝ }
+    ensures { λ r. ⌜ ExpectedIs (now (text .entry)) r (expectPrimitive kind (drop at (now (text .entry)))) ⌝ }
+{
+    if !is_object(kind) {
+        return expect_code(primitive_code(kind), text, at);
+    }
+    let Expected::Remaining(to) = expect_object(text, at) else {
+        return Expected::Mismatch;
+    };
+    if kind == 19 {
+        return class_name(text, to);
+    }
+    Expected::Remaining(to)
+}
+
+// A primitive, or a bitfield without a type.
+fn expect_leaf(kind: u64, size: u64, text: &[u8], at: usize) -> Expected
+    requires { ⌜ at ≤ length (now text) ⌝ }
+    ensures { λ r. ⌜ ExpectedIs (now (text .entry)) r (expectLeaf kind size (drop at (now (text .entry)))) ⌝ }
+{
+    if kind < 24 {
+        return expect_primitive(kind, text, at);
+    }
+    let Expected::Remaining(to) = expect_byte(b'b', text, at) else {
+        return Expected::Mismatch;
+    };
+    expect_u8(size, text, to)
+}
+
+fn opening_byte(kind: u64) -> u8
+    ensures { λ r. ⌜ r ≡ openingByte kind ⌝ }
+{
+    if kind == 25 {
+        return b'b';
+    }
+    b'['
+}
+
+// What stands before the type of a bitfield and before the item of an array.
+fn expect_opening(kind: u64, number: u64, text: &[u8], at: usize) -> Expected
+    ensures { λ r. ⌜ ExpectedIs (now (text .entry)) r (opening kind number (drop at (now (text .entry)))) ⌝ }
+{
+    let Expected::Remaining(to) = expect_byte(opening_byte(kind), text, at) else {
+        return Expected::Mismatch;
+    };
+    expect_u64(number, text, to)
+}
+
+fn container_kind(kind: u64) -> ContainerKind
+    ensures { λ r. ⌜ r ≡ containerOf kind ⌝ }
+{
+    if kind == 29 {
+        return ContainerKind::Struct;
+    }
+    ContainerKind::Union
+}
+
+// What stands after the children of a bitfield, an array or a container.
+fn expect_closing(kind: u64, size: u64, text: &[u8], at: usize) -> Expected
+    requires { ⌜ at ≤ length (now text) ⌝ }
+    ensures { λ r. ⌜ ExpectedIs (now (text .entry)) r (closing kind size (drop at (now (text .entry)))) ⌝ }
+{
+    if kind == 25 {
+        return expect_u8(size, text, at);
+    }
+    if kind == 28 {
+        return expect_byte(b']', text, at);
+    }
+    expect_byte(container_kind(kind).end_byte(), text, at)
+}
+
+// The same, after children of which `after` is the outcome.
+fn close_node(after: Expected, kind: u64, size: u64, text: &[u8]) -> Expected
+    requires { ⌜ InText (now text) after ⌝ }
+    ensures { λ r. ⌜ ((q : E.Expected) → ExpectedIs (now (text .entry)) after q → ExpectedIs (now (text .entry)) r (q then (λ t. closing kind size t))) ⌝ }
+{
+    match after {
+        Expected::Mismatch => Expected::Mismatch,
+        Expected::Remaining(to) => expect_closing(kind, size, text, to),
+    }
+}
+
+// A container after its name, at a level that includes fields.
+fn open_fields(
+    kind: ContainerKind,
+    level: NestingLevel,
+    count: usize,
+    text: &[u8],
+    at: usize,
+) -> Opened
+    ensures { λ r. ⌜ OpenedIs (now (text .entry)) kind level r (λ inner. afterName kind (eqb count 0) inner (drop at (now (text .entry)))) ⌝ }
+{
+    let Expected::Remaining(next) = expect_byte(b'=', text, at) else {
+        return Opened::Mismatch;
+    };
+    if count == 0 {
+        // An empty container matches whatever can be read up to its closer.
+        return match skip_fields(&text[next..], kind) {
+            SkippedFields::Refused => Opened::Mismatch,
+            SkippedFields::To(to) => Opened::Taken(next + to),
+        };
+    }
+    match expect_byte(kind.end_byte(), text, next) {
+        Expected::Remaining(to) => Opened::Taken(to),
+        Expected::Mismatch => Opened::Fields(next, level),
+    }
+}
+
+// A container up to its fields, of which there are `count` nodes.
+fn open_named(
+    kind: ContainerKind,
+    name: &[u8],
+    level: NestingLevel,
+    count: usize,
+    text: &[u8],
+    at: usize,
+) -> Opened
+    ensures { λ r. ⌜ OpenedIs (now (text .entry)) kind NestingLevel.Within r (λ inner. expectNode (container kind (now (name .entry))) level (eqb count 0) inner (drop at (now (text .entry)))) ⌝ }
+{
+    let Expected::Remaining(start) = expect_byte(kind.start_byte(), text, at) else {
+        return Opened::Mismatch;
+    };
+    let Expected::Remaining(next) = expect_bytes(name, text, start) else {
+        return Opened::Mismatch;
+    };
+    match level.container_include_fields() {
+        Fields::Included(inner) => open_fields(kind, inner, count, text, next),
+        Fields::Dropped => match expect_byte(kind.end_byte(), text, next) {
+            Expected::Remaining(to) => Opened::Taken(to),
+            Expected::Mismatch => Opened::Mismatch,
+        },
+    }
+}
+
+// The container at `at` up to its fields.
+fn open_container(
+    nodes: &[u64],
+    names: &[u8],
+    at: usize,
+    level: NestingLevel,
+    text: &[u8],
+    place: usize,
+) -> Opened
+    requires { ⌜ NodeAt (now nodes) at × KindAndName (now nodes) (length (now names)) at × (isContainerKind (kindAt (now nodes) at) ≡ true) ⌝ }
+    ensures { λ r. ⌜ OpenedIs (now (text .entry)) (containerOf (kindAt (now (nodes .entry)) at)) NestingLevel.Within r (λ inner. expectNode (labelAt (now (names .entry)) (now (nodes .entry)) at) level (isEnd (trees (now (names .entry)) (now (nodes .entry)) (countAt (now (nodes .entry)) at - 1) (at + 4))) inner (drop place (now (text .entry)))) ⌝ }
+{
+    let kind = container_kind(nodes[at]);
+    let from = nodes[at + 1] as usize;
+    let size = nodes[at + 2] as usize;
+    let count = nodes[at + 3] as usize;
+    let to = from + size;
+    open_named(kind, &names[from..to], level, count - 1, text, place)
+}
+
+fn indirection_kind(kind: u64) -> IndirectionKind
+    ensures { λ r. ⌜ r ≡ indirectionOf kind ⌝ }
+{
+    if kind == 26 {
+        return IndirectionKind::Pointer;
+    }
+    IndirectionKind::Atomic
+}
+
+// Pointers and atomics, down to the first node that is neither.
+fn pass_indirections(
+    nodes: &[u64],
+    from: usize,
+    outer: NestingLevel,
+    text: &[u8],
+    start: usize,
+) -> Reached
+    requires { ⌜ NodeAt (now nodes) from × (start ≤ length (now text)) ⌝ }
+    ensures { λ r. ⌜ ReachedIs (now (nodes .entry)) from outer (now (text .entry)) start r ⌝ }
+{
+    let mut at = from;
+    let mut level = outer;
+    let mut place = start;
+    loop {
+        let kind = nodes[at];
+        if kind < 26 {
+            return Reached::Node(at, level, place);
+        }
+        if 27 < kind {
+            return Reached::Node(at, level, place);
+        }
+        let indirection = indirection_kind(kind);
+        let Expected::Remaining(to) = expect_byte(indirection.prefix_byte(), text, place) else {
+            return Reached::Mismatch;
+        };
+        level = level.indirection(indirection);
+        at = at + 4;
+        place = to;
+    }
+}
+
+// The node at `from` against the text from `start` on.
+fn expect_encoding(
+    nodes: &[u64],
+    names: &[u8],
+    from: usize,
+    outer: NestingLevel,
+    text: &[u8],
+    start: usize,
+) -> Expected
+    requires { ⌜ NodeAt (now nodes) from × (start ≤ length (now text)) ⌝ }
+    requires { ⌜ KindsAndNames (now nodes) (length (now names)) from (countAt (now nodes) from) ⌝ }
+    ensures { λ r. ⌜ ExpectedIs (now (text .entry)) r (expectAt (now (names .entry)) (now (nodes .entry)) from outer (drop start (now (text .entry)))) ⌝ }
+{
+    let Reached::Node(at, level, place) = pass_indirections(nodes, from, outer, text, start) else {
+        return Expected::Mismatch;
+    };
+    let kind = nodes[at];
+    if kind < 25 {
+        return expect_leaf(kind, nodes[at + 2], text, place);
+    }
+    if kind == 31 {
+        return Expected::Remaining(place);
+    }
+    if kind < 29 {
+        let Expected::Remaining(to) = expect_opening(kind, nodes[at + 1], text, place) else {
+            return Expected::Mismatch;
+        };
+        // A bitfield and an array keep the level.
+        let after = expect_encoding(nodes, names, at + 4, level, text, to);
+        return close_node(after, kind, nodes[at + 2], text);
+    }
+    match open_container(nodes, names, at, level, text, place) {
+        Opened::Mismatch => Expected::Mismatch,
+        Opened::Taken(to) => Expected::Remaining(to),
+        Opened::Fields(to, inner) => {
+            let count = nodes[at + 3] as usize;
+            let after = expect_fields(nodes, names, at + 4, count - 1, inner, text, to);
+            close_node(after, kind, 0, text)
+        }
+    }
+}
+
+// The trees of the `n` nodes from `from` on, one after the other.
+fn expect_fields(
+    nodes: &[u64],
+    names: &[u8],
+    from: usize,
+    n: usize,
+    level: NestingLevel,
+    text: &[u8],
+    start: usize,
+) -> Expected
+    requires { ⌜ TreesAt (now nodes) from n × (start ≤ length (now text)) ⌝ }
+    requires { ⌜ KindsAndNames (now nodes) (length (now names)) from n ⌝ }
+    ensures { λ r. ⌜ ExpectedIs (now (text .entry)) r (expectEncoding level (trees (now (names .entry)) (now (nodes .entry)) n from) (drop start (now (text .entry)))) ⌝ }
+{
+    let mut at = from;
+    let mut left = n;
+    let mut place = start;
+    while 0 < left {
+        let Expected::Remaining(to) = expect_encoding(nodes, names, at, level, text, place) else {
+            return Expected::Mismatch;
+        };
+        let count = nodes[at + 3] as usize;
+        at = at + 4 * count;
+        left = left - count;
+        place = to;
+    }
+    Expected::Remaining(place)
+}
+
+fn decide(walked: Expected, text: &[u8]) -> bool
+    ensures { λ r. ⌜ ((q : E.Expected) → ExpectedIs (now (text .entry)) walked q → r ≡ isEmpty q) ⌝ }
+{
+    match walked {
+        Expected::Mismatch => false,
+        Expected::Remaining(to) => to == text.len(),
+    }
+}
+
+// Whether the tree of the sheet and the text are equivalent.
+pub fn equivalent_to_str(words: &[u64], names: &[u8], text: &[u8]) -> Compared
+    ensures { λ r. ⌜ r ≡ compared (now (words .entry)) (now (names .entry)) (now (text .entry)) ⌝ }
+{
+    if 2000 < text.len() {
+        return Compared::Refused(Refusal::TextTooLong);
+    }
+    match check(words, names) {
+        Checked::NotASheet => Compared::Refused(Refusal::NotASheet),
+        Checked::BadName => Compared::Refused(Refusal::BadName),
+        Checked::Good => {
+            let start = strip_leading_qualifiers(text);
+            let walked = expect_encoding(&words[4..], names, 0, NestingLevel::new(), text, start);
+            Compared::Decided(decide(walked, text))
+        }
+    }
+}
