@@ -190,7 +190,12 @@ pub extern "C" fn berzhotun_static_encoding_str_array(
 }
 
 #[no_mangle]
-pub extern "C" fn berzhotun_from_str(text: &[u8], words: &mut [u64], names: &mut [u8], values: &mut [u64; 3]) -> u64
+pub extern "C" fn berzhotun_from_str(
+    text: &[u8],
+    words: &mut [u64],
+    names: &mut [u8],
+    values: &mut [u64; 3],
+) -> u64
     ensures returns { λ r. ⌜ r ≡ readNumber (fromStrAnswer (now (text .entry)) (now (words .entry)) (now (names .entry))) ⌝ }
     ensures answers { λ _. ⌜ now (values .exit) ≡ readValues 0 (fromStrAnswer (now (text .entry)) (now (words .entry)) (now (names .entry))) ⌝ }
     ensures fills { λ _. ⌜ now (words .exit) ≡ fromStrWords (now (text .entry)) (now (words .entry)) (now (names .entry)) ⌝ }
@@ -201,7 +206,12 @@ pub extern "C" fn berzhotun_from_str(text: &[u8], words: &mut [u64], names: &mut
 
 // The rest goes out as the place where it begins: the caller has the text.
 #[no_mangle]
-pub extern "C" fn berzhotun_from_start_of_str(text: &[u8], words: &mut [u64], names: &mut [u8], values: &mut [u64; 3]) -> u64
+pub extern "C" fn berzhotun_from_start_of_str(
+    text: &[u8],
+    words: &mut [u64],
+    names: &mut [u8],
+    values: &mut [u64; 3],
+) -> u64
     ensures returns { λ r. ⌜ r ≡ readNumber (fromStartAnswer (now (text .entry)) (now (words .entry)) (now (names .entry))) ⌝ }
     ensures answers { λ _. ⌜ now (values .exit) ≡ readValues (restPlace (now (text .entry)) (now (words .entry)) (now (names .entry))) (fromStartAnswer (now (text .entry)) (now (words .entry)) (now (names .entry))) ⌝ }
     ensures fills { λ _. ⌜ now (words .exit) ≡ fromStartWords (now (text .entry)) (now (words .entry)) (now (names .entry)) ⌝ }
@@ -219,7 +229,12 @@ pub extern "C" fn berzhotun_from_start_of_str(text: &[u8], words: &mut [u64], na
 }
 
 #[no_mangle]
-pub extern "C" fn berzhotun_equivalent_to_str(words: &[u64], names: &[u8], text: &[u8], answer: &mut [u64; 1]) -> u64
+pub extern "C" fn berzhotun_equivalent_to_str(
+    words: &[u64],
+    names: &[u8],
+    text: &[u8],
+    answer: &mut [u64; 1],
+) -> u64
     ensures returns { λ r. ⌜ r ≡ matchNumber (compared (now (words .entry)) (now (names .entry)) (now (text .entry))) ⌝ }
     ensures answers { λ _. ⌜ now (answer .exit) ≡ matchValues (compared (now (words .entry)) (now (names .entry)) (now (text .entry))) ⌝ }
 {

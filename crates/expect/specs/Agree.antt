@@ -37,6 +37,7 @@ expectAt names w at v s =
     expectNode (labelAt names w at) v (isEnd (trees names w (countAt w at - 1) (at + 4)))
     (λ t. expectEncoding (inside (labelAt names w at) v) (trees names w (countAt w at - 1) (at + 4)) t) s
 
+-- The container of a kind word, 29 or 30.
 abbrev pub containerOf : ℕ → ContainerKind
 containerOf k = cond (eqb k 29) Struct Union
 
@@ -48,6 +49,7 @@ anyObject s = orElse (expectBytes (code 20) s) (orElse (expectBytes (code 19) s)
 abbrev pub expectLeaf : ℕ → ℕ → List ℕ → E.Expected
 expectLeaf k n s = cond (leb k 23) (expectPrimitive k s) (expectByte (byte "b") s then (λ t. expectNumber maxU8 n t))
 
+-- The first byte of a bitfield with a type, and of an array.
 abbrev pub openingByte : ℕ → ℕ
 openingByte k = cond (eqb k 25) (byte "b") (byte "[")
 
@@ -74,6 +76,7 @@ OpenedIs text k u (O.Taken to) q = ((inner : List ℕ → E.Expected) → q inne
 OpenedIs text k u O.Mismatch q = (inner : List ℕ → E.Expected) → q inner ≡ mismatch
 OpenedIs text k u (O.Fields to v) q = ((inner : List ℕ → E.Expected) → q inner ≡ (inner (drop to text) then (λ t. expectByte (endByte k) t))) × (to ≤ length text) × (v ≡ u)
 
+-- The indirection of a kind word, 26 or 27.
 abbrev pub indirectionOf : ℕ → IndirectionKind
 indirectionOf k = cond (eqb k 26) Pointer Atomic
 
@@ -85,6 +88,7 @@ pub record Behind (w : List ℕ) (at : ℕ) (v : NestingLevel) (text : List ℕ)
   pub same : (names : List ℕ) → expectAt names w at v (drop place text) ≡ expectAt names w to u (drop next text)
   pub within : next ≤ length text
 
+-- The first node that is neither a pointer nor an atomic, or no match of their bytes.
 abbrev pub ReachedIs : List ℕ → ℕ → NestingLevel → List ℕ → ℕ → Reached → Type 0
 ReachedIs w at v text place (R.Node to u next) = Behind w at v text place to u next × ((kindAt w to ≡ 26 → ⊥) × (kindAt w to ≡ 27 → ⊥))
 ReachedIs w at v text place R.Mismatch = (names : List ℕ) → expectAt names w at v (drop place text) ≡ mismatch

@@ -13,6 +13,7 @@ use Rattle.sheet.specs.declared.Checked.the-variants.{NotASheet, BadName, Good}
 use Rattle.expect.specs.declared.Compared.{Compared}
 use Rattle.expect.specs.declared.Compared.the-variants.{Refused, Decided}
 
+-- The bytes that a text may have.
 abbrev pub maxText : ℕ
 maxText = 2000
 
@@ -22,5 +23,6 @@ comparedSheet NotASheet words names text = Refused R.NotASheet
 comparedSheet BadName words names text = Refused R.BadName
 comparedSheet Good words names text = Decided (equivalentToStr (treeOf words names) text)
 
+-- A refusal, or whether the tree that the two lists begin with is equivalent to the text.
 unfoldable pub compared : List ℕ → List ℕ → List ℕ → Compared
 compared words names text = cond (ltb maxText (length text)) (Refused R.TextTooLong) (comparedSheet (checked words names) words names text)

@@ -1,0 +1,51 @@
+-- `lines::advance` meets its contract. Assumes nothing.
+use mathlib.Core.Path.{sym, _∙_}
+use Rattle.lines.specs.Decimal.{stepGrown}
+use Rattle.lines.specs.declared.Grown.the-variants as Grown
+use Rattle.lines.proofs.DecimalLaws.{step-comma, step-grown, words-comma, words-kept}
+use borrow.Author.Needs.{needs}
+use Rattle.lines.proofs.advance.Statement.{statement}
+use Rattle.lines.proofs.advance.Tie as tie
+
+put-word-requires : tie.Need-put-word-requires
+put-word-requires c κs = search needs
+
+add-t10 : tie.Need-add-t10
+add-t10 c = search needs
+
+same-length : tie.Need-same-length
+same-length c = search needs
+
+returns : tie.Need-returns
+returns c = (step-comma _ _ _ (c .before .before .before .before .if1 .taken), c .before .before .put-word .ensures ∙ words-comma _ _ _ _ (c .before .before .before .before .if1 .taken))
+
+grow-requires : tie.Need-grow-requires
+grow-requires c κs = search needs
+
+enum-known-v : tie.Need-enum-known-v
+enum-known-v c = search needs
+
+enum-told : tie.Need-enum-told
+enum-told c = search needs
+
+returns-2 : tie.Need-returns-2
+unfolding stepGrown
+returns-2 c = (step-grown _ _ _ (Grown.Value (c .before .v .given .0 .0)) (c .before .before .before .before .if1 .left) (sym (c .before .v .given .1) ∙ c .before .before .before .grow .ensures), words-kept _ _ _ _ (c .before .before .before .before .if1 .left))
+
+returns-3 : tie.Need-returns-3
+unfolding stepGrown
+returns-3 c = (step-grown _ _ _ Grown.Bad (c .before .before .before .if1 .left) (sym (c .enum-told .given .1) ∙ c .before .before .grow .ensures), words-kept _ _ _ _ (c .before .before .before .if1 .left))
+
+pub advance-spec : {M : Type 1} → statement M
+advance-spec =
+    tie.close
+    (tie.spec
+    put-word-requires
+    add-t10
+    same-length
+    returns
+    grow-requires
+    enum-known-v
+    enum-told
+    returns-2
+    returns-3)

@@ -1,0 +1,86 @@
+-- `lines::decode_words` meets its contract. Assumes nothing.
+use mathlib.Core.Path.{sym, _∙_}
+use Prim.Native.Nat.{_-_}
+use native.Mathlib.Omega.{arith}
+use borrow.Author.Needs.{needs}
+use lib.ListN.{length}
+use Rattle.lines.proofs.DecimalLaws.{Scan, scan-start, scan-more, scan-bad, scan-short, scan-items}
+use Rattle.lines.proofs.decode_words.Statement.{statement}
+use Rattle.lines.proofs.decode_words.Tie as tie
+
+abbrev Inv-loop : tie.InvT-loop
+Inv-loop list words₀ i₀ n₀ value₀ words i n value = Scan list words₀ words i n value
+
+abbrev μ-loop : tie.MeasureT-loop
+μ-loop list words₀ i₀ n₀ value₀ words i n value = length list - i
+
+loop-holds : tie.Need-loop-holds Inv-loop μ-loop
+loop-holds c = scan-start _ _
+
+shared-slice-read-advance : tie.Need-shared-slice-read-advance Inv-loop μ-loop
+shared-slice-read-advance c = omega arith
+
+advance-requires : tie.Need-advance-requires Inv-loop μ-loop
+advance-requires c κs = omega (arith, c .before .before .before .loop .inv .few)
+
+enum-known-m : tie.Need-enum-known-m Inv-loop μ-loop
+enum-known-m c = search needs
+
+enum-told : tie.Need-enum-told Inv-loop μ-loop
+enum-told c = search needs
+
+same-length : tie.Need-same-length Inv-loop μ-loop
+same-length c = c .before .before .before .before .advance .kept .0 ∙ c .before .before .before .before .before .before .before .before .loop .inv .same
+
+returns : tie.Need-returns Inv-loop μ-loop
+returns c = scan-bad _ _ (c .before .before .before .before .before .before .before .loop-test .taken) (c .before .before .before .before .before .before .before .before .loop .inv) (sym (c .enum-told .given .1) ∙ c .before .before .before .before .advance .ensures .0) (c .before .before .before .before .advance .ensures .1)
+
+add-i : tie.Need-add-i Inv-loop μ-loop
+add-i c = omega arith
+
+loop-less : tie.Need-loop-less Inv-loop μ-loop
+loop-less c = omega arith
+
+loop-again : tie.Need-loop-again Inv-loop μ-loop
+loop-again c = scan-more _ _ _ (c .before .before .before .before .before .before .before .before .loop-test .taken) (c .before .before .before .before .before .before .before .before .before .loop .inv) (sym (c .before .m .given .1) ∙ c .before .before .before .before .before .advance .ensures .0) (c .before .before .before .before .before .advance .ensures .1)
+
+put-word-requires : tie.Need-put-word-requires Inv-loop μ-loop
+put-word-requires c κs = search needs
+
+same-length-2 : tie.Need-same-length-2 Inv-loop μ-loop
+same-length-2 c = c .before .before .before .put-word .kept .0 ∙ c .before .before .before .before .before .before .loop .inv .same
+
+returns-2 : tie.Need-returns-2 Inv-loop μ-loop
+returns-2 c = scan-short _ (c .before .before .before .before .before .loop-test .left) (c .before .before .before .before .before .before .loop .inv) (c .before .before .before .put-word .ensures) (c .if1 .taken)
+
+add-t18 : tie.Need-add-t18 Inv-loop μ-loop
+add-t18 c = omega (arith, c .before .before .before .before .before .before .loop .inv .few)
+
+same-length-3 : tie.Need-same-length-3 Inv-loop μ-loop
+same-length-3 c = c .before .before .before .put-word .kept .0 ∙ c .before .before .before .before .before .before .loop .inv .same
+
+returns-3 : tie.Need-returns-3 Inv-loop μ-loop
+returns-3 c = scan-items _ (c .before .before .before .before .before .loop-test .left) (c .before .before .before .before .before .before .loop .inv) (c .before .before .before .put-word .ensures) (c .if1 .left)
+
+pub decode-words-spec : {M : Type 1} → statement M
+decode-words-spec =
+    tie.close
+    (tie.spec
+    Inv-loop
+    μ-loop
+    loop-holds
+    shared-slice-read-advance
+    advance-requires
+    enum-known-m
+    enum-told
+    same-length
+    returns
+    add-i
+    loop-less
+    loop-again
+    put-word-requires
+    same-length-2
+    returns-2
+    add-t18
+    same-length-3
+    returns-3)

@@ -1,0 +1,54 @@
+-- `lines::grow` meets its contract. Assumes nothing.
+use Prim.Native.Nat.{ℕ, _+_, _*_}
+use mathlib.Core.Path.{ap, _∙_}
+use native.Mathlib.Omega.{arith}
+use Rattle.lines.specs.declared.Grown.the-variants as Grown
+use Rattle.lines.proofs.DecimalLaws.{grown-low, grown-high, grown-large, grown-value}
+use borrow.Author.Needs.{needs}
+use Rattle.lines.proofs.grow.Statement.{statement}
+use Rattle.lines.proofs.grow.Tie as tie
+
+returns : tie.Need-returns
+returns c = grown-low _ _ (c .if1 .taken)
+
+returns-2 : tie.Need-returns-2
+returns-2 c = grown-high _ _ (c .if2 .taken)
+
+wide-requires : tie.Need-wide-requires
+wide-requires c κs = search needs
+
+returns-3 : tie.Need-returns-3
+returns-3 c = grown-large (c .before .before .before .before .args .n) (c .before .before .before .before .args .b) (omega arith) (omega arith) (omega arith)
+
+mul-if4 : tie.Need-mul-if4
+mul-if4 c = search needs
+
+sub-if4 : tie.Need-sub-if4
+sub-if4 c = search needs
+
+returns-4 : tie.Need-returns-4
+returns-4 c = grown-large (c .before .before .before .before .before .args .n) (c .before .before .before .before .before .args .b) (omega arith) (omega arith) (omega (arith, c .before .before .wide .ensures))
+
+mul-t6 : tie.Need-mul-t6
+mul-t6 c = search needs
+
+add-t7 : tie.Need-add-t7
+add-t7 c = search needs
+
+returns-5 : tie.Need-returns-5
+returns-5 c = ap (λ (k : ℕ). Grown.Value (10 * c .before .before .before .before .before .args .n + k)) (c .before .before .wide .ensures) ∙ grown-value (c .before .before .before .before .before .args .n) (c .before .before .before .before .before .args .b) (omega arith) (omega arith) (omega (arith, c .before .before .wide .ensures))
+
+pub grow-spec : {M : Type 1} → statement M
+grow-spec =
+    tie.close
+    (tie.spec
+    returns
+    returns-2
+    wide-requires
+    returns-3
+    mul-if4
+    sub-if4
+    returns-4
+    mul-t6
+    add-t7
+    returns-5)

@@ -1,0 +1,56 @@
+-- `lines::put_bytes` meets its contract. Assumes nothing.
+use Prim.Native.Nat.{_+_, _-_, _≤_}
+use mathlib.Core.Path.{_≡_, refl, _∙_}
+use mathlib.Core.List.{[], _∷_}
+use native.Mathlib.Omega.{arith}
+use borrow.Author.Needs.{needs}
+use lib.ListN.{length, drop, getD}
+use Rattle.lines.proofs.PutLaws.{ToPut, to-put, then-put, all-put}
+use Rattle.kinds.proofs.ListLaws.{unread, unread-end}
+use Rattle.lines.proofs.put_bytes.Statement.{statement}
+use Rattle.lines.proofs.put_bytes.Tie as tie
+
+abbrev Inv-loop : tie.InvT-loop
+Inv-loop out₀ at s i₀ to₀ out i to = ToPut out₀ at s out to (drop i s) × (length out ≡ length out₀) × (i ≤ length s)
+
+abbrev μ-loop : tie.MeasureT-loop
+μ-loop out₀ at s i₀ to₀ out i to = length s - i
+
+loop-holds : tie.Need-loop-holds Inv-loop μ-loop
+loop-holds c = (to-put _ _ _, refl, omega arith)
+
+shared-slice-read-put-byte : tie.Need-shared-slice-read-put-byte Inv-loop μ-loop
+shared-slice-read-put-byte c = omega arith
+
+put-byte-requires : tie.Need-put-byte-requires Inv-loop μ-loop
+put-byte-requires c κs = search needs
+
+add-i : tie.Need-add-i Inv-loop μ-loop
+add-i c = omega arith
+
+loop-less : tie.Need-loop-less Inv-loop μ-loop
+loop-less c = omega arith
+
+loop-again : tie.Need-loop-again Inv-loop μ-loop
+loop-again c = (then-put (getD (c .before .before .before .before .before .before .before .before .before .args .s .now) (c .before .before .before .before .before .before .loop .i) 0 ∷ []) (drop (c .before .before .before .before .before .before .loop .i + 1) (c .before .before .before .before .before .before .before .before .before .args .s .now)) (unread (c .before .before .before .before .before .before .before .before .before .args .s .now) (c .before .before .before .before .before .before .loop .i) (c .before .before .before .before .before .loop-test .taken)) (c .before .before .before .before .before .before .loop .inv .0) (c .before .before .put-byte .ensures), c .before .before .put-byte .kept .0 ∙ c .before .before .before .before .before .before .loop .inv .1, omega arith)
+
+same-length : tie.Need-same-length Inv-loop μ-loop
+same-length c = c .before .loop .inv .1
+
+returns : tie.Need-returns Inv-loop μ-loop
+returns c = all-put (unread-end (c .before .before .before .before .args .s .now) (c .before .loop .i) (c .loop-test .left)) (c .before .loop .inv .0)
+
+pub put-bytes-spec : {M : Type 1} → statement M
+put-bytes-spec =
+    tie.close
+    (tie.spec
+    Inv-loop
+    μ-loop
+    loop-holds
+    shared-slice-read-put-byte
+    put-byte-requires
+    add-i
+    loop-less
+    loop-again
+    same-length
+    returns)

@@ -1,0 +1,73 @@
+-- `lines::put_words` meets its contract. Assumes nothing.
+use Prim.Native.Nat.{_+_, _-_, _≤_}
+use mathlib.Core.Path.{_≡_, refl, sym, _∙_}
+use native.Mathlib.Omega.{arith}
+use borrow.Author.Needs.{needs}
+use lib.ListN.{length, drop, getD}
+use Rattle.kinds.specs.Print.{decimal}
+use Rattle.lines.specs.Put.{each, commaNumber}
+use Rattle.lines.proofs.PutLaws.{ToPut, to-put, then-put, all-put, put-none, put-same, put-append, each-more, each-end, words-none, words-some}
+use Rattle.lines.proofs.put_words.Statement.{statement}
+use Rattle.lines.proofs.put_words.Tie as tie
+
+abbrev Inv-loop : tie.InvT-loop
+Inv-loop out₀ at words to₀ i₀ out to i = ToPut out₀ to₀ (each commaNumber (drop 1 words)) out to (each commaNumber (drop i words)) × (length out ≡ length out₀) × (i ≤ length words)
+
+abbrev μ-loop : tie.MeasureT-loop
+μ-loop out₀ at words to₀ i₀ out to i = length words - i
+
+returns : tie.Need-returns Inv-loop μ-loop
+returns c = put-same (sym (words-none _ (c .if1 .taken))) (put-none _ _)
+
+shared-slice-read-put-number : tie.Need-shared-slice-read-put-number Inv-loop μ-loop
+shared-slice-read-put-number c = omega arith
+
+put-number-requires : tie.Need-put-number-requires Inv-loop μ-loop
+put-number-requires c κs = search needs
+
+loop-holds : tie.Need-loop-holds Inv-loop μ-loop
+loop-holds c = (to-put _ _ _, refl, omega arith)
+
+mul-put-marked : tie.Need-mul-put-marked Inv-loop μ-loop
+mul-put-marked c = search needs
+
+shared-slice-read-put-marked : tie.Need-shared-slice-read-put-marked Inv-loop μ-loop
+shared-slice-read-put-marked c = omega arith
+
+put-marked-requires : tie.Need-put-marked-requires Inv-loop μ-loop
+put-marked-requires c κs = search needs
+
+add-i : tie.Need-add-i Inv-loop μ-loop
+add-i c = omega arith
+
+loop-less : tie.Need-loop-less Inv-loop μ-loop
+loop-less c = omega arith
+
+loop-again : tie.Need-loop-again Inv-loop μ-loop
+unfolding commaNumber
+loop-again c = (then-put (commaNumber (getD (c .before .before .before .before .before .before .before .before .before .before .before .before .before .before .before .args .words .now) (c .before .before .before .before .before .before .loop .i) 0)) (each commaNumber (drop (c .before .before .before .before .before .before .loop .i + 1) (c .before .before .before .before .before .before .before .before .before .before .before .before .before .before .before .args .words .now))) (each-more commaNumber (c .before .before .before .before .before .before .before .before .before .before .before .before .before .before .before .args .words .now) (c .before .before .before .before .before .before .loop .i) (c .before .before .before .before .before .loop-test .taken)) (c .before .before .before .before .before .before .loop .inv .0) (c .before .before .put-marked .ensures), c .before .before .put-marked .kept .0 ∙ c .before .before .before .before .before .before .loop .inv .1, omega arith)
+
+same-length : tie.Need-same-length Inv-loop μ-loop
+same-length c = c .before .loop .inv .1 ∙ c .before .before .before .before .put-number .kept .0
+
+returns-2 : tie.Need-returns-2 Inv-loop μ-loop
+returns-2 c = put-same (sym (words-some (c .before .before .before .before .before .before .before .before .before .before .args .words .now) (omega arith))) (put-append (decimal (getD (c .before .before .before .before .before .before .before .before .before .before .args .words .now) 0 0)) (each commaNumber (drop 1 (c .before .before .before .before .before .before .before .before .before .before .args .words .now))) (c .before .before .before .before .put-number .ensures) (all-put (each-end commaNumber (c .before .before .before .before .before .before .before .before .before .before .args .words .now) (c .before .loop .i) (c .loop-test .left)) (c .before .loop .inv .0)))
+
+pub put-words-spec : {M : Type 1} → statement M
+put-words-spec =
+    tie.close
+    (tie.spec
+    Inv-loop
+    μ-loop
+    returns
+    shared-slice-read-put-number
+    put-number-requires
+    loop-holds
+    mul-put-marked
+    shared-slice-read-put-marked
+    put-marked-requires
+    add-i
+    loop-less
+    loop-again
+    same-length
+    returns-2)

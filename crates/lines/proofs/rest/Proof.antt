@@ -1,0 +1,53 @@
+-- `lines::rest` meets its contract. Assumes nothing.
+use Prim.Native.Nat.{ℕ, _+_}
+use mathlib.Core.Path.{ap, _∙_}
+use lib.ListN.{drop}
+use Rattle.lines.proofs.FieldLaws.{part-rest, rest-none}
+use borrow.Author.Needs.{needs}
+use Rattle.lines.proofs.rest.Statement.{statement}
+use Rattle.lines.proofs.rest.Tie as tie
+
+place-of-requires : tie.Need-place-of-requires
+place-of-requires c κs = search needs
+
+add-next : tie.Need-add-next
+add-next c = search needs
+
+sub-result : tie.Need-sub-result
+sub-result c = search needs
+
+part-result-start : tie.Need-part-result-start
+part-result-start c = search needs
+
+part-result-end : tie.Need-part-result-end
+part-result-end c = search needs
+
+returns : tie.Need-returns
+returns c = part-rest (c .before .before .before .before .args .s .now) (c .before .before .place-of .result + 1) ∙ ap (λ (n : ℕ). drop (n + 1) (c .before .before .before .before .args .s .now)) (c .before .before .place-of .ensures .0)
+
+sub-result-2 : tie.Need-sub-result-2
+sub-result-2 c = search needs
+
+part-result-start-2 : tie.Need-part-result-start-2
+part-result-start-2 c = search needs
+
+part-result-end-2 : tie.Need-part-result-end-2
+part-result-end-2 c = search needs
+
+returns-2 : tie.Need-returns-2
+returns-2 c = rest-none (c .before .before .before .before .args .s .now) (c .before .before .place-of .result) (c .before .if1 .left) ∙ ap (λ (n : ℕ). drop (n + 1) (c .before .before .before .before .args .s .now)) (c .before .before .place-of .ensures .0)
+
+pub rest-spec : {M : Type 1} → statement M
+rest-spec =
+    tie.close
+    (tie.spec
+    place-of-requires
+    add-next
+    sub-result
+    part-result-start
+    part-result-end
+    returns
+    sub-result-2
+    part-result-start-2
+    part-result-end-2
+    returns-2)
