@@ -1,3 +1,5 @@
+use mathlib.Core.Path.{ap, _∙_}
+use Rattle.berzhotun.specs.Numbers.{matchNumber, matchValues}
 use borrow.Author.Needs.{needs}
 use Rattle.berzhotun.proofs.berzhotun_equivalent_to_str.Statement.{statement}
 use Rattle.berzhotun.proofs.berzhotun_equivalent_to_str.Tie as tie
@@ -13,7 +15,8 @@ give-matched-requires : tie.Need-give-matched-requires
 give-matched-requires c κs = search needs
 
 returns : tie.Need-returns
-returns c = rw (← c .before .before .equivalent-to-str .ensures) (c .give-matched .ensures)
+returns c =
+    (c .give-matched .ensures .0 ∙ ap matchNumber (c .before .before .equivalent-to-str .ensures), c .give-matched .ensures .1 ∙ ap matchValues (c .before .before .equivalent-to-str .ensures))
 
 pub berzhotun-equivalent-to-str-spec : {M : Type 1} → statement M
 berzhotun-equivalent-to-str-spec =
