@@ -2,7 +2,7 @@
  * The deepest trees and texts through all nine functions, each call on a stack of its own with a page below it
  * that may not be touched. Prints the most stack that each function took.
  *
- *     deep [KIBIBYTES]    1024 unless said otherwise
+ *     deep [KIBIBYTES]    512 unless said otherwise
  */
 #define _GNU_SOURCE
 #include <inttypes.h>
@@ -173,7 +173,7 @@ static void run_texts(void) {
 }
 
 int main(int count, char **arguments) {
-    size_t kibibytes = count > 1 ? strtoul(arguments[1], NULL, 10) : 1024;
+    size_t kibibytes = count > 1 ? strtoul(arguments[1], NULL, 10) : 512;
     int function;
     if (count > 2 || kibibytes < 64) {
         fprintf(stderr, "usage: deep [KIBIBYTES]\n");

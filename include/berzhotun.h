@@ -45,7 +45,7 @@
  *    list of the same call. Lists that are only read may: a tree can be compared with itself;
  *  - no other thread writes to a lent list during the call, nor reads one that is written. Beyond
  *    that any number of threads may call: the functions keep nothing from call to call;
- *  - 1 MiB of stack is free. The functions call themselves once for each level of nesting, of
+ *  - 512 KiB of stack are free. The functions call themselves once for each level of nesting, of
  *    which there are at most 2,001, and allocate nothing.
  */
 #ifndef BERZHOTUN_H

@@ -73,10 +73,10 @@ fn bench_tree(name: &str, tree: &Tree) {
         name,
         "length",
         || ask::printed_length(black_box(a)),
-        || library::static_encoding_str_len(black_box(sheet)),
+        || library::static_encoding_str_len(black_box(sheet)).0,
     );
     if let Some(mut print) = array_printer(a, tree, length) {
-        let ours = || library::static_encoding_str_array(black_box(sheet), &mut out, length);
+        let ours = || library::static_encoding_str_array(black_box(sheet), &mut out, length).0;
         line(name, "print, to array", &mut print, ours);
     }
     let display = || {
@@ -84,17 +84,17 @@ fn bench_tree(name: &str, tree: &Tree) {
         write!(shown, "{}", black_box(a)).unwrap();
         shown.len()
     };
-    let ours = || library::static_encoding_str_array(black_box(sheet), &mut out, length);
+    let ours = || library::static_encoding_str_array(black_box(sheet), &mut out, length).0;
     line(name, "print, to Display", display, ours);
-    line(name, "size", || black_box(a).size(), || library::size(black_box(sheet)));
+    line(name, "size", || black_box(a).size(), || library::size(black_box(sheet)).0);
     let theirs = || black_box(a).equivalent_to(black_box(b));
-    line(name, "equivalent_to", theirs, || library::equivalent_to(black_box(sheet), black_box(sheet)));
+    line(name, "equivalent_to", theirs, || library::equivalent_to(black_box(sheet), black_box(sheet)).0);
     let theirs = || black_box(a).equivalent_to_box(black_box(&boxed));
     line(name, "equivalent_to_box", theirs, || {
-        library::equivalent_to_box(black_box(sheet), black_box(sheet))
+        library::equivalent_to_box(black_box(sheet), black_box(sheet)).0
     });
     let theirs = || black_box(a) == black_box(&boxed);
-    line(name, "==", theirs, || library::eq(black_box(sheet), black_box(sheet)));
+    line(name, "==", theirs, || library::eq(black_box(sheet), black_box(sheet)).0);
 }
 
 /// The crate's printing into an array that has room, unless that takes too long.
@@ -112,9 +112,9 @@ fn array_printer<'a>(made: &'a Encoding, tree: &Tree, length: usize) -> Option<B
 #[cfg(readers)]
 fn bench_reading(name: &str, text: &str) {
     let (mut words, mut names) = (vec![0; 8 + 4 * text.len()], vec![0; text.len()]);
-    let ours = || library::from_str(black_box(text.as_bytes()), &mut words, &mut names);
+    let ours = || library::from_str(black_box(text.as_bytes()), &mut words, &mut names).0;
     line(name, "from_str", || crate_read(black_box(text)), ours);
-    let ours = || library::from_start_of_str(black_box(text.as_bytes()), &mut words, &mut names);
+    let ours = || library::from_start_of_str(black_box(text.as_bytes()), &mut words, &mut names).0;
     line(name, "from_start_of_str", || crate_read_start(black_box(text)), ours);
 }
 
@@ -128,7 +128,7 @@ fn bench_matching(name: &str, tree: &Tree) {
     let sheet_words = tree.words();
     let sheet = Sheet { words: &sheet_words, names: &tree.names };
     let theirs = || black_box(made).equivalent_to_str(black_box(print));
-    let ours = || library::equivalent_to_str(black_box(sheet), black_box(print.as_bytes()));
+    let ours = || library::equivalent_to_str(black_box(sheet), black_box(print.as_bytes())).0;
     line(name, "equivalent_to_str", theirs, ours);
 }
 
@@ -151,7 +151,7 @@ fn bench_growth() {
     println!("|---:|---:|---:|---:|");
     for text in [long_record(20), long_record(200), long_record(2000)] {
         let (mut words, mut names) = (vec![0; 8 + 4 * text.len()], vec![0; text.len()]);
-        let ours = || library::from_str(black_box(text.as_bytes()), &mut words, &mut names);
+        let ours = || library::from_str(black_box(text.as_bytes()), &mut words, &mut names).0;
         let (theirs, ours) = times(|| crate_read(black_box(&text)), ours);
         let bytes = text.len() as f64;
         println!("| {} | {:.2} | {:.2} | {:.2} |", text.len(), theirs / bytes, ours / bytes, theirs / ours);

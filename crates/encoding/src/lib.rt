@@ -17,7 +17,7 @@ pub fn equivalent_to(aw: &[u64], an: &[u8], bw: &[u64], bn: &[u8]) -> Compared
 pub fn equivalent_to_box(aw: &[u64], an: &[u8], bw: &[u64], bn: &[u8]) -> Compared
     ensures { λ r. ⌜ r ≡ compareAnswer false (now (aw .entry)) (now (an .entry)) (now (bw .entry)) (now (bn .entry)) ⌝ }
 {
-    compare_encodings(aw, an, bw, bn, false)
+    equivalent_to(aw, an, bw, bn)
 }
 
 // The size of the tree in a sheet.
