@@ -7,11 +7,11 @@ ghost use lib.Seq.{sets};
 ghost use mathlib.Core.List.{[], _∷_};
 ghost use mathlib.Core.Bool.{_&&_, _||_};
 ghost use lib.Dec.{ltb, eqb};
-ghost use Rattle.kinds.specs.Byte.{isDigit, among};
+ghost use Rattle.kinds.specs.Byte.{isDigit};
 ghost use Rattle.kinds.specs.Expect.{skipItems};
 ghost use Rattle.kinds.specs.Container.{sameContainer};
 ghost use Rattle.kinds.specs.Sheet.{headerWords};
-ghost use Rattle.kinds.specs.Parse.{unknownDigit, maxU64, parseNumber, parseComplex, parseObject, parseQuoted, parseBits, parseName, isQualifier, stripLeadingQualifiers, maxU8};
+ghost use Rattle.kinds.specs.Parse.{unknownDigit, maxU64, parseNumber, parseComplex, parseObject, parseQuoted, parseBits, parseName, stripLeadingQualifiers, maxU8};
 ghost use Rattle.parse.specs.Digits.{afterDigits};
 ghost use Rattle.parse.specs.EncodingBox.{used, kindWord, answerWords, fromStrAnswer, fromStrWords, fromStrNames, fromStartAnswer, fromStartWords, fromStartNames, fromStartRest, EndOf};
 ghost use Rattle.parse.specs.Out.{leafOut, leafWords, bitsOut, bitsWords, After, AfterItems, holdOut, holdWords, itemOut, itemWords, containOut, containWords, endOut, noneUnder, closed, cleared, headed, noneSheet, Fits, encodedOut, encodedWords, encodedNames};
@@ -21,6 +21,7 @@ use kinds::ContainerKind;
 use kinds::ErrorKind;
 use kinds::Refusal;
 use kinds::verify_name;
+use parser::skip_qualifiers;
 
 // A number and the place after it, or why there is none and where.
 pub enum Number {
@@ -818,39 +819,12 @@ pub fn skip_fields(text: &[u8], kind: ContainerKind) -> SkippedFields
     }
 }
 
-const QUALIFIERS: [u8; 7] = *b"rnNoORV";
-
-fn contains(s: &[u8], b: u8) -> bool
-    ensures { λ r. ⌜ r ≡ among b (now (s .entry)) ⌝ }
-{
-    let mut i = 0;
-    while i < s.len() {
-        if b == s[i] {
-            return true;
-        }
-        i += 1;
-    }
-    false
-}
-
-fn is_qualifier(b: u8) -> bool
-    ensures { λ r. ⌜ r ≡ isQualifier b ⌝ }
-{
-    contains(&QUALIFIERS, b)
-}
-
 // The place after the leading qualifiers.
 pub fn strip_leading_qualifiers(text: &[u8]) -> usize
     ensures { λ r. ⌜ (drop r (now (text .entry)) ≡ stripLeadingQualifiers (now (text .entry))) × (r ≤ length (now (text .entry))) ⌝ }
 {
-    let mut i = 0;
-    while i < text.len() {
-        if !is_qualifier(text[i]) {
-            return i;
-        }
-        i += 1;
-    }
-    i
+    let rest = skip_qualifiers(text);
+    text.len() - rest.len()
 }
 
 fn clear_words(words: &mut [u64], n: usize)

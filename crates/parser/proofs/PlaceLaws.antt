@@ -53,7 +53,7 @@ unfolding stripAt
 strip-at-stop s i e = let same : length (stripLeadingQualifiers (drop i s)) ≡ length (drop i s) = ap length e in omega (arith, same)
 
 -- What stripping leaves is the list from a place on.
-strip-leaves : (s : List ℕ) → drop (length s - length (stripLeadingQualifiers s)) s ≡ stripLeadingQualifiers s
+pub strip-leaves : (s : List ℕ) → drop (length s - length (stripLeadingQualifiers s)) s ≡ stripLeadingQualifiers s
 unfolding stripLeadingQualifiers
 strip-leaves [] = refl
 strip-leaves (b ∷ s) = go (isQualifier b) (strip-leaves s)

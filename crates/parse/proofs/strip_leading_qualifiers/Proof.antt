@@ -1,55 +1,36 @@
-use Prim.Native.Nat.{_≤_, _-_}
-use mathlib.Core.Path.{_≡_, refl, sym, _∙_}
+use Prim.Native.Nat.{ℕ, _≤_, _-_}
+use mathlib.Core.Path.{_≡_, ap, _∙_}
+use mathlib.Core.List.{List}
 use native.Mathlib.Omega.{arith}
 use lib.ListN.{length, drop}
 use borrow.Author.Needs.{needs}
-use borrow.Author.Tests.{not-true, not-false}
 use Rattle.kinds.specs.Parse.{stripLeadingQualifiers}
-use Rattle.parse.proofs.Text.{strip-more, strip-stop, strip-end}
+use Rattle.parser.proofs.PlaceLaws.{strip-shorter, strip-leaves}
+use Rattle.parser.specs.Place.{endOf}
+use Rattle.parser.specs.Reader.{skipQualifiers}
 use Rattle.parse.proofs.strip_leading_qualifiers.Statement.{statement}
 use Rattle.parse.proofs.strip_leading_qualifiers.Tie as tie
 
-abbrev Inv-loop : tie.InvT-loop
-Inv-loop text i₀ i = (stripLeadingQualifiers text ≡ stripLeadingQualifiers (drop i text)) × (i ≤ length text)
+-- Of two places in memory with bytes, the bytes.
+bytes-same : (x y : (ℕ × ℕ) × List ℕ) → x ≡ y → x .1 ≡ y .1
+bytes-same x y e = ap (λ (z : (ℕ × ℕ) × List ℕ). z .1) e
 
-abbrev μ-loop : tie.MeasureT-loop
-μ-loop text i₀ i = length text - i
+shorter : (s r : List ℕ) → r ≡ stripLeadingQualifiers s → length r ≤ length s
+shorter s r e = let same : length r ≡ length (stripLeadingQualifiers s) = ap length e in omega (arith, same, strip-shorter s)
 
-loop-holds : tie.Need-loop-holds Inv-loop μ-loop
-loop-holds c = (refl, search needs)
+begins : (s r : List ℕ) → r ≡ stripLeadingQualifiers s → (drop (length s - length r) s ≡ stripLeadingQualifiers s) × (length s - length r ≤ length s)
+begins s r e = (ap (λ (t : List ℕ). drop (length s - length t) s) e ∙ strip-leaves s, omega arith)
 
-shared-slice-read-is-qualifier : tie.Need-shared-slice-read-is-qualifier Inv-loop μ-loop
-shared-slice-read-is-qualifier c = omega arith
+skip-qualifiers-requires : tie.Need-skip-qualifiers-requires
+skip-qualifiers-requires c κs = search needs
 
-is-qualifier-requires : tie.Need-is-qualifier-requires Inv-loop μ-loop
-is-qualifier-requires c κs = search needs
+sub-result : tie.Need-sub-result
+unfolding skipQualifiers endOf
+sub-result c = shorter _ _ (bytes-same _ _ (c .skip-qualifiers .ensures))
 
-returns : tie.Need-returns Inv-loop μ-loop
-returns c = (sym (c .before .before .before .before .loop .inv .0 ∙ strip-stop _ _ (c .before .before .before .loop-test .taken) (sym (c .before .is-qualifier .ensures) ∙ not-true _ (c .if1 .taken))), c .before .before .before .before .loop .inv .1)
-
-add-i : tie.Need-add-i Inv-loop μ-loop
-add-i c = omega arith
-
-loop-less : tie.Need-loop-less Inv-loop μ-loop
-loop-less c = omega arith
-
-loop-again : tie.Need-loop-again Inv-loop μ-loop
-loop-again c = (c .before .before .before .before .loop .inv .0 ∙ strip-more _ _ (c .before .before .before .loop-test .taken) (sym (c .before .is-qualifier .ensures) ∙ not-false _ (c .if1 .left)), omega arith)
-
-returns-2 : tie.Need-returns-2 Inv-loop μ-loop
-returns-2 c = (sym (c .before .loop .inv .0 ∙ strip-end _ _ (c .loop-test .left)), c .before .loop .inv .1)
+returns : tie.Need-returns
+unfolding skipQualifiers endOf
+returns c = begins _ _ (bytes-same _ _ (c .skip-qualifiers .ensures))
 
 pub strip-leading-qualifiers-spec : {M : Type 1} → statement M
-strip-leading-qualifiers-spec =
-    tie.close
-    (tie.spec
-    Inv-loop
-    μ-loop
-    loop-holds
-    shared-slice-read-is-qualifier
-    is-qualifier-requires
-    returns
-    add-i
-    loop-less
-    loop-again
-    returns-2)
+strip-leading-qualifiers-spec = tie.close (tie.spec skip-qualifiers-requires sub-result returns)
