@@ -70,12 +70,12 @@ pub fn rest(s: &[u8], b: u8) -> &[u8]
     &s[n..]
 }
 
-// The first `n` bytes, or all where there are fewer.
-pub fn front(s: &[u8], n: usize) -> &[u8]
-    ensures { λ r. ⌜ now r ≡ take n (now (s .entry)) ⌝ }
+// The first `count` bytes, or all where there are fewer.
+pub fn front(s: &[u8], count: usize) -> &[u8]
+    ensures { λ r. ⌜ now r ≡ take count (now (s .entry)) ⌝ }
 {
-    if n <= s.len() {
-        return &s[..n];
+    if count <= s.len() {
+        return &s[..count];
     }
     s
 }
