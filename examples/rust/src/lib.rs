@@ -1,6 +1,6 @@
 //! A safe wrapper around Berzhotun's static library: Objective-C type encodings.
 //!
-//! A call needs up to 1 MiB of stack for the deepest of texts.
+//! A call needs up to 512 KiB of stack for the deepest of texts.
 //!
 //! ```
 //! let rate = berzhotun::parse(b"{Rate=id}").unwrap();
