@@ -1,6 +1,6 @@
 -- What the functions that end a reading step answer and write, as functions of what was read.
 use Prim.Native.Nat.{ℕ, _+_, _*_, _-_, _≤_}
-use mathlib.Core.Bool.{Bool, true, false, _&&_}
+use mathlib.Core.Bool.{Bool, true, false, cond, _&&_, _||_}
 use mathlib.Core.List.{List, [], _∷_, _++_}
 use lib.ListN.{length, drop, getD, replicate}
 use lib.Dec.{ltb, eqb}
@@ -67,6 +67,14 @@ holdWords (Encoding to k l) kind n w = putNode w n kind 0 0 (k - n)
 holdWords (ContainerEnd c to) kind n w = noneUnder kind 0 n w
 holdWords (ArrayEnd to) kind n w = noneUnder kind 0 n w
 holdWords (Refused why to) kind n w = w
+
+-- A pointer or an atomic begins.
+abbrev pub isIndirection : ℕ → Bool
+isIndirection b = eqb b 94 || eqb b 65
+
+-- The kind word of the pointer or atomic that begins.
+abbrev pub indirectionWord : ℕ → ℕ
+indirectionWord b = cond (eqb b 94) 26 27
 
 -- The item is closed: `]` follows it.
 abbrev pub closed : List ℕ → ℕ → Bool

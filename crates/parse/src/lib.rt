@@ -14,9 +14,9 @@ ghost use Rattle.kinds.specs.Sheet.{headerWords};
 ghost use Rattle.kinds.specs.Parse.{unknownDigit, maxU64, parseNumber, parseComplex, parseObject, parseQuoted, parseBits, parseName, isQualifier, stripLeadingQualifiers, maxU8};
 ghost use Rattle.parse.specs.Digits.{afterDigits};
 ghost use Rattle.parse.specs.EncodingBox.{used, kindWord, answerWords, fromStrAnswer, fromStrWords, fromStrNames, fromStartAnswer, fromStartWords, fromStartNames, fromStartRest, EndOf};
-ghost use Rattle.parse.specs.Out.{leafOut, leafWords, bitsOut, bitsWords, After, AfterItems, holdOut, holdWords, itemOut, itemWords, containOut, containWords, endOut, noneUnder, closed, cleared, headed, noneSheet, Fits, encodedOut, encodedWords, encodedNames};
+ghost use Rattle.parse.specs.Out.{leafOut, leafWords, bitsOut, bitsWords, After, AfterItems, holdOut, holdWords, isIndirection, indirectionWord, itemOut, itemWords, containOut, containWords, endOut, noneUnder, closed, cleared, headed, noneSheet, Fits, encodedOut, encodedWords, encodedNames};
 ghost use Rattle.parse.specs.Skip.{leafSkipped, bitsSkipped, heldSkipped, itemSkipped, containedSkipped, endSkipped, SimpleSkips, SimpleSkipReady, Skips, SkipsItems, OpensAt, SkippedFieldsIs};
-ghost use Rattle.parse.specs.Agree.{Onward, NumberIs, LeafIs, BitsIs, CodeIs, UntypedIs, NameEnd, NameIs, NamedIs, Simple, SimpleReady, Ready, Reads, ContainerReady, lists, EncodedIs};
+ghost use Rattle.parse.specs.Agree.{Onward, NumberIs, LeafIs, BitsIs, CodeIs, UntypedIs, NameEnd, NameIs, NamedIs, Simple, SimpleReady, Ready, Reads, IndirectionsEnd, ChildReady, Holds, ContainerReady, lists, EncodedIs};
 use kinds::ContainerKind;
 use kinds::ErrorKind;
 use kinds::Refusal;
@@ -550,7 +550,64 @@ fn parse_simple(text: &[u8], at: usize, words: &mut [u64], n: usize, m: usize) -
     }
 }
 
+fn is_indirection(b: u8) -> bool
+    ensures { λ r. ⌜ r ≡ isIndirection b ⌝ }
+{
+    b == b'^' || b == b'A'
+}
+
+// The place after the pointers and atomics from `at` on.
+fn indirections_end(text: &[u8], at: usize) -> usize
+    requires { ⌜ at ≤ length (now text) ⌝ }
+    ensures { λ r. ⌜ IndirectionsEnd (now (text .entry)) at r ⌝ }
+{
+    let mut i = at;
+    while i < text.len() {
+        if !is_indirection(text[i]) {
+            return i;
+        }
+        i += 1;
+    }
+    i
+}
+
+fn indirection_word(b: u8) -> u64
+    ensures { λ r. ⌜ r ≡ indirectionWord b ⌝ }
+{
+    if b == b'^' { 26 } else { 27 }
+}
+
+// Ends the pointers and atomics from `at` up to `to`, whose child was read there: the innermost first, since each counts what is under it.
+fn put_indirections(
+    child: Parsed,
+    text: &[u8],
+    at: usize,
+    to: usize,
+    words: &mut [u64],
+    n: usize,
+    m: usize,
+) -> Parsed
+    requires { ⌜ ChildReady (now text) at to n (now words) child ⌝ }
+    ensures { λ r. ⌜ Holds (now (text .entry)) at to n m (now (words .entry)) (now (words .exit)) child r ⌝ }
+{
+    let mut p = child;
+    let mut i = to;
+    while at < i {
+        p = put_indirection(
+            p,
+            i,
+            indirection_word(text[i - 1]),
+            words,
+            n + (i - 1 - at),
+            m,
+        );
+        i -= 1;
+    }
+    p
+}
+
 // A type from `at` on, its nodes written from `n` on and its names from `m` on.
+// A run of pointers and atomics is read in one go, so that its depth costs no stack.
 fn parse_inner(
     text: &[u8],
     at: usize,
@@ -562,30 +619,25 @@ fn parse_inner(
     requires { ⌜ Ready (now text) at n m (lists (now words) (now names)) ⌝ }
     ensures { λ r. ⌜ Reads (now (text .entry)) at n m (lists (now (words .entry)) (now (names .entry))) (lists (now (words .exit)) (now (names .exit))) r ⌝ }
 {
-    if text.len() <= at {
-        return Parsed::Empty;
+    let to = indirections_end(text, at);
+    let k = n + (to - at);
+    if text.len() <= to {
+        return put_indirections(Parsed::Empty, text, at, to, words, n, m);
     }
-    let b = text[at];
-    match b {
-        b'^' => {
-            let p = parse_inner(text, at + 1, words, n + 1, names, m);
-            put_indirection(p, at + 1, 26, words, n, m)
-        }
-        b'A' => {
-            let p = parse_inner(text, at + 1, words, n + 1, names, m);
-            put_indirection(p, at + 1, 27, words, n, m)
-        }
-        b'[' => match parse_number(text, at + 1, 18446744073709551615) {
-            Number::Refused(why, to) => Parsed::Refused(why, to),
+    let b = text[to];
+    let p = match b {
+        b'[' => match parse_number(text, to + 1, 18446744073709551615) {
+            Number::Refused(why, end) => Parsed::Refused(why, end),
             Number::Value(len, item) => {
-                let p = parse_inner(text, item, words, n + 1, names, m);
-                put_array(p, text, item, len, words, n, m)
+                let p = parse_inner(text, item, words, k + 1, names, m);
+                put_array(p, text, item, len, words, k, m)
             }
         },
-        b'{' => parse_container(text, at, ContainerKind::Struct, words, n, names, m),
-        b'(' => parse_container(text, at, ContainerKind::Union, words, n, names, m),
-        _ => parse_simple(text, at, words, n, m),
-    }
+        b'{' => parse_container(text, to, ContainerKind::Struct, words, k, names, m),
+        b'(' => parse_container(text, to, ContainerKind::Union, words, k, names, m),
+        _ => parse_simple(text, to, words, k, m),
+    };
+    put_indirections(p, text, at, to, words, n, m)
 }
 
 // A struct or a union, whose opening byte is at `at`.
