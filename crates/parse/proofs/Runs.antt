@@ -1,4 +1,4 @@
--- Laws on runs of pointers and atomics.
+-- Laws on runs of pointers and atomics, and of codes.
 use Prim.Native.Nat.{ℕ, _+_, _*_, _-_, _≤_, _<_}
 use mathlib.Core.Path.{_≡_, refl, sym, ap, _∙_, subst}
 use mathlib.Core.List.{List}
@@ -11,13 +11,15 @@ use borrow.Author.Tests.{eqb-true}
 use Rattle.kinds.specs.Parse as R
 use Rattle.kinds.specs.Parse.{start, inSingles, singles, inOthers, others}
 use Rattle.kinds.specs.Tree.{Label, pointer, atomic, kind}
-use Rattle.parse.specs.Agree.{Lists, lists, Bound, Reads, Ready, IndirectionsEnd}
-use Rattle.parse.specs.Out.{After, isIndirection, indirectionWord, holdOut, holdWords}
+use Rattle.parse.specs.Agree.{Lists, lists, Bound, Reads, Ready, IndirectionsEnd, ItemsReads, CodesRead}
+use Rattle.parse.specs.Out.{After, isIndirection, indirectionWord, holdOut, holdWords, putNode}
 use Rattle.parse.specs.Room.{slack, closes}
+use Rattle.kinds.specs.declared.ContainerKind.{ContainerKind}
+use Rattle.parse.specs.declared.Items.{Items}
 use Rattle.parse.specs.declared.Parsed.{Parsed}
 use Rattle.parse.specs.declared.Parsed.the-variants.{Empty, Encoding, ContainerEnd, ArrayEnd, Refused}
-use Rattle.parse.proofs.Cycle.{Bare, bare-pointer, bare-atomic, reads-held}
-use Rattle.parse.proofs.Sheets.{slack-open, slack-le}
+use Rattle.parse.proofs.Cycle.{Bare, bare-pointer, bare-atomic, reads-held, reads-simple, items-more}
+use Rattle.parse.proofs.Sheets.{slack-open, slack-le, simple-code}
 
 -- What a byte that begins a pointer or an atomic begins.
 pub record Indirection (b : ℕ) : Type 0 where
@@ -96,3 +98,42 @@ module _ (text : List ℕ) (at n m to : ℕ) (b : Lists) (r : Ready text at n m 
     | no l ↦ let same : to ≡ at = omega (arith, e .onward) in
         subst (λ (x : ℕ). Ready text x (n + (x - at)) m b) (sym same) (record { at-place = r .at-place; words-room = omega (arith, r .words-room); names-room = r .names-room })
   ]
+
+-- ---- Codes.
+
+-- A field that is a code, and the fields after it.
+module _ (text : List ℕ) (at n p : ℕ) (h : at < length text) (st : start (getD text at 0) ≡ R.single p) where
+  pub code-slack : slack (drop (at + 1) text) + 1 ≤ slack (drop at text)
+  unfolding closes
+  code-slack = omega (arith, slack-open text at h (ap closes st), slack-le text (at + 1))
+
+  pub items-code : p < 24 → (kind : ContainerKind) (m : ℕ) (w ns : List ℕ) (z : Lists) (i : Items)
+      → ItemsReads text (at + 1) kind (n + 1) m (lists (putNode w n p 0 0 1) ns) z i → ItemsReads text at kind n m (lists w ns) z i
+  items-code l kind m w ns z i r =
+      items-more text at kind n m (lists w ns) (lists (putNode w n p 0 0 1) ns) (at + 1) (n + 1) m z i
+      (reads-simple text at n m w (putNode w n p 0 0 1) ns (Encoding (at + 1) (n + 1) m) h (simple-code text at n m w h p st l)) r
+
+pub ready-codes : (text : List ℕ) (at n m to : ℕ) (w w' ns : List ℕ) → Ready text at n m (lists w ns) → CodesRead text at n w w' to → length w' ≡ length w → Ready text to (n + (to - at)) m (lists w' ns)
+ready-codes text at n m to w w' ns r c e = record {
+  at-place = c .within;
+  words-room = omega (arith, r .words-room, c .room);
+  names-room = omega (arith, r .names-room, c .onward);
+}
+
+pub codes-none : (text : List ℕ) (at n : ℕ) (w : List ℕ) → at ≤ length text → CodesRead text at n w w at
+codes-none text at n w l = record {
+  onward = omega arith;
+  within = l;
+  room = omega arith;
+  reads = λ kind m ns z i r. subst (λ (k : ℕ). ItemsReads text at kind k m (lists w ns) z i) (omega arith) r;
+}
+
+pub codes-more : (text : List ℕ) (at n : ℕ) (w w' : List ℕ) (to p : ℕ) → CodesRead text at n w w' to → to < length text → start (getD text to 0) ≡ R.single p → p < 24
+    → CodesRead text at n w (putNode w' (n + (to - at)) p 0 0 1) (to + 1)
+codes-more text at n w w' to p c h st l = record {
+  onward = omega (arith, c .onward);
+  within = omega arith;
+  room = omega (arith, c .onward, c .room, code-slack text to (n + (to - at)) p h st);
+  reads = λ kind m ns z i r. c .reads kind m ns z i (items-code text to (n + (to - at)) p h st l kind m w' ns z i
+      (subst (λ (k : ℕ). ItemsReads text (to + 1) kind k m (lists (putNode w' (n + (to - at)) p 0 0 1) ns) z i) (omega (arith, c .onward)) r));
+}

@@ -225,6 +225,13 @@ pub record ItemsReads (text : List ℕ) (at : ℕ) (kind : ContainerKind) (n m :
   pub bound : ItemsWithin text at n m before after r
   pub says : (f : ℕ) → length (drop at text) + length (drop at text) < f → ItemsIs text n m before after r (parseItems f kind (drop at text))
 
+-- Codes stand from `at` on up to `to`, and `w'` has their nodes: whatever the fields from `to` on give, those from `at` on give.
+pub record CodesRead (text : List ℕ) (at n : ℕ) (w w' : List ℕ) (to : ℕ) : Type 0 where
+  pub onward : at ≤ to
+  pub within : to ≤ length text
+  pub room : to - at + slack (drop to text) ≤ slack (drop at text)
+  pub reads : (kind : ContainerKind) (m : ℕ) (ns : List ℕ) (z : Lists) (i : Items) → ItemsReads text to kind (n + (to - at)) m (lists w' ns) z i → ItemsReads text at kind n m (lists w ns) z i
+
 -- A container is to be read: its opening byte is at the place.
 pub record ContainerReady (text : List ℕ) (at : ℕ) (kind : ContainerKind) (n m : ℕ) (before : Lists) : Type 0 where
   pub ready : Ready text at n m before

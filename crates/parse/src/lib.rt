@@ -15,8 +15,9 @@ ghost use Rattle.kinds.specs.Parse.{unknownDigit, maxU64, parseNumber, parseCom
 ghost use Rattle.parse.specs.Digits.{afterDigits};
 ghost use Rattle.parse.specs.EncodingBox.{used, kindWord, answerWords, fromStrAnswer, fromStrWords, fromStrNames, fromStartAnswer, fromStartWords, fromStartNames, fromStartRest, EndOf};
 ghost use Rattle.parse.specs.Out.{leafOut, leafWords, bitsOut, bitsWords, After, AfterItems, holdOut, holdWords, isIndirection, indirectionWord, itemOut, itemWords, containOut, containWords, endOut, noneUnder, closed, cleared, headed, noneSheet, Fits, encodedOut, encodedWords, encodedNames};
+ghost use Rattle.parse.specs.Room.{slack};
 ghost use Rattle.parse.specs.Skip.{leafSkipped, bitsSkipped, heldSkipped, itemSkipped, containedSkipped, endSkipped, SimpleSkips, SimpleSkipReady, Skips, SkipsItems, OpensAt, SkippedFieldsIs};
-ghost use Rattle.parse.specs.Agree.{Onward, NumberIs, LeafIs, BitsIs, CodeIs, UntypedIs, NameEnd, NameIs, NamedIs, Simple, SimpleReady, Ready, Reads, IndirectionsEnd, ChildReady, Holds, ContainerReady, lists, EncodedIs};
+ghost use Rattle.parse.specs.Agree.{Onward, NumberIs, LeafIs, BitsIs, CodeIs, UntypedIs, NameEnd, NameIs, NamedIs, Simple, SimpleReady, Ready, Reads, IndirectionsEnd, ChildReady, Holds, CodesRead, ContainerReady, lists, EncodedIs};
 use kinds::ContainerKind;
 use kinds::ErrorKind;
 use kinds::Refusal;
@@ -640,6 +641,23 @@ fn parse_inner(
     put_indirections(p, text, at, to, words, n, m)
 }
 
+// A node for each byte from `at` on that is a whole code, without a call for each; the place after them.
+fn put_codes(text: &[u8], at: usize, words: &mut [u64], n: usize) -> usize
+    requires { ⌜ (at ≤ length (now text)) × (4 * (n + slack (drop at (now text))) ≤ length (now words)) ⌝ }
+    ensures { λ r. ⌜ CodesRead (now (text .entry)) at n (now (words .entry)) (now (words .exit)) r ⌝ }
+{
+    let mut i = at;
+    while i < text.len() {
+        let p = single_kind(text[i]);
+        if 24 <= p {
+            return i;
+        }
+        put_node(words, n + (i - at), p, 0, 0, 1);
+        i += 1;
+    }
+    i
+}
+
 // A struct or a union, whose opening byte is at `at`.
 fn parse_container(
     text: &[u8],
@@ -660,6 +678,9 @@ fn parse_container(
             let mut k = n + 1;
             let mut l = named;
             loop {
+                let past = put_codes(text, to, words, k);
+                k += past - to;
+                to = past;
                 let p = parse_inner(text, to, words, k, names, l);
                 match p {
                     Parsed::Encoding(to2, k2, l2) => {

@@ -16,7 +16,7 @@ use lib.ListN.{length}
 use Rattle.parse.specs.declared.Items.{Items}
 use Rattle.parse.proofs.Sheets.{starts}
 use Rattle.parse.proofs.Cycle.{reads-end, reads-simple, reads-item, reads-no-number, reads-no-name, reads-contained, items-end, items-more, ready-part, room-two, after-parsed, after-items, ready-fields, ready-more, opens-closes, NotFound}
-use Rattle.parse.proofs.Runs.{ready-run, run-room, after-bound, not-indirection}
+use Rattle.parse.proofs.Runs.{ready-codes, ready-run, run-room, after-bound, not-indirection}
 use borrow.Fn.Kinds.{In}
 use borrow.Fn.PlainCycle.{Measures, is, falls, and}
 use Rattle.parse.proofs.parse_container.Reads as parse-container
@@ -30,6 +30,7 @@ use Rattle.parse.proofs.put_container.Reads as put-container-reads
 use Rattle.parse.proofs.end_items.Reads as end-items-reads
 use Rattle.parse.proofs.indirections_end.Reads as indirections-end-reads
 use Rattle.parse.proofs.put_indirections.Reads as put-indirections-reads
+use Rattle.parse.proofs.put_codes.Reads as put-codes-reads
 use Rattle.parse.proofs.put_name.Reads as put-name-reads
 use Rattle.parse.proofs.parse_number.Reads as parse-number-reads
 use Rattle.parse.proofs.parse_simple.Reads as parse-simple-reads
@@ -75,7 +76,7 @@ parse-inner-below t =
     and 3 parse-inner-kinds.ps (falls 3 parse-inner-kinds.ps _<_ μ-parse-inner t) parse-inner.Pre
 
 abbrev parse-container-claims : ℕ → parse-container-lts.Claims
-parse-container-claims t = (put-name-reads.Asked, put-name-reads.Learnt, parse-inner-below t, parse-inner.Post, end-items-reads.Asked, end-items-reads.Learnt, put-container-reads.Asked, put-container-reads.Learnt)
+parse-container-claims t = (put-name-reads.Asked, put-name-reads.Learnt, put-codes-reads.Asked, put-codes-reads.Learnt, parse-inner-below t, parse-inner.Post, end-items-reads.Asked, end-items-reads.Learnt, put-container-reads.Asked, put-container-reads.Learnt)
 
 abbrev parse-inner-claims : ℕ → parse-inner-lts.Claims
 parse-inner-claims t = (indirections-end-reads.Asked, indirections-end-reads.Learnt, put-indirections-reads.Asked, put-indirections-reads.Learnt, parse-number-reads.Asked, parse-number-reads.Learnt, parse-inner-below t, parse-inner.Post, put-array-reads.Asked, put-array-reads.Learnt, parse-container-below t, parse-container.Post, parse-simple-reads.Asked, parse-simple-reads.Learnt)
@@ -112,32 +113,41 @@ parse-container-loop-holds t c =
       (search needs, ((refl, refl), λ z i r. r)),
     )
 
+parse-container-put-codes-requires : (t : ℕ) → parse-container-lts.Need-put-codes-requires (parse-container-claims t) (parse-container-at t) parse-container.Post parse-container-Inv-loop parse-container-μ-loop
+parse-container-put-codes-requires t c κs = (c .before .loop .inv .0 .at-place, c .before .loop .inv .0 .words-room)
+
+parse-container-sub-k : (t : ℕ) → parse-container-lts.Need-sub-k (parse-container-claims t) (parse-container-at t) parse-container.Post parse-container-Inv-loop parse-container-μ-loop
+parse-container-sub-k t c = omega (arith, c .before .before .put-codes .ensures .onward)
+
+parse-container-add-k-2 : (t : ℕ) → parse-container-lts.Need-add-k-2 (parse-container-claims t) (parse-container-at t) parse-container.Post parse-container-Inv-loop parse-container-μ-loop
+parse-container-add-k-2 t c = omega (arith, c .before .before .before .before .loop .inv .0 .words-room, c .before .before .put-codes .ensures .room, c .before .before .before .before .loop .inv .1 .1 .0 .0)
+
 parse-container-parse-inner-requires : (t : ℕ) → parse-container-lts.Need-parse-inner-requires (parse-container-claims t) (parse-container-at t) parse-container.Post parse-container-Inv-loop parse-container-μ-loop
 parse-container-parse-inner-requires t c κs =
-    let T : List ℕ = c .before .before .before .before .before .before .before .before .before .before .before .before .before .args .text .now in
-    let B : Lists = lists (c .before .before .before .before .before .before .before .before .before .before .before .before .before .args .words .now) (c .before .before .before .before .before .before .before .before .before .before .before .before .before .args .names .now) in
-    let q = rw (c .before .before .before .before .start .given .1) at (c .before .before .before .before .before .before .before .before .put-name .ensures) in
-    (omega (arith, c .before .before .before .before .before .before .before .before .before .before .before .before .before .pre .0, c .before .before .loop .inv .1 .0, c .before .before .loop .inv .0 .at-place, q .onward), c .before .before .loop .inv .0)
+    let T : List ℕ = c .before .before .before .before .before .before .before .before .before .before .before .before .before .before .before .before .before .args .text .now in
+    let B : Lists = lists (c .before .before .before .before .before .before .before .before .before .before .before .before .before .before .before .before .before .args .words .now) (c .before .before .before .before .before .before .before .before .before .before .before .before .before .before .before .before .before .args .names .now) in
+    let q = rw (c .before .before .before .before .before .before .before .before .start .given .1) at (c .before .before .before .before .before .before .before .before .before .before .before .before .put-name .ensures) in
+    (omega (arith, c .before .before .before .before .before .before .before .before .before .before .before .before .before .before .before .before .before .pre .0, c .before .before .before .before .before .before .loop .inv .1 .0, c .before .before .before .before .put-codes .ensures .onward, c .before .before .before .before .put-codes .ensures .within, q .onward), (ready-codes T (c .before .before .before .before .before .before .loop .to) (c .before .before .before .before .before .before .loop .k) (c .before .before .before .before .before .before .loop .l) (c .before .before .before .before .put-codes .result) (c .before .before .before .before .before .before .loop .words) (c .before .before .before .before .put-codes .last .1 .1 .0) (c .before .before .before .before .before .before .loop .names) (c .before .before .before .before .before .before .loop .inv .0) (c .before .before .before .before .put-codes .ensures) (c .before .before .before .before .put-codes .kept .1 .1 .0)))
 
 parse-container-enum-known-p : (t : ℕ) → parse-container-lts.Need-enum-known-p (parse-container-claims t) (parse-container-at t) parse-container.Post parse-container-Inv-loop parse-container-μ-loop
 parse-container-enum-known-p t c = search needs
 
 parse-container-loop-less : (t : ℕ) → parse-container-lts.Need-loop-less (parse-container-claims t) (parse-container-at t) parse-container.Post parse-container-Inv-loop parse-container-μ-loop
-parse-container-loop-less t c = let r = rw (c .before .p .given .1) at (c .before .before .before .before .before .before .before .parse-inner .ensures) in omega (arith, r .bound .onward, r .bound .within)
+parse-container-loop-less t c = let r = rw (c .before .p .given .1) at (c .before .before .before .before .before .before .before .parse-inner .ensures) in omega (arith, c .before .before .before .before .before .before .before .before .before .before .before .before .put-codes .ensures .onward, r .bound .onward, r .bound .within)
 
 parse-container-loop-again : (t : ℕ) → parse-container-lts.Need-loop-again (parse-container-claims t) (parse-container-at t) parse-container.Post parse-container-Inv-loop parse-container-μ-loop
 parse-container-loop-again t c =
-    let T : List ℕ = c .before .before .before .before .before .before .before .before .before .before .before .before .before .before .before .before .before .before .before .before .before .args .text .now in
-    let B : Lists = lists (c .before .before .before .before .before .before .before .before .before .before .before .before .before .before .before .before .before .before .before .before .before .args .words .now) (c .before .before .before .before .before .before .before .before .before .before .before .before .before .before .before .before .before .before .before .before .before .args .names .now) in
-    let b : Lists = lists (c .before .before .before .before .before .before .before .before .before .before .loop .words) (c .before .before .before .before .before .before .before .before .before .before .loop .names) in
+    let T : List ℕ = c .before .before .before .before .before .before .before .before .before .before .before .before .before .before .before .before .before .before .before .before .before .before .before .before .before .args .text .now in
+    let B : Lists = lists (c .before .before .before .before .before .before .before .before .before .before .before .before .before .before .before .before .before .before .before .before .before .before .before .before .before .args .words .now) (c .before .before .before .before .before .before .before .before .before .before .before .before .before .before .before .before .before .before .before .before .before .before .before .before .before .args .names .now) in
+    let b : Lists = lists (c .before .before .before .before .before .before .before .before .before .before .before .before .put-codes .last .1 .1 .0) (c .before .before .before .before .before .before .before .before .before .before .before .before .before .before .loop .names) in
     let A : Lists = lists (c .before .before .before .before .before .before .before .parse-inner .last .1 .1 .0) (c .before .before .before .before .before .before .before .parse-inner .last .1 .1 .1 .1 .0) in
     let r = rw (c .before .p .given .1) at (c .before .before .before .before .before .before .before .parse-inner .ensures) in (
-      ready-more T (c .before .before .before .before .before .before .before .before .before .before .loop .to) (c .before .before .before .before .before .before .before .before .before .before .loop .k) (c .before .before .before .before .before .before .before .before .before .before .loop .l) b A _ _ _ (c .before .before .before .before .before .before .before .before .before .before .loop .inv .0) (c .before .before .before .before .before .before .before .parse-inner .kept .1 .1 .0) (c .before .before .before .before .before .before .before .parse-inner .kept .1 .1 .1 .1 .0) (r .bound),
+      ready-more T (c .before .before .before .before .before .before .before .before .before .before .before .before .put-codes .result) (c .before .before .before .before .before .before .before .before .before .before .before .before .before .before .loop .k + (c .before .before .before .before .before .before .before .before .before .before .before .before .put-codes .result - c .before .before .before .before .before .before .before .before .before .before .before .before .before .before .loop .to)) (c .before .before .before .before .before .before .before .before .before .before .before .before .before .before .loop .l) b A _ _ _ (ready-codes T (c .before .before .before .before .before .before .before .before .before .before .before .before .before .before .loop .to) (c .before .before .before .before .before .before .before .before .before .before .before .before .before .before .loop .k) (c .before .before .before .before .before .before .before .before .before .before .before .before .before .before .loop .l) (c .before .before .before .before .before .before .before .before .before .before .before .before .put-codes .result) (c .before .before .before .before .before .before .before .before .before .before .before .before .before .before .loop .words) (c .before .before .before .before .before .before .before .before .before .before .before .before .put-codes .last .1 .1 .0) (c .before .before .before .before .before .before .before .before .before .before .before .before .before .before .loop .names) (c .before .before .before .before .before .before .before .before .before .before .before .before .before .before .loop .inv .0) (c .before .before .before .before .before .before .before .before .before .before .before .before .put-codes .ensures) (c .before .before .before .before .before .before .before .before .before .before .before .before .put-codes .kept .1 .1 .0)) (c .before .before .before .before .before .before .before .parse-inner .kept .1 .1 .0) (c .before .before .before .before .before .before .before .parse-inner .kept .1 .1 .1 .1 .0) (r .bound),
       (
-        omega (arith, c .before .before .before .before .before .before .before .before .before .before .loop .inv .1 .0, r .bound .onward),
+        omega (arith, c .before .before .before .before .before .before .before .before .before .before .before .before .before .before .loop .inv .1 .0, c .before .before .before .before .before .before .before .before .before .before .before .before .put-codes .ensures .onward, r .bound .onward),
         (
-          (c .before .before .before .before .before .before .before .parse-inner .kept .1 .1 .0 ∙ c .before .before .before .before .before .before .before .before .before .before .loop .inv .1 .1 .0 .0, c .before .before .before .before .before .before .before .parse-inner .kept .1 .1 .1 .1 .0 ∙ c .before .before .before .before .before .before .before .before .before .before .loop .inv .1 .1 .0 .1),
-          λ z i x. c .before .before .before .before .before .before .before .before .before .before .loop .inv .1 .1 .1 z i (items-more T (c .before .before .before .before .before .before .before .before .before .before .loop .to) (c .before .before .before .before .before .before .before .before .before .before .before .before .before .before .before .before .before .before .before .before .before .args .kind) (c .before .before .before .before .before .before .before .before .before .before .loop .k) (c .before .before .before .before .before .before .before .before .before .before .loop .l) b A _ _ _ z i r x),
+          (c .before .before .before .before .before .before .before .parse-inner .kept .1 .1 .0 ∙ c .before .before .before .before .before .before .before .before .before .before .before .before .put-codes .kept .1 .1 .0 ∙ c .before .before .before .before .before .before .before .before .before .before .before .before .before .before .loop .inv .1 .1 .0 .0, c .before .before .before .before .before .before .before .parse-inner .kept .1 .1 .1 .1 .0 ∙ c .before .before .before .before .before .before .before .before .before .before .before .before .before .before .loop .inv .1 .1 .0 .1),
+          λ z i x. c .before .before .before .before .before .before .before .before .before .before .before .before .before .before .loop .inv .1 .1 .1 z i (c .before .before .before .before .before .before .before .before .before .before .before .before .put-codes .ensures .reads (c .before .before .before .before .before .before .before .before .before .before .before .before .before .before .before .before .before .before .before .before .before .before .before .before .before .args .kind) (c .before .before .before .before .before .before .before .before .before .before .before .before .before .before .loop .l) (c .before .before .before .before .before .before .before .before .before .before .before .before .before .before .loop .names) z i (items-more T (c .before .before .before .before .before .before .before .before .before .before .before .before .put-codes .result) (c .before .before .before .before .before .before .before .before .before .before .before .before .before .before .before .before .before .before .before .before .before .before .before .before .before .args .kind) (c .before .before .before .before .before .before .before .before .before .before .before .before .before .before .loop .k + (c .before .before .before .before .before .before .before .before .before .before .before .before .put-codes .result - c .before .before .before .before .before .before .before .before .before .before .before .before .before .before .loop .to)) (c .before .before .before .before .before .before .before .before .before .before .before .before .before .before .loop .l) b A _ _ _ z i r x)),
         ),
       ),
     )
@@ -147,14 +157,14 @@ parse-container-end-items-requires t c κs = search needs
 
 parse-container-put-container-requires : (t : ℕ) → parse-container-lts.Need-put-container-requires (parse-container-claims t) (parse-container-at t) parse-container.Post parse-container-Inv-loop parse-container-μ-loop
 parse-container-put-container-requires t c κs =
-    let T : List ℕ = c .before .before .before .before .before .before .before .before .before .before .before .before .before .before .before .before .before .before .before .before .before .args .text .now in
-    let B : Lists = lists (c .before .before .before .before .before .before .before .before .before .before .before .before .before .before .before .before .before .before .before .before .before .args .words .now) (c .before .before .before .before .before .before .before .before .before .before .before .before .before .before .before .before .before .before .before .before .before .args .names .now) in
-    let q = rw (c .before .before .before .before .before .before .before .before .before .before .before .before .start .given .1) at (c .before .before .before .before .before .before .before .before .before .before .before .before .before .before .before .before .put-name .ensures) in
-    let b : Lists = lists (c .before .before .before .before .before .before .before .before .before .before .loop .words) (c .before .before .before .before .before .before .before .before .before .before .loop .names) in
+    let T : List ℕ = c .before .before .before .before .before .before .before .before .before .before .before .before .before .before .before .before .before .before .before .before .before .before .before .before .before .args .text .now in
+    let B : Lists = lists (c .before .before .before .before .before .before .before .before .before .before .before .before .before .before .before .before .before .before .before .before .before .before .before .before .before .args .words .now) (c .before .before .before .before .before .before .before .before .before .before .before .before .before .before .before .before .before .before .before .before .before .before .before .before .before .args .names .now) in
+    let q = rw (c .before .before .before .before .before .before .before .before .before .before .before .before .before .before .before .before .start .given .1) at (c .before .before .before .before .before .before .before .before .before .before .before .before .before .before .before .before .before .before .before .before .put-name .ensures) in
+    let b : Lists = lists (c .before .before .before .before .before .before .before .before .before .before .before .before .put-codes .last .1 .1 .0) (c .before .before .before .before .before .before .before .before .before .before .before .before .before .before .loop .names) in
     let A : Lists = lists (c .before .before .before .before .before .before .before .parse-inner .last .1 .1 .0) (c .before .before .before .before .before .before .before .parse-inner .last .1 .1 .1 .1 .0) in
-    let e : ItemsReads T (c .before .before .before .before .before .before .before .before .before .before .loop .to) (c .before .before .before .before .before .before .before .before .before .before .before .before .before .before .before .before .before .before .before .before .before .args .kind) (c .before .before .before .before .before .before .before .before .before .before .loop .k) (c .before .before .before .before .before .before .before .before .before .before .loop .l) b A (c .before .end-items .result) = rw (c .before .end-items .ensures) (items-end T (c .before .before .before .before .before .before .before .before .before .before .loop .to) (c .before .before .before .before .before .before .before .before .before .before .before .before .before .before .before .before .before .before .before .before .before .args .kind) (c .before .before .before .before .before .before .before .before .before .before .loop .k) (c .before .before .before .before .before .before .before .before .before .before .loop .l) b A (c .before .before .before .before .before .before .before .parse-inner .result) (not-found (c .before .before .before .before .before .before .before .parse-inner .result) (c .before .before .match2 .keys2)) (c .before .before .before .before .before .before .before .parse-inner .ensures)) in
-    let f = c .before .before .before .before .before .before .before .before .before .before .loop .inv .1 .1 .1 A (c .before .end-items .result) e in
-    ((omega (arith, room-two T (c .before .before .before .before .before .before .before .before .before .before .before .before .before .before .before .before .before .before .before .before .before .args .at) (c .before .before .before .before .before .before .before .before .before .before .before .before .before .before .before .before .before .before .before .before .before .args .n) (c .before .before .before .before .before .before .before .before .before .before .before .before .before .before .before .before .before .before .before .before .before .args .m) B (c .before .before .before .before .before .before .before .before .before .before .before .before .before .before .before .before .before .before .before .before .before .pre .1 .ready) (c .before .before .before .before .before .before .before .before .before .before .before .before .before .before .before .before .before .before .before .before .before .pre .1 .at-byte) (opens-closes _ _ (c .before .before .before .before .before .before .before .before .before .before .before .before .before .before .before .before .before .before .before .before .before .pre .1 .opens)), c .before .before .before .before .before .before .before .parse-inner .kept .1 .1 .0, c .before .before .before .before .before .before .before .before .before .before .loop .inv .1 .1 .0 .0), omega (arith, q .names-is)), after-items _ _ _ _ _ _ (c .before .end-items .result) (f .bound))
+    let e : ItemsReads T (c .before .before .before .before .before .before .before .before .before .before .before .before .put-codes .result) (c .before .before .before .before .before .before .before .before .before .before .before .before .before .before .before .before .before .before .before .before .before .before .before .before .before .args .kind) (c .before .before .before .before .before .before .before .before .before .before .before .before .before .before .loop .k + (c .before .before .before .before .before .before .before .before .before .before .before .before .put-codes .result - c .before .before .before .before .before .before .before .before .before .before .before .before .before .before .loop .to)) (c .before .before .before .before .before .before .before .before .before .before .before .before .before .before .loop .l) b A (c .before .end-items .result) = rw (c .before .end-items .ensures) (items-end T (c .before .before .before .before .before .before .before .before .before .before .before .before .put-codes .result) (c .before .before .before .before .before .before .before .before .before .before .before .before .before .before .before .before .before .before .before .before .before .before .before .before .before .args .kind) (c .before .before .before .before .before .before .before .before .before .before .before .before .before .before .loop .k + (c .before .before .before .before .before .before .before .before .before .before .before .before .put-codes .result - c .before .before .before .before .before .before .before .before .before .before .before .before .before .before .loop .to)) (c .before .before .before .before .before .before .before .before .before .before .before .before .before .before .loop .l) b A (c .before .before .before .before .before .before .before .parse-inner .result) (not-found (c .before .before .before .before .before .before .before .parse-inner .result) (c .before .before .match2 .keys2)) (c .before .before .before .before .before .before .before .parse-inner .ensures)) in
+    let f = c .before .before .before .before .before .before .before .before .before .before .before .before .before .before .loop .inv .1 .1 .1 A (c .before .end-items .result) (c .before .before .before .before .before .before .before .before .before .before .before .before .put-codes .ensures .reads (c .before .before .before .before .before .before .before .before .before .before .before .before .before .before .before .before .before .before .before .before .before .before .before .before .before .args .kind) (c .before .before .before .before .before .before .before .before .before .before .before .before .before .before .loop .l) (c .before .before .before .before .before .before .before .before .before .before .before .before .before .before .loop .names) A (c .before .end-items .result) e) in
+    ((omega (arith, room-two T (c .before .before .before .before .before .before .before .before .before .before .before .before .before .before .before .before .before .before .before .before .before .before .before .before .before .args .at) (c .before .before .before .before .before .before .before .before .before .before .before .before .before .before .before .before .before .before .before .before .before .before .before .before .before .args .n) (c .before .before .before .before .before .before .before .before .before .before .before .before .before .before .before .before .before .before .before .before .before .before .before .before .before .args .m) B (c .before .before .before .before .before .before .before .before .before .before .before .before .before .before .before .before .before .before .before .before .before .before .before .before .before .pre .1 .ready) (c .before .before .before .before .before .before .before .before .before .before .before .before .before .before .before .before .before .before .before .before .before .before .before .before .before .pre .1 .at-byte) (opens-closes _ _ (c .before .before .before .before .before .before .before .before .before .before .before .before .before .before .before .before .before .before .before .before .before .before .before .before .before .pre .1 .opens)), c .before .before .before .before .before .before .before .parse-inner .kept .1 .1 .0, c .before .before .before .before .before .before .before .before .before .before .before .before .put-codes .kept .1 .1 .0, c .before .before .before .before .before .before .before .before .before .before .before .before .before .before .loop .inv .1 .1 .0 .0), omega (arith, q .names-is)), after-items _ _ _ _ _ _ (c .before .end-items .result) (f .bound))
 
 parse-container-same-length : (t : ℕ) → parse-container-lts.Need-same-length (parse-container-claims t) (parse-container-at t) parse-container.Post parse-container-Inv-loop parse-container-μ-loop
 parse-container-same-length t c = search needs
@@ -164,14 +174,14 @@ parse-container-same-length-2 t c = search needs
 
 parse-container-returns : (t : ℕ) → parse-container-lts.Need-returns (parse-container-claims t) (parse-container-at t) parse-container.Post parse-container-Inv-loop parse-container-μ-loop
 parse-container-returns t c =
-    let T : List ℕ = c .before .before .before .before .before .before .before .before .before .before .before .before .before .before .before .before .before .before .before .before .before .before .before .before .args .text .now in
-    let B : Lists = lists (c .before .before .before .before .before .before .before .before .before .before .before .before .before .before .before .before .before .before .before .before .before .before .before .before .args .words .now) (c .before .before .before .before .before .before .before .before .before .before .before .before .before .before .before .before .before .before .before .before .before .before .before .before .args .names .now) in
-    let q = rw (c .before .before .before .before .before .before .before .before .before .before .before .before .before .before .before .start .given .1) at (c .before .before .before .before .before .before .before .before .before .before .before .before .before .before .before .before .before .before .before .put-name .ensures) in
-    let b : Lists = lists (c .before .before .before .before .before .before .before .before .before .before .before .before .before .loop .words) (c .before .before .before .before .before .before .before .before .before .before .before .before .before .loop .names) in
+    let T : List ℕ = c .before .before .before .before .before .before .before .before .before .before .before .before .before .before .before .before .before .before .before .before .before .before .before .before .before .before .before .before .args .text .now in
+    let B : Lists = lists (c .before .before .before .before .before .before .before .before .before .before .before .before .before .before .before .before .before .before .before .before .before .before .before .before .before .before .before .before .args .words .now) (c .before .before .before .before .before .before .before .before .before .before .before .before .before .before .before .before .before .before .before .before .before .before .before .before .before .before .before .before .args .names .now) in
+    let q = rw (c .before .before .before .before .before .before .before .before .before .before .before .before .before .before .before .before .before .before .before .start .given .1) at (c .before .before .before .before .before .before .before .before .before .before .before .before .before .before .before .before .before .before .before .before .before .before .before .put-name .ensures) in
+    let b : Lists = lists (c .before .before .before .before .before .before .before .before .before .before .before .before .before .before .before .put-codes .last .1 .1 .0) (c .before .before .before .before .before .before .before .before .before .before .before .before .before .before .before .before .before .loop .names) in
     let A : Lists = lists (c .before .before .before .before .before .before .before .before .before .before .parse-inner .last .1 .1 .0) (c .before .before .before .before .before .before .before .before .before .before .parse-inner .last .1 .1 .1 .1 .0) in
-    let e : ItemsReads T (c .before .before .before .before .before .before .before .before .before .before .before .before .before .loop .to) (c .before .before .before .before .before .before .before .before .before .before .before .before .before .before .before .before .before .before .before .before .before .before .before .before .args .kind) (c .before .before .before .before .before .before .before .before .before .before .before .before .before .loop .k) (c .before .before .before .before .before .before .before .before .before .before .before .before .before .loop .l) b A (c .before .before .before .before .end-items .result) = rw (c .before .before .before .before .end-items .ensures) (items-end T (c .before .before .before .before .before .before .before .before .before .before .before .before .before .loop .to) (c .before .before .before .before .before .before .before .before .before .before .before .before .before .before .before .before .before .before .before .before .before .before .before .before .args .kind) (c .before .before .before .before .before .before .before .before .before .before .before .before .before .loop .k) (c .before .before .before .before .before .before .before .before .before .before .before .before .before .loop .l) b A (c .before .before .before .before .before .before .before .before .before .before .parse-inner .result) (not-found (c .before .before .before .before .before .before .before .before .before .before .parse-inner .result) (c .before .before .before .before .before .match2 .keys2)) (c .before .before .before .before .before .before .before .before .before .before .parse-inner .ensures)) in
-    let f = c .before .before .before .before .before .before .before .before .before .before .before .before .before .loop .inv .1 .1 .1 A (c .before .before .before .before .end-items .result) e in
-    rw (c .before .before .put-container .ensures .0, c .before .before .put-container .ensures .1) (reads-contained T (c .before .before .before .before .before .before .before .before .before .before .before .before .before .before .before .before .before .before .before .before .before .before .before .before .args .at) (c .before .before .before .before .before .before .before .before .before .before .before .before .before .before .before .before .before .before .before .before .before .before .before .before .args .kind) (c .before .before .before .before .before .before .before .before .before .before .before .before .before .before .before .before .before .before .before .before .before .before .before .before .args .n) (c .before .before .before .before .before .before .before .before .before .before .before .before .before .before .before .before .before .before .before .before .before .before .before .before .args .m) (c .before .before .before .before .before .before .before .before .before .before .before .before .before .before .before .before .before .before .before .before .before .before .before .before .pre .1 .at-byte) (c .before .before .before .before .before .before .before .before .before .before .before .before .before .before .before .before .before .before .before .before .before .before .before .before .pre .1 .opens) B (c .before .before .before .before .before .before .before .before .before .before .before .before .before .before .before .before .before .before .before .put-name .last .1 .1 .1 .0) _ _ q A (c .before .before .before .before .end-items .result) f)
+    let e : ItemsReads T (c .before .before .before .before .before .before .before .before .before .before .before .before .before .before .before .put-codes .result) (c .before .before .before .before .before .before .before .before .before .before .before .before .before .before .before .before .before .before .before .before .before .before .before .before .before .before .before .before .args .kind) (c .before .before .before .before .before .before .before .before .before .before .before .before .before .before .before .before .before .loop .k + (c .before .before .before .before .before .before .before .before .before .before .before .before .before .before .before .put-codes .result - c .before .before .before .before .before .before .before .before .before .before .before .before .before .before .before .before .before .loop .to)) (c .before .before .before .before .before .before .before .before .before .before .before .before .before .before .before .before .before .loop .l) b A (c .before .before .before .before .end-items .result) = rw (c .before .before .before .before .end-items .ensures) (items-end T (c .before .before .before .before .before .before .before .before .before .before .before .before .before .before .before .put-codes .result) (c .before .before .before .before .before .before .before .before .before .before .before .before .before .before .before .before .before .before .before .before .before .before .before .before .before .before .before .before .args .kind) (c .before .before .before .before .before .before .before .before .before .before .before .before .before .before .before .before .before .loop .k + (c .before .before .before .before .before .before .before .before .before .before .before .before .before .before .before .put-codes .result - c .before .before .before .before .before .before .before .before .before .before .before .before .before .before .before .before .before .loop .to)) (c .before .before .before .before .before .before .before .before .before .before .before .before .before .before .before .before .before .loop .l) b A (c .before .before .before .before .before .before .before .before .before .before .parse-inner .result) (not-found (c .before .before .before .before .before .before .before .before .before .before .parse-inner .result) (c .before .before .before .before .before .match2 .keys2)) (c .before .before .before .before .before .before .before .before .before .before .parse-inner .ensures)) in
+    let f = c .before .before .before .before .before .before .before .before .before .before .before .before .before .before .before .before .before .loop .inv .1 .1 .1 A (c .before .before .before .before .end-items .result) (c .before .before .before .before .before .before .before .before .before .before .before .before .before .before .before .put-codes .ensures .reads (c .before .before .before .before .before .before .before .before .before .before .before .before .before .before .before .before .before .before .before .before .before .before .before .before .before .before .before .before .args .kind) (c .before .before .before .before .before .before .before .before .before .before .before .before .before .before .before .before .before .loop .l) (c .before .before .before .before .before .before .before .before .before .before .before .before .before .before .before .before .before .loop .names) A (c .before .before .before .before .end-items .result) e) in
+    rw (c .before .before .put-container .ensures .0, c .before .before .put-container .ensures .1) (reads-contained T (c .before .before .before .before .before .before .before .before .before .before .before .before .before .before .before .before .before .before .before .before .before .before .before .before .before .before .before .before .args .at) (c .before .before .before .before .before .before .before .before .before .before .before .before .before .before .before .before .before .before .before .before .before .before .before .before .before .before .before .before .args .kind) (c .before .before .before .before .before .before .before .before .before .before .before .before .before .before .before .before .before .before .before .before .before .before .before .before .before .before .before .before .args .n) (c .before .before .before .before .before .before .before .before .before .before .before .before .before .before .before .before .before .before .before .before .before .before .before .before .before .before .before .before .args .m) (c .before .before .before .before .before .before .before .before .before .before .before .before .before .before .before .before .before .before .before .before .before .before .before .before .before .before .before .before .pre .1 .at-byte) (c .before .before .before .before .before .before .before .before .before .before .before .before .before .before .before .before .before .before .before .before .before .before .before .before .before .before .before .before .pre .1 .opens) B (c .before .before .before .before .before .before .before .before .before .before .before .before .before .before .before .before .before .before .before .before .before .before .before .put-name .last .1 .1 .1 .0) _ _ q A (c .before .before .before .before .end-items .result) f)
 
 parse-container-same-length-3 : (t : ℕ) → parse-container-lts.Need-same-length-3 (parse-container-claims t) (parse-container-at t) parse-container.Post parse-container-Inv-loop parse-container-μ-loop
 parse-container-same-length-3 t c = search needs
@@ -301,6 +311,9 @@ pub +parse-container+parse-inner-spec : {M : Type 1} → statement M
     (parse-container-enum-known-start t)
     (parse-container-add-k t)
     (parse-container-loop-holds t)
+    (parse-container-put-codes-requires t)
+    (parse-container-sub-k t)
+    (parse-container-add-k-2 t)
     (parse-container-parse-inner-requires t)
     (parse-container-enum-known-p t)
     (parse-container-loop-less t)
