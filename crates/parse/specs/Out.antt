@@ -138,6 +138,10 @@ headed k l w = sets w 0 (k ∷ headerWords ∷ l ∷ (headerWords + 4 * k) ∷ [
 abbrev pub noneSheet : List ℕ → List ℕ
 noneSheet w = sets w 0 (1 ∷ headerWords ∷ 0 ∷ (headerWords + 4) ∷ 31 ∷ 0 ∷ 0 ∷ 1 ∷ [])
 
+-- The sheet of a primitive alone, in the words that a text of one byte uses.
+abbrev pub codeSheet : ℕ → List ℕ → List ℕ
+codeSheet p w = sets (cleared (used 1) w) 0 (1 ∷ headerWords ∷ 0 ∷ (headerWords + 4) ∷ p ∷ 0 ∷ 0 ∷ 1 ∷ [])
+
 -- The nodes found fit the words.
 abbrev pub Fits : Parsed → ℕ → Type 0
 Fits Empty n = Unit {0}

@@ -14,7 +14,7 @@ ghost use Rattle.kinds.specs.Sheet.{headerWords};
 ghost use Rattle.kinds.specs.Parse.{unknownDigit, maxU64, parseNumber, parseComplex, parseObject, parseQuoted, parseBits, parseName, isQualifier, stripLeadingQualifiers, maxU8};
 ghost use Rattle.parse.specs.Digits.{afterDigits};
 ghost use Rattle.parse.specs.EncodingBox.{used, kindWord, answerWords, fromStrAnswer, fromStrWords, fromStrNames, fromStartAnswer, fromStartWords, fromStartNames, fromStartRest, EndOf};
-ghost use Rattle.parse.specs.Out.{leafOut, leafWords, bitsOut, bitsWords, After, AfterItems, holdOut, holdWords, isIndirection, indirectionWord, itemOut, itemWords, containOut, containWords, endOut, noneUnder, closed, cleared, headed, noneSheet, Fits, encodedOut, encodedWords, encodedNames};
+ghost use Rattle.parse.specs.Out.{leafOut, leafWords, bitsOut, bitsWords, After, AfterItems, holdOut, holdWords, isIndirection, indirectionWord, itemOut, itemWords, containOut, containWords, endOut, noneUnder, closed, cleared, headed, noneSheet, codeSheet, Fits, encodedOut, encodedWords, encodedNames};
 ghost use Rattle.parse.specs.Room.{slack};
 ghost use Rattle.parse.specs.Skip.{leafSkipped, bitsSkipped, heldSkipped, itemSkipped, containedSkipped, endSkipped, SimpleSkips, SimpleSkipReady, Skips, SkipsItems, OpensAt, SkippedFieldsIs};
 ghost use Rattle.parse.specs.Agree.{Onward, NumberIs, LeafIs, BitsIs, CodeIs, UntypedIs, NameEnd, NameIs, NamedIs, Simple, SimpleReady, Ready, Reads, IndirectionsEnd, ChildReady, Holds, CodesRead, ContainerReady, lists, EncodedIs};
@@ -1006,6 +1006,17 @@ fn encoding_or_none(p: Parsed, n: usize, words: &mut [u64], names: &mut [u8]) ->
     }
 }
 
+// The sheet of a primitive alone, in the lists that a text of one byte uses.
+fn put_code(p: u64, words: &mut [u64], names: &mut [u8])
+    requires { ⌜ (used 1 ≤ length (now words)) × (1 ≤ length (now names)) ⌝ }
+    ensures { λ _. ⌜ (now (words .exit) ≡ codeSheet p (now (words .entry))) × (now (names .exit) ≡ cleared 1 (now (names .entry))) ⌝ }
+{
+    put_node(&mut words[4..], 0, p, 0, 0, 1);
+    put_node(&mut words[4..], 1, 0, 0, 0, 0);
+    put_header(words, 1, 0);
+    names[0] = 0;
+}
+
 // What both readings begin with.
 fn parse_encoding_or_none(text: &[u8], words: &mut [u64], names: &mut [u8]) -> Encoded
     ensures { λ r. ⌜ EncodedIs (now (text .entry)) (lists (now (words .entry)) (now (names .entry))) (lists (now (words .exit)) (now (names .exit))) r ⌝ }
@@ -1019,6 +1030,14 @@ fn parse_encoding_or_none(text: &[u8], words: &mut [u64], names: &mut [u8]) -> E
     }
     if names.len() < n {
         return Encoded::Away(Refusal::ListTooShort);
+    }
+    // A text of one code needs no walk.
+    if n == 1 {
+        let p = single_kind(text[0]);
+        if p < 24 {
+            put_code(p, words, names);
+            return Encoded::Tree(1);
+        }
     }
     clear_sheet(n, words, names);
     let at = strip_leading_qualifiers(text);
