@@ -2,16 +2,19 @@
 use Prim.Native.Nat.{ℕ, zero, suc, _+_, _*_, _-_, _≤_, _<_}
 use mathlib.Core.Path.{_≡_, refl, sym, ap, _∙_, subst, subst₂}
 use mathlib.Core.List.{List, [], _∷_, _++_, append-assoc, append-nil}
+use mathlib.Core.Bool.{Bool, true, false, _||_, false≢true}
 use mathlib.Core.Option.{some, none}
 use native.Mathlib.Nat.{sub-zero, zero-add}
 use native.Mathlib.Omega.{arith}
-use lib.ListN.{length, take, drop, replicate, length-drop, length-append, length-replicate, take-append-drop}
+use lib.ListN.{length, take, drop, getD, set, replicate, length-drop, length-append, length-replicate, take-append-drop}
 use lib.Seq.{sets, sets-eq, drop-append-le, drop-append-add, drop-drop, drop-at, take-all, length-take-le}
-use borrow.Author.Tests.{lt-ltb, le-ltb, le-leb, lt-leb}
+use lib.Dec.{eqb}
+use borrow.Author.Tests.{eqb-true, lt-ltb, le-ltb, le-leb, lt-leb}
 use borrow.Rule.Slice.PartMut.{putMid, midOf, same-len-mid}
 use Rattle.kinds.specs.Container.{endByte}
 use Rattle.kinds.specs.Parse as R
-use Rattle.kinds.specs.Parse.{parseInner, parse, parseEncodingOrNone, encodingOrNone, stripLeadingQualifiers, encoded, notEncoded}
+use Rattle.kinds.specs.Byte.{among}
+use Rattle.kinds.specs.Parse.{start, isQualifier, parseInner, parse, parseEncodingOrNone, encodingOrNone, stripLeadingQualifiers, encoded, notEncoded}
 use Rattle.kinds.specs.Sheet.{nodes, namesOf, headerOf, sheetOf, headerWords}
 use Rattle.kinds.specs.Tree as T
 use Rattle.kinds.specs.Tree.{Trees, end, node, count}
@@ -20,15 +23,16 @@ use Rattle.kinds.specs.declared.ErrorKind.the-variants.{Unknown}
 use Rattle.kinds.specs.declared.Refusal.the-variants.{TextTooLong, ListTooShort}
 use Rattle.parse.specs.Agree.{Lists, lists, Reads, Ready, Frame, FoundBound, Bound, TreeAt, NoTree, EncodedIs}
 use Rattle.parse.specs.EncodingBox.{used, hasRoom, turnedAway, padded, filled}
-use Rattle.parse.specs.Out.{putNode, cleared, headed, noneSheet, Fits, encodedOut, encodedWords, encodedNames}
+use Rattle.parse.specs.Out.{putNode, cleared, headed, noneSheet, codeSheet, Fits, encodedOut, encodedWords, encodedNames}
 use Rattle.parse.specs.declared.Encoded.{Encoded}
+use Rattle.parse.specs.declared.Encoded.the-variants as E
 use Rattle.parse.specs.declared.Parsed.{Parsed}
 use Rattle.parse.specs.declared.Parsed.the-variants.{Empty, Encoding, ContainerEnd, ArrayEnd, Refused}
-use Rattle.parse.proofs.Cycle.{kept-frame, nodes-length, count-alone, none-nodes, none-count, none-names}
+use Rattle.parse.proofs.Cycle.{reads-simple, kept-frame, nodes-length, count-alone, none-nodes, none-count, none-names}
 use Rattle.kinds.proofs.ListLaws.{unread-end}
-use Rattle.parse.proofs.Sheets.{slack-le}
-use Rattle.parse.proofs.Stores.{sets-front-append, sets-part}
-use Rattle.parse.proofs.Text.{cleared-length}
+use Rattle.parse.proofs.Sheets.{slack-le, simple-code}
+use Rattle.parse.proofs.Stores.{sets-append, sets-front-append, sets-part}
+use Rattle.parse.proofs.Text.{cleared-length, strip-stop}
 
 -- ---- A list lent from a place on.
 
@@ -38,15 +42,19 @@ mid-rest a w = take-all (length w - a) (drop a w) (omega (arith, length-drop a w
 pub put-rest : (a : ℕ) (w ys : List ℕ) → putMid a (length w - a) w ys ≡ take a w ++ ys
 put-rest a w ys = ap (λ (t : List ℕ). take a w ++ t) (ap (λ (t : List ℕ). ys ++ t) (unread-end (drop a w) (length w - a) (omega (arith, length-drop a w))) ∙ append-nil ys)
 
+-- A run stored in a list that was lent from the first node on.
+pub put-in-rest : (w a : List ℕ) (i : ℕ) (v : List ℕ) → headerWords ≤ length w → a ≡ sets (midOf headerWords (length w - headerWords) w) i v → putMid headerWords (length w - headerWords) w a ≡ sets w (headerWords + i) v
+put-in-rest w a i v h e =
+    put-rest headerWords w a
+    ∙ ap (λ (x : List ℕ). take headerWords w ++ x) (e ∙ ap (λ (x : List ℕ). sets x i v) (mid-rest headerWords w))
+    ∙ sets-part headerWords w i v h
+
 -- None's node stored after the header, and the header before it.
 pub none-put : (w a r : List ℕ) → headerWords ≤ length w → a ≡ putNode (midOf headerWords (length w - headerWords) w) 0 31 0 0 1 → r ≡ headed 1 0 (putMid headerWords (length w - headerWords) w a) → r ≡ noneSheet w
 none-put w a r h e f =
     let v : List ℕ = 31 ∷ 0 ∷ 0 ∷ 1 ∷ [] in
     f
-    ∙ ap (headed 1 0) (
-    put-rest headerWords w a
-    ∙ ap (λ (x : List ℕ). take headerWords w ++ x) (e ∙ ap (λ (x : List ℕ). sets x 0 v) (mid-rest headerWords w))
-    ∙ sets-part headerWords w 0 v h)
+    ∙ ap (headed 1 0) (put-in-rest w a 0 v h e)
     ∙ sets-front-append w 0 headerWords (1 ∷ headerWords ∷ 0 ∷ (headerWords + 4) ∷ []) v refl
 
 -- ---- Lists of zeros.
@@ -75,6 +83,26 @@ stored-front n w v h l =
     ∙ ap (λ (k : ℕ). v ++ drop k (cleared n w)) (zero-add (length v))
     ∙ ap (λ (t : List ℕ). v ++ t) (drop-append-le (length v) z (drop n w) (omega arith) ∙ ap (λ (t : List ℕ). t ++ drop n w) (drop-zeros n (length v) h))
     ∙ sym (append-assoc v (zeros (n - length v)) (drop n w))
+
+-- A primitive's node and four zeros stored after the header, and the header before them.
+pub code-put : (p : ℕ) (w a b y : List ℕ) → used 1 ≤ length w → a ≡ putNode (midOf headerWords (length w - headerWords) w) 0 p 0 0 1
+    → let x : List ℕ = putMid headerWords (length w - headerWords) w a in length x ≡ length w → b ≡ putNode (midOf headerWords (length x - headerWords) x) 1 0 0 0 0 → y ≡ headed 1 0 (putMid headerWords (length x - headerWords) x b) → y ≡ codeSheet p w
+unfolding padded filled
+code-put p w a b y h e l f g =
+    let x : List ℕ = putMid headerWords (length w - headerWords) w a in
+    let v : List ℕ = p ∷ 0 ∷ 0 ∷ 1 ∷ [] in
+    let z : List ℕ = 0 ∷ 0 ∷ 0 ∷ 0 ∷ [] in
+    let hd : List ℕ = 1 ∷ headerWords ∷ 0 ∷ (headerWords + 4) ∷ [] in
+    g
+    ∙ ap (headed 1 0) (put-in-rest x b 4 z (omega arith) f ∙ ap (λ (t : List ℕ). sets t 8 z) (put-in-rest w a 0 v (omega arith) e) ∙ sym (sets-append w 4 v z))
+    ∙ sets-front-append w 0 headerWords hd (v ++ z) refl
+    ∙ sets-eq (hd ++ (v ++ z)) w 0 (omega arith)
+    ∙ sym (stored-front (used 1) w (hd ++ v) (omega arith) h)
+
+-- One byte cleared.
+pub first-cleared : (ns : List ℕ) → 1 ≤ length ns → set ns 0 0 ≡ cleared 1 ns
+first-cleared [] h = absurd (omega arith)
+first-cleared (x ∷ ns) h = refl
 
 -- Cleared lists of which what lies beyond was kept.
 pub emptied : (n : ℕ) (w a : List ℕ) → drop n a ≡ drop n w → cleared n a ≡ filled n [] w
@@ -217,6 +245,63 @@ module _ (text w ns : List ℕ) (at : ℕ) (short : length text ≤ 2000) (hw : 
   encoded-is (ContainerEnd kind to) r = refused-is (Unknown (endByte kind)) to (is (r .says fuel (omega arith))) (r .bound .within) (kept-frame text at 0 0 before a (r .bound .kept))
   encoded-is (ArrayEnd to) r = refused-is (Unknown 93) to (is (r .says fuel (omega arith))) (r .bound .within) (kept-frame text at 0 0 before a (r .bound .kept))
   encoded-is (Refused why to) r = refused-is why to (is (r .says fuel (omega arith))) (r .bound .0) (r .bound .1)
+
+-- ---- A text of one code.
+
+isSingle : R.Start → Bool
+isSingle (R.single p) = true
+isSingle R.complex = false
+isSingle R.object = false
+isSingle R.bits = false
+isSingle (R.indirection l) = false
+isSingle R.openArray = false
+isSingle R.closeArray = false
+isSingle (R.openContainer k) = false
+isSingle (R.closeContainer k) = false
+isSingle R.nothing = false
+
+anySingle : List ℕ → Bool
+anySingle [] = false
+anySingle (x ∷ xs) = isSingle (start x) || anySingle xs
+
+none-single : (b : ℕ) (xs : List ℕ) → anySingle xs ≡ false → among b xs ≡ true → isSingle (start b) ≡ false
+unfolding among anySingle
+none-single b [] n e = absurd (false≢true e)
+none-single b (x ∷ xs) n e = go (λ k h. none-single b xs k h) (eqb b x) refl (isSingle (start x)) refl
+  where
+    go : (anySingle xs ≡ false → among b xs ≡ true → isSingle (start b) ≡ false) → (d : Bool) → eqb b x ≡ d → (s : Bool) → isSingle (start x) ≡ s → isSingle (start b) ≡ false
+    go more d ed true es = absurd (false≢true (sym n ∙ ap (λ (y : Bool). y || anySingle xs) es))
+    go more true ed false es = ap (λ (y : ℕ). isSingle (start y)) (eqb-true b x ed) ∙ es
+    go more false ed false es = more (sym (ap (λ (y : Bool). y || anySingle xs) es) ∙ n) (sym (ap (λ (y : Bool). y || among b xs) ed) ∙ e)
+
+-- No qualifier is a code.
+code-stays : (b p : ℕ) → start b ≡ R.single p → isQualifier b ≡ false
+unfolding isQualifier R.qualifiers anySingle isSingle start R.inSingles R.singles R.inOthers R.others
+code-stays b p e = go (isQualifier b) refl
+  where
+    go : (d : Bool) → isQualifier b ≡ d → isQualifier b ≡ false
+    go true q = absurd (false≢true (sym (none-single b R.qualifiers refl q) ∙ ap isSingle e))
+    go false q = q
+
+-- The outcome for a text of one code, from the sheet of its primitive.
+pub one-code : (text w ns : List ℕ) (p : ℕ) → length text ≡ 1 → used (length text) ≤ length w → length text ≤ length ns → start (getD text 0 0) ≡ R.single p → p < 24
+    → (w2 n2 : List ℕ) → w2 ≡ codeSheet p w → n2 ≡ cleared 1 ns → EncodedIs text (lists w ns) (lists w2 n2) (E.Tree 1)
+one-code text w ns p one hw hn st l w2 n2 ew en =
+    let h : 0 < length text = omega arith in
+    let front : List ℕ = cleared (used (length text)) w in
+    let v : List ℕ = p ∷ 0 ∷ 0 ∷ 1 ∷ [] in
+    let hd : List ℕ = 1 ∷ headerWords ∷ 0 ∷ (headerWords + 4) ∷ [] in
+    let kept : List ℕ = cleared (length text) ns in
+    let a : Lists = lists (putNode (drop headerWords front) 0 p 0 0 1) kept in
+    let reads : Reads text 0 0 0 (lists (drop headerWords front) kept) a (Encoding 1 1 0) = reads-simple text 0 0 0 (drop headerWords front) (putNode (drop headerWords front) 0 p 0 0 1) kept (Encoding 1 1 0) h (simple-code text 0 0 0 (drop headerWords front) h p st l) in
+    let words : headed 1 0 (take headerWords front ++ a .words) ≡ w2 =
+    ap (headed 1 0) (sets-part headerWords front 0 v (omega (arith, cleared-length (used (length text)) w hw)))
+    ∙ sets-front-append front 0 headerWords hd v refl
+    ∙ ap (λ (k : ℕ). sets (cleared (used k) w) 0 (hd ++ v)) one
+    ∙ sym ew in
+    let names : kept ≡ n2 = ap (λ (k : ℕ). cleared k ns) one ∙ sym en in
+    subst₂ (λ (x y : List ℕ). EncodedIs text (lists w ns) (lists x y) (E.Tree 1)) words names
+    (encoded-is text w ns 0 (omega arith) hw hn (omega arith) (sym (strip-stop text 0 h (code-stays _ p st))) a (Encoding 1 1 0) reads)
 
 -- ---- Refusals 1 and 2.
 

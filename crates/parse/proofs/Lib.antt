@@ -5,6 +5,7 @@ pub mod Stores
 pub mod Text
 pub mod Sheets
 pub mod Cycle
+pub mod Runs
 pub mod Entry
 pub mod FromStr
 pub mod Skip

@@ -5,7 +5,7 @@ use mathlib.Core.List.{List, []}
 use lib.ListN.{length, take, drop, getD}
 use lib.Seq.{sets}
 use lib.Dec.{ltb, eqb}
-use mathlib.Core.Bool.{_||_}
+use mathlib.Core.Bool.{true, false, _||_}
 use mathlib.Core.Logic.{_⊎_}
 use mathlib.Core.Option.{some, none}
 use Rattle.kinds.specs.Parse as R
@@ -13,6 +13,7 @@ use Rattle.kinds.specs.Container.{endByte}
 use Rattle.kinds.specs.Parse.{value, noNumber, empty, encoding, containerEnd, arrayEnd, refused, items, itemsRefused, parseInner, parseItems, start, integral}
 use Rattle.kinds.specs.Sheet.{nodes, namesOf, sheetOf}
 use Rattle.kinds.specs.Tree.{Label, Trees, end, node, count, primitive, bitField, typedBitField}
+use Rattle.parse.specs.Out.{After, isIndirection}
 use Rattle.parse.specs.Room.{slack}
 use Rattle.kinds.specs.declared.ContainerKind.{ContainerKind}
 use Rattle.parse.specs.declared.Number.{Number}
@@ -175,6 +176,25 @@ pub record SimpleReady (text : List ℕ) (at n : ℕ) (w : List ℕ) : Type 0 wh
   pub words-room : 4 * (n + slack (drop at text)) ≤ length w
   pub plain : WithoutParts (getD text at 0)
 
+-- ---- Runs of pointers and atomics.
+
+-- Pointers and atomics stand from `at` on up to `to`, and no further.
+pub record IndirectionsEnd (text : List ℕ) (at to : ℕ) : Type 0 where
+  pub onward : at ≤ to
+  pub within : to ≤ length text
+  pub run : (i : ℕ) → at ≤ i → i < to → isIndirection (getD text i 0) ≡ true
+  pub stopped : to < length text → isIndirection (getD text to 0) ≡ false
+
+-- What writing the nodes of a run asks: the run, room for its nodes and a None, and its child's nodes after them.
+pub record ChildReady (text : List ℕ) (at to n : ℕ) (w : List ℕ) (child : Parsed) : Type 0 where
+  pub ends : IndirectionsEnd text at to
+  pub room : at < to → 4 * (n + (to - at)) + 4 ≤ length w
+  pub after : After child (n + (to - at))
+
+-- If reading at `to` gives the child, then reading the run from `at` on gives `r`.
+abbrev pub Holds : List ℕ → ℕ → ℕ → ℕ → ℕ → List ℕ → List ℕ → Parsed → Parsed → Type 0
+Holds text at to n m w w' child r = (b : Lists) (ns : List ℕ) → Reads text to (n + (to - at)) m b (lists w ns) child → Reads text at n m b (lists w' ns) r
+
 -- ---- The fields of a container.
 
 pub record ItemsFound (text : List ℕ) (n m : ℕ) (before after : Lists) (to k l : ℕ) (q : R.Items) : Type 0 where
@@ -204,6 +224,13 @@ ItemsWithin text at n m b a (NoItems why to) = (to ≤ length text) × Frame tex
 pub record ItemsReads (text : List ℕ) (at : ℕ) (kind : ContainerKind) (n m : ℕ) (before after : Lists) (r : Items) : Type 0 where
   pub bound : ItemsWithin text at n m before after r
   pub says : (f : ℕ) → length (drop at text) + length (drop at text) < f → ItemsIs text n m before after r (parseItems f kind (drop at text))
+
+-- Codes stand from `at` on up to `to`, and `w'` has their nodes: whatever the fields from `to` on give, those from `at` on give.
+pub record CodesRead (text : List ℕ) (at n : ℕ) (w w' : List ℕ) (to : ℕ) : Type 0 where
+  pub onward : at ≤ to
+  pub within : to ≤ length text
+  pub room : to - at + slack (drop to text) ≤ slack (drop at text)
+  pub reads : (kind : ContainerKind) (m : ℕ) (ns : List ℕ) (z : Lists) (i : Items) → ItemsReads text to kind (n + (to - at)) m (lists w' ns) z i → ItemsReads text at kind n m (lists w ns) z i
 
 -- A container is to be read: its opening byte is at the place.
 pub record ContainerReady (text : List ℕ) (at : ℕ) (kind : ContainerKind) (n m : ℕ) (before : Lists) : Type 0 where

@@ -1,6 +1,6 @@
 -- What the functions that end a reading step answer and write, as functions of what was read.
 use Prim.Native.Nat.{ℕ, _+_, _*_, _-_, _≤_}
-use mathlib.Core.Bool.{Bool, true, false, _&&_}
+use mathlib.Core.Bool.{Bool, true, false, cond, _&&_, _||_}
 use mathlib.Core.List.{List, [], _∷_, _++_}
 use lib.ListN.{length, drop, getD, replicate}
 use lib.Dec.{ltb, eqb}
@@ -68,6 +68,14 @@ holdWords (ContainerEnd c to) kind n w = noneUnder kind 0 n w
 holdWords (ArrayEnd to) kind n w = noneUnder kind 0 n w
 holdWords (Refused why to) kind n w = w
 
+-- A pointer or an atomic begins.
+abbrev pub isIndirection : ℕ → Bool
+isIndirection b = eqb b 94 || eqb b 65
+
+-- The kind word of the pointer or atomic that begins.
+abbrev pub indirectionWord : ℕ → ℕ
+indirectionWord b = cond (eqb b 94) 26 27
+
 -- The item is closed: `]` follows it.
 abbrev pub closed : List ℕ → ℕ → Bool
 closed text to = ltb to (length text) && eqb (getD text to 0) 93
@@ -129,6 +137,10 @@ headed k l w = sets w 0 (k ∷ headerWords ∷ l ∷ (headerWords + 4 * k) ∷ [
 -- The sheet of None alone.
 abbrev pub noneSheet : List ℕ → List ℕ
 noneSheet w = sets w 0 (1 ∷ headerWords ∷ 0 ∷ (headerWords + 4) ∷ 31 ∷ 0 ∷ 0 ∷ 1 ∷ [])
+
+-- The sheet of a primitive alone, in the words that a text of one byte uses.
+abbrev pub codeSheet : ℕ → List ℕ → List ℕ
+codeSheet p w = sets (cleared (used 1) w) 0 (1 ∷ headerWords ∷ 0 ∷ (headerWords + 4) ∷ p ∷ 0 ∷ 0 ∷ 1 ∷ [])
 
 -- The nodes found fit the words.
 abbrev pub Fits : Parsed → ℕ → Type 0

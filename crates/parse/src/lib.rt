@@ -14,9 +14,10 @@ ghost use Rattle.kinds.specs.Sheet.{headerWords};
 ghost use Rattle.kinds.specs.Parse.{unknownDigit, maxU64, parseNumber, parseComplex, parseObject, parseQuoted, parseBits, parseName, stripLeadingQualifiers, maxU8};
 ghost use Rattle.parse.specs.Digits.{afterDigits};
 ghost use Rattle.parse.specs.EncodingBox.{used, kindWord, answerWords, fromStrAnswer, fromStrWords, fromStrNames, fromStartAnswer, fromStartWords, fromStartNames, fromStartRest, EndOf};
-ghost use Rattle.parse.specs.Out.{leafOut, leafWords, bitsOut, bitsWords, After, AfterItems, holdOut, holdWords, itemOut, itemWords, containOut, containWords, endOut, noneUnder, closed, cleared, headed, noneSheet, Fits, encodedOut, encodedWords, encodedNames};
+ghost use Rattle.parse.specs.Out.{leafOut, leafWords, bitsOut, bitsWords, After, AfterItems, holdOut, holdWords, isIndirection, indirectionWord, itemOut, itemWords, containOut, containWords, endOut, noneUnder, closed, cleared, headed, noneSheet, codeSheet, Fits, encodedOut, encodedWords, encodedNames};
+ghost use Rattle.parse.specs.Room.{slack};
 ghost use Rattle.parse.specs.Skip.{leafSkipped, bitsSkipped, heldSkipped, itemSkipped, containedSkipped, endSkipped, SimpleSkips, SimpleSkipReady, Skips, SkipsItems, OpensAt, SkippedFieldsIs};
-ghost use Rattle.parse.specs.Agree.{Onward, NumberIs, LeafIs, BitsIs, CodeIs, UntypedIs, NameEnd, NameIs, NamedIs, Simple, SimpleReady, Ready, Reads, ContainerReady, lists, EncodedIs};
+ghost use Rattle.parse.specs.Agree.{Onward, NumberIs, LeafIs, BitsIs, CodeIs, UntypedIs, NameEnd, NameIs, NamedIs, Simple, SimpleReady, Ready, Reads, IndirectionsEnd, ChildReady, Holds, CodesRead, ContainerReady, lists, EncodedIs};
 use kinds::ContainerKind;
 use kinds::ErrorKind;
 use kinds::Refusal;
@@ -551,7 +552,64 @@ fn parse_simple(text: &[u8], at: usize, words: &mut [u64], n: usize, m: usize) -
     }
 }
 
+fn is_indirection(b: u8) -> bool
+    ensures { λ r. ⌜ r ≡ isIndirection b ⌝ }
+{
+    b == b'^' || b == b'A'
+}
+
+// The place after the pointers and atomics from `at` on.
+fn indirections_end(text: &[u8], at: usize) -> usize
+    requires { ⌜ at ≤ length (now text) ⌝ }
+    ensures { λ r. ⌜ IndirectionsEnd (now (text .entry)) at r ⌝ }
+{
+    let mut i = at;
+    while i < text.len() {
+        if !is_indirection(text[i]) {
+            return i;
+        }
+        i += 1;
+    }
+    i
+}
+
+fn indirection_word(b: u8) -> u64
+    ensures { λ r. ⌜ r ≡ indirectionWord b ⌝ }
+{
+    if b == b'^' { 26 } else { 27 }
+}
+
+// Ends the pointers and atomics from `at` up to `to`, whose child was read there: the innermost first, since each counts what is under it.
+fn put_indirections(
+    child: Parsed,
+    text: &[u8],
+    at: usize,
+    to: usize,
+    words: &mut [u64],
+    n: usize,
+    m: usize,
+) -> Parsed
+    requires { ⌜ ChildReady (now text) at to n (now words) child ⌝ }
+    ensures { λ r. ⌜ Holds (now (text .entry)) at to n m (now (words .entry)) (now (words .exit)) child r ⌝ }
+{
+    let mut p = child;
+    let mut i = to;
+    while at < i {
+        p = put_indirection(
+            p,
+            i,
+            indirection_word(text[i - 1]),
+            words,
+            n + (i - 1 - at),
+            m,
+        );
+        i -= 1;
+    }
+    p
+}
+
 // A type from `at` on, its nodes written from `n` on and its names from `m` on.
+// A run of pointers and atomics is read in one go, so that its depth costs no stack.
 fn parse_inner(
     text: &[u8],
     at: usize,
@@ -563,30 +621,42 @@ fn parse_inner(
     requires { ⌜ Ready (now text) at n m (lists (now words) (now names)) ⌝ }
     ensures { λ r. ⌜ Reads (now (text .entry)) at n m (lists (now (words .entry)) (now (names .entry))) (lists (now (words .exit)) (now (names .exit))) r ⌝ }
 {
-    if text.len() <= at {
-        return Parsed::Empty;
+    let to = indirections_end(text, at);
+    let k = n + (to - at);
+    if text.len() <= to {
+        return put_indirections(Parsed::Empty, text, at, to, words, n, m);
     }
-    let b = text[at];
-    match b {
-        b'^' => {
-            let p = parse_inner(text, at + 1, words, n + 1, names, m);
-            put_indirection(p, at + 1, 26, words, n, m)
-        }
-        b'A' => {
-            let p = parse_inner(text, at + 1, words, n + 1, names, m);
-            put_indirection(p, at + 1, 27, words, n, m)
-        }
-        b'[' => match parse_number(text, at + 1, 18446744073709551615) {
-            Number::Refused(why, to) => Parsed::Refused(why, to),
+    let b = text[to];
+    let p = match b {
+        b'[' => match parse_number(text, to + 1, 18446744073709551615) {
+            Number::Refused(why, end) => Parsed::Refused(why, end),
             Number::Value(len, item) => {
-                let p = parse_inner(text, item, words, n + 1, names, m);
-                put_array(p, text, item, len, words, n, m)
+                let p = parse_inner(text, item, words, k + 1, names, m);
+                put_array(p, text, item, len, words, k, m)
             }
         },
-        b'{' => parse_container(text, at, ContainerKind::Struct, words, n, names, m),
-        b'(' => parse_container(text, at, ContainerKind::Union, words, n, names, m),
-        _ => parse_simple(text, at, words, n, m),
+        b'{' => parse_container(text, to, ContainerKind::Struct, words, k, names, m),
+        b'(' => parse_container(text, to, ContainerKind::Union, words, k, names, m),
+        _ => parse_simple(text, to, words, k, m),
+    };
+    put_indirections(p, text, at, to, words, n, m)
+}
+
+// A node for each byte from `at` on that is a whole code, without a call for each; the place after them.
+fn put_codes(text: &[u8], at: usize, words: &mut [u64], n: usize) -> usize
+    requires { ⌜ (at ≤ length (now text)) × (4 * (n + slack (drop at (now text))) ≤ length (now words)) ⌝ }
+    ensures { λ r. ⌜ CodesRead (now (text .entry)) at n (now (words .entry)) (now (words .exit)) r ⌝ }
+{
+    let mut i = at;
+    while i < text.len() {
+        let p = single_kind(text[i]);
+        if 24 <= p {
+            return i;
+        }
+        put_node(words, n + (i - at), p, 0, 0, 1);
+        i += 1;
     }
+    i
 }
 
 // A struct or a union, whose opening byte is at `at`.
@@ -609,6 +679,9 @@ fn parse_container(
             let mut k = n + 1;
             let mut l = named;
             loop {
+                let past = put_codes(text, to, words, k);
+                k += past - to;
+                to = past;
                 let p = parse_inner(text, to, words, k, names, l);
                 match p {
                     Parsed::Encoding(to2, k2, l2) => {
@@ -907,6 +980,17 @@ fn encoding_or_none(p: Parsed, n: usize, words: &mut [u64], names: &mut [u8]) ->
     }
 }
 
+// The sheet of a primitive alone, in the lists that a text of one byte uses.
+fn put_code(p: u64, words: &mut [u64], names: &mut [u8])
+    requires { ⌜ (used 1 ≤ length (now words)) × (1 ≤ length (now names)) ⌝ }
+    ensures { λ _. ⌜ (now (words .exit) ≡ codeSheet p (now (words .entry))) × (now (names .exit) ≡ cleared 1 (now (names .entry))) ⌝ }
+{
+    put_node(&mut words[4..], 0, p, 0, 0, 1);
+    put_node(&mut words[4..], 1, 0, 0, 0, 0);
+    put_header(words, 1, 0);
+    names[0] = 0;
+}
+
 // What both readings begin with.
 fn parse_encoding_or_none(text: &[u8], words: &mut [u64], names: &mut [u8]) -> Encoded
     ensures { λ r. ⌜ EncodedIs (now (text .entry)) (lists (now (words .entry)) (now (names .entry))) (lists (now (words .exit)) (now (names .exit))) r ⌝ }
@@ -920,6 +1004,14 @@ fn parse_encoding_or_none(text: &[u8], words: &mut [u64], names: &mut [u8]) -> E
     }
     if names.len() < n {
         return Encoded::Away(Refusal::ListTooShort);
+    }
+    // A text of one code needs no walk.
+    if n == 1 {
+        let p = single_kind(text[0]);
+        if p < 24 {
+            put_code(p, words, names);
+            return Encoded::Tree(1);
+        }
     }
     clear_sheet(n, words, names);
     let at = strip_leading_qualifiers(text);

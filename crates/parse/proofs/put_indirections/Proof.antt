@@ -1,0 +1,94 @@
+use Prim.Native.Nat.{ℕ, _+_, _-_, _≤_, _<_}
+use mathlib.Core.Path.{_≡_, refl, _∙_, subst}
+use mathlib.Core.List.{List}
+use native.Mathlib.Omega.{arith}
+use lib.ListN.{length}
+use borrow.Author.Needs.{needs}
+use Rattle.parse.specs.Agree.{Lists, lists, Reads}
+use Rattle.parse.specs.Out.{After}
+use Rattle.parse.proofs.Runs.{reads-indirection, after-less, after-held}
+use Rattle.parse.proofs.put_indirections.Statement.{statement}
+use Rattle.parse.proofs.put_indirections.Tie as tie
+
+abbrev Inv-loop : tie.InvT-loop
+Inv-loop text at to words₀ n m p₀ i₀ words p i =
+    ((at ≤ i) × (i ≤ to)) × (After p (n + (i - at)) × ((length words ≡ length words₀) × ((b : Lists) (ns : List ℕ) → Reads text to (n + (to - at)) m b (lists words₀ ns) p₀ → Reads text i (n + (i - at)) m b (lists words ns) p)))
+
+abbrev μ-loop : tie.MeasureT-loop
+μ-loop text at to words₀ n m p₀ i₀ words p i = i
+
+loop-holds : tie.Need-loop-holds Inv-loop μ-loop
+loop-holds c = ((search needs, search needs), (c .before .before .pre .after, (refl, λ b ns r. r)))
+
+sub-indirection-word : tie.Need-sub-indirection-word Inv-loop μ-loop
+sub-indirection-word c = omega arith
+
+shared-slice-read-indirection-word : tie.Need-shared-slice-read-indirection-word Inv-loop μ-loop
+shared-slice-read-indirection-word c = omega (arith, c .before .before .before .before .before .pre .ends .within)
+
+indirection-word-requires : tie.Need-indirection-word-requires Inv-loop μ-loop
+indirection-word-requires c κs = search needs
+
+sub-put-indirection : tie.Need-sub-put-indirection Inv-loop μ-loop
+sub-put-indirection c = omega arith
+
+sub-put-indirection-2 : tie.Need-sub-put-indirection-2 Inv-loop μ-loop
+sub-put-indirection-2 c = omega arith
+
+add-put-indirection : tie.Need-add-put-indirection Inv-loop μ-loop
+add-put-indirection c = omega (arith, c .before .before .before .before .before .before .before .pre .room (omega arith), c .before .before .before .before .before .before .before .good)
+
+put-indirection-requires : tie.Need-put-indirection-requires Inv-loop μ-loop
+put-indirection-requires c κs = (omega (arith, c .before .before .before .before .before .before .before .pre .room (omega arith), c .before .before .before .before .loop .inv .1 .1 .0), after-less (c .before .before .before .before .loop .p) _ _ (omega arith) (c .before .before .before .before .loop .inv .1 .0))
+
+sub-i : tie.Need-sub-i Inv-loop μ-loop
+sub-i c = omega arith
+
+loop-less : tie.Need-loop-less Inv-loop μ-loop
+loop-less c = omega arith
+
+loop-again : tie.Need-loop-again Inv-loop μ-loop
+loop-again c =
+    let l = c .before .before .before .before .before .before .before .loop in
+    let a = c .before .before .before .before .before .before .before .before .before .before .args in
+    let w = c .before .before .put-indirection in (
+      omega arith,
+      (
+        rw (w .ensures .0) (after-held (l .p) (l .i) (a .n + (l .i - 1 - a .at)) (a .m) (after-less (l .p) _ _ (omega arith) (l .inv .1 .0))),
+        (
+          w .kept .1 .1 .1 .0 ∙ l .inv .1 .1 .0,
+          λ b ns r. rw (w .ensures .0, w .ensures .1, c .before .before .before .before .indirection-word .ensures) (reads-indirection (a .text .now) (l .i - 1) (l .i) (a .n + (l .i - 1 - a .at)) (a .n + (l .i - a .at)) (a .m) (omega arith) (omega arith) (omega (arith, c .before .before .before .before .before .before .before .before .before .before .pre .ends .within)) (c .before .before .before .before .before .before .before .before .before .before .pre .ends .run (l .i - 1) (omega arith) (omega arith)) b (lists (l .words) ns) (l .p) (l .inv .1 .1 .1 b ns r)),
+        ),
+      ),
+    )
+
+same-length : tie.Need-same-length Inv-loop μ-loop
+same-length c = c .before .loop .inv .1 .1 .0
+
+returns : tie.Need-returns Inv-loop μ-loop
+returns c =
+    let l = c .before .loop in
+    let a = c .before .before .before .before .args in
+    let e : l .i ≡ a .at = omega arith in
+    λ b ns r. subst (λ (x : ℕ). Reads (a .text .now) x (a .n) (a .m) b (lists (l .words) ns) (l .p)) e
+    (subst (λ (x : ℕ). Reads (a .text .now) (l .i) x (a .m) b (lists (l .words) ns) (l .p)) (omega arith) (l .inv .1 .1 .1 b ns r))
+
+pub put-indirections-spec : {M : Type 1} → statement M
+put-indirections-spec =
+    tie.close
+    (tie.spec
+    Inv-loop
+    μ-loop
+    loop-holds
+    sub-indirection-word
+    shared-slice-read-indirection-word
+    indirection-word-requires
+    sub-put-indirection
+    sub-put-indirection-2
+    add-put-indirection
+    put-indirection-requires
+    sub-i
+    loop-less
+    loop-again
+    same-length
+    returns)
