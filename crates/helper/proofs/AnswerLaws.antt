@@ -7,9 +7,11 @@ use mathlib.Core.Option.{Option, some, none}
 use mathlib.Core.Bool.{Bool, true, false, cond, _&&_}
 use lib.Dec.{leb}
 use lib.ListN.{length, getD}
+use lib.Seq.{getD-drop}
 use Rattle.kinds.specs.Compare.{compareEncodings}
 use Rattle.kinds.specs.Parse.{maxU64}
-use Rattle.kinds.specs.Sheet.{isSheet, treeOf, trees, nodeWords, nests}
+use Rattle.kinds.specs.Primitive.{equivalent}
+use Rattle.kinds.specs.Sheet.{countAt, isSheet, treeOf, trees, nodeWords, nests}
 use Rattle.kinds.specs.Size.{size, only}
 use Rattle.kinds.specs.Sound.{goodNames}
 use Rattle.kinds.specs.Walk.{NodeAt, TreesAt, KindsAndNames}
@@ -30,7 +32,7 @@ use Rattle.helper.specs.declared.Measured.the-variants.{Nothing, Bytes, 
 use Rattle.helper.specs.declared.Sized.{Sized}
 use Rattle.helper.specs.declared.Sized.the-variants as S
 use Rattle.helper.proofs.NodeSizeLaws.{sizes-step}
-use Rattle.helper.proofs.CompareLaws.{fields-some}
+use Rattle.helper.proofs.CompareLaws.{Left, resume-level, fields-some, code-alone}
 
 -- ---- A sheet that passes.
 
@@ -40,6 +42,12 @@ module _ (w s : List ℕ) (h : checked w s ≡ Good) where
 
   pub sheet-room : 4 ≤ length w
   sheet-room = let r = says .head .room in omega arith
+
+  sheet-node : 8 ≤ length w
+  sheet-node = let r = says .head .room in let o = says .head .some-nodes in omega arith
+
+  sheet-count : countAt (nodeWords w) 0 ≡ getD w 0 0
+  sheet-count = says .count
 
   pub sheet-some : 0 < getD w 0 0
   sheet-some = says .head .some-nodes
@@ -137,8 +145,8 @@ module _ (all : Bool) (aw an bw bn : List ℕ) where
     good : (checked aw an ≡ Good) × (checked bw bn ≡ Good)
     good = both-good (checked aw an) (checked bw bn) h
 
-    pub both-room : (4 ≤ length aw) × (4 ≤ length bw)
-    both-room = (sheet-room aw an (good .0), sheet-room bw bn (good .1))
+    pub both-room : (8 ≤ length aw) × (8 ≤ length bw)
+    both-room = (sheet-node aw an (good .0), sheet-node bw bn (good .1))
 
     -- what the walk over the node words `v` and `u` may rely on
     pub both-walk : (v u : List ℕ) → v ≡ nodeWords aw → u ≡ nodeWords bw → (TreesAt v 0 (getD aw 0 0) × TreesAt u 0 (getD bw 0 0)) × (KindsAndNames v (length an) 0 (getD aw 0 0) × KindsAndNames u (length bn) 0 (getD bw 0 0))
@@ -152,4 +160,16 @@ module _ (all : Bool) (aw an bw bn : List ℕ) where
         ∙ ap (λ (x : NestingLevel). compareFields all x (trees an v (getD aw 0 0) 0) (trees bn u (getD bw 0 0) 0)) f
         ∙ ap₂ (λ (x y : List ℕ). compareFields all Top (trees an x (getD aw 0 0) 0) (trees bn y (getD bw 0 0) 0)) ev eu
         ∙ fields-some all Top an (nodeWords aw) bn (nodeWords bw) (getD aw 0 0) (getD bw 0 0) 0 0 (sheet-some aw an (good .0)) (sheet-some bw bn (good .1)))
+        ∙ compare-checked Good h
+
+    -- where the first tree is a code
+    pub compare-code : getD aw 4 0 < 24 → (r : Bool) → r ≡ equivalent (getD aw 4 0) (getD bw 4 0) → C.Decided r ≡ compareAnswer all aw an bw bn
+    unfolding treeOf
+    compare-code k r d =
+        let t = both-walk (nodeWords aw) (nodeWords bw) refl refl in
+        let l : Left all Top an (nodeWords aw) bn (nodeWords bw) 0 (getD aw 0 0) 0 (getD bw 0 0) Top (compareEncodings all Top (treeOf aw an) (treeOf bw bn)) =
+        record { first = t .0 .0; second = t .0 .1; first-walk = t .1 .0; second-walk = t .1 .1; rest = resume-level all Top (treeOf aw an) (treeOf bw bn) } in
+        ap C.Decided (d
+        ∙ sym (ap₂ equivalent (getD-drop 4 aw 0 0) (getD-drop 4 bw 0 0))
+        ∙ code-alone l (sheet-some aw an (good .0)) (sheet-count aw an (good .0)) (sheet-some bw bn (good .1)) (sheet-count bw bn (good .1)) (rw (getD-drop 4 aw 0 0) k))
         ∙ compare-checked Good h

@@ -5,7 +5,7 @@ use native.Mathlib.Numerals.{add-one}
 use mathlib.Core.Path.{_≡_, refl, ap, ap₂, sym, _∙_, subst}
 use mathlib.Core.List.{List, [], _∷_}
 use mathlib.Core.Bool.{Bool, true, false, cond, _&&_, _||_, false≢true, and-true, and-false}
-use borrow.Author.Tests.{leb-true, leb-false, ne-eqb, eqb-true}
+use borrow.Author.Tests.{leb-true, leb-false, eq-eqb, ne-eqb, eqb-true}
 use lib.ListN.{length, getD, take, drop, drop-of-length-le}
 use lib.Seq.{drop-cons}
 use lib.Dec.{leb, eqb}
@@ -352,11 +352,11 @@ module _ (all : Bool) (here v : NestingLevel) (s w s' w' : List ℕ) (n m at bt 
 -- ---- The comparison of fields.
 
 module _ (all : Bool) (v : NestingLevel) (s w s' w' : List ℕ) (n m at bt : ℕ) where
-  pub fields-first-none : n ≤ 0 → compareFields all v (trees s w n at) (trees s' w' m bt) ≡ true
+  fields-first-none : n ≤ 0 → compareFields all v (trees s w n at) (trees s' w' m bt) ≡ true
   unfolding compareFields isEnd
   fields-first-none p = rw (no-trees s w n at p)
 
-  pub fields-second-none : m ≤ 0 → compareFields all v (trees s w n at) (trees s' w' m bt) ≡ true
+  fields-second-none : m ≤ 0 → compareFields all v (trees s w n at) (trees s' w' m bt) ≡ true
   unfolding compareFields isEnd
   fields-second-none p = rw (no-trees s' w' m bt p) (go (isEnd (trees s w n at)))
     where
@@ -364,9 +364,22 @@ module _ (all : Bool) (v : NestingLevel) (s w s' w' : List ℕ) (n m at bt : ℕ
       go true = refl
       go false = refl
 
+  pub fields-none : (eqb n 0 || eqb m 0) ≡ true → compareFields all v (trees s w n at) (trees s' w' m bt) ≡ true
+  fields-none h = go (eqb n 0) refl (eqb m 0) refl h
+    where
+      go : (x : Bool) → eqb n 0 ≡ x → (y : Bool) → eqb m 0 ≡ y → (x || y) ≡ true → compareFields all v (trees s w n at) (trees s' w' m bt) ≡ true
+      go true p y q r = let e = eqb-true n 0 p in fields-first-none (omega arith)
+      go false p true q r = let e = eqb-true m 0 q in fields-second-none (omega arith)
+      go false p false q r = absurd (false≢true r)
+
   pub fields-some : 0 < n → 0 < m → compareFields all v (trees s w n at) (trees s' w' m bt) ≡ compareEncodings all v (trees s w n at) (trees s' w' m bt)
   unfolding compareFields
   fields-some p q = rw (some-trees s w n at p, some-trees s' w' m bt q)
+
+pub both-some : (n m : ℕ) → (eqb n 0 || eqb m 0) ≡ false → (0 < n) × (0 < m)
+both-some zero m h = absurd (false≢true (sym h))
+both-some (suc n) zero h = absurd (false≢true (sym h ∙ rw (ne-eqb (suc n) 0 (λ e. omega arith))))
+both-some (suc n) (suc m) h = (omega arith, omega arith)
 
 pub shown-le : (v : NestingLevel) (n : ℕ) → shownCount v n ≤ n
 unfolding shownCount
@@ -468,6 +481,20 @@ module _ {all : Bool} {v : NestingLevel} {s w s' w' : List ℕ} {at n bt m : ℕ
                 (walk-inner w (length s) at n (l .first-walk) k (omega arith), walk-inner w' (length s') bt m (l .second-walk) (countAt w' bt - 1) (omega arith)),
               )
 
+          -- the last of both: their fields stand in their place
+          pub left-last : countAt w at ≡ n → countAt w' bt ≡ m → 0 < k → 0 < countAt w' bt - 1 → Left all Within s w s' w' (at + 4) k (bt + 4) (countAt w' bt - 1) Within r
+          unfolding compareEncodings
+          left-last x y i j = record {
+            first = left-inner .1 .0;
+            second = left-inner .1 .1;
+            first-walk = left-inner .2 .0;
+            second-walk = left-inner .2 .1;
+            rest = resume-level all Within (trees s w k (at + 4)) (trees s' w' (countAt w' bt - 1) (bt + 4))
+                ∙ sym (fields-some all Within s w s' w' k (countAt w' bt - 1) (at + 4) (bt + 4) i j)
+                ∙ sym (rw (no-trees s w (n - countAt w at) (at + 4 * countAt w at) (omega arith), no-trees s' w' (m - countAt w' bt) (bt + 4 * countAt w' bt) (omega arith)) (and-true (compareFields all Within (trees s w k (at + 4)) (trees s' w' (countAt w' bt - 1) (bt + 4)))))
+                ∙ container;
+          }
+
         pub left-next : isContainerKind (kindAt w at) ≡ false → {i j : ℕ} → i ≡ 1 → j ≡ 1 → {x : NestingLevel} → x ≡ levelAfter all (kindAt w at) v here → Left all v s w s' w' (at + 4 * i) (n - i) (bt + 4 * j) (m - j) x r
         left-next c {i} {j} ei ej {x} ex = left-moved 1 1 (levelAfter all (kindAt w at) v here) i j ei ej x ex (record {
           first = after-trees w at n (l .first) p c;
@@ -476,3 +503,27 @@ module _ {all : Bool} {v : NestingLevel} {s w s' w' : List ℕ} {at n bt m : ℕ
           second-walk = walk-rest w' (length s') bt m (l .second-walk) 1 (omega arith);
           rest = sym (resume-plain all here v s w s' w' n m at bt (l .first) (l .second) p q ka kb e c) ∙ l .rest;
         })
+
+-- two trees of which the first is a code
+pub code-alone : {all : Bool} {v : NestingLevel} {s w s' w' : List ℕ} {at n bt m : ℕ} {r : Bool} → Left all v s w s' w' at n bt m v r → 0 < n → countAt w at ≡ n → 0 < m → countAt w' bt ≡ m → kindAt w at < 24 → equivalent (kindAt w at) (kindAt w' bt) ≡ r
+code-alone {all} {v} {s} {w} {s'} {w'} {at} {n} {bt} {m} {r} l p x q y k = go (equivalent (kindAt w at) (kindAt w' bt)) refl
+  where
+    ka : kindAt w at ≤ 31
+    ka = omega arith
+
+    kb : kindAt w' bt ≤ 31
+    kb = walk-here w' (length s') bt m (l .second-walk) q .kind
+
+    plain : {j : ℕ} → j < 24 → isContainerKind j ≡ false
+    plain {j} h = rw (ne-eqb j 29 (λ e. omega arith), ne-eqb j 30 (λ e. omega arith))
+
+    one : n ≡ 1
+    one = sym x ∙ leaf-count w at n (l .first) p (plain k) .0 (omega arith)
+
+    go : (t : Bool) → equivalent (kindAt w at) (kindAt w' bt) ≡ t → t ≡ r
+    go false h = left-differ l p q (labels-differ s w at s' w' bt ka kb h)
+    go true h =
+        let j = low-partner (kindAt w at) (kindAt w' bt) h k in
+        let e = one in
+        let o : m ≡ 1 = sym y ∙ leaf-count w' bt m (l .second) q (plain j) .0 (omega arith) in
+        sym (eq-eqb (m - 1) 0 (omega arith)) ∙ left-end (left-next l p q (labels-primitive s w at s' w' bt h k) (plain k) refl refl refl) (omega arith)

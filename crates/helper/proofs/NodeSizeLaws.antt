@@ -1,28 +1,28 @@
 -- The size of each kind of node, and the walk over a container's fields.
 use Prim.Native.Nat.{ℕ, zero, suc, _+_, _-_, _*_, _≤_, _<_, max}
 use native.Mathlib.Omega.{arith}
-use mathlib.Core.Path.{_≡_, refl, ap, ap₂, sym, _∙_}
+use mathlib.Core.Path.{_≡_, refl, ap, ap₂, sym, _∙_, subst}
 use mathlib.Core.List.{List, _∷_}
 use mathlib.Core.Option.{Option, some, none}
 use mathlib.Core.Bool.{Bool, true, false, cond, _||_, false≢true}
-use borrow.Author.Tests.{lt-leb, leb-true, leb-false, ne-eqb, eqb-true, eqb-false}
+use borrow.Author.Tests.{le-leb, lt-leb, leb-true, leb-false, ne-eqb, eqb-true, eqb-false}
 use lib.Dec.{leb, eqb}
 use lib.ListN.{length}
 use Rattle.kinds.specs.Level.{showsFields, containerIncludeFields}
 use Rattle.kinds.specs.Parse.{maxU64}
-use Rattle.kinds.specs.Sheet.{kindAt, firstAt, secondAt, countAt, labelAt, isContainerKind, read, trees}
+use Rattle.kinds.specs.Sheet.{kindAt, firstAt, secondAt, countAt, labelAt, isContainerKind, read, trees, nests}
 use Rattle.kinds.specs.Size.{bitBytes, plus, larger, times, orZero, sum, largest, only, nodeSize, sizes}
-use Rattle.kinds.specs.Tree.{inside}
+use Rattle.kinds.specs.Tree.{Trees, inside}
 use Rattle.kinds.specs.Walk.{NodeAt, TreesAt}
 use Rattle.kinds.specs.declared.Fields.the-variants.{Included, Dropped}
 use Rattle.kinds.specs.declared.NestingLevel.{NestingLevel}
 use Rattle.kinds.specs.declared.NestingLevel.the-variants.{Top, Within, Bottom}
-use Rattle.kinds.proofs.SheetLaws.{trees-step}
-use Rattle.kinds.proofs.NodeLaws.{child-count, node-child, first-some, first-within, first-node, other-trees, label-primitive, label-bits, label-typed, label-pointer, label-atomic, label-array, label-struct, label-union, label-none}
+use Rattle.kinds.proofs.SheetLaws.{arity-low, nests-step, trees-step}
+use Rattle.kinds.proofs.NodeLaws.{node-arity, node-inner, no-trees, child-count, node-child, first-some, first-within, first-node, other-trees, label-primitive, label-bits, label-typed, label-pointer, label-atomic, label-array, label-struct, label-union, label-none}
 use Rattle.helper.specs.Measure.{clip, joinMeasured, join, fold, holding, isLeaf, leafSize, sizeAt}
 use Rattle.helper.specs.declared.Measured.{Measured}
 use Rattle.helper.specs.declared.Measured.the-variants.{Bytes}
-use Rattle.helper.proofs.SizeLaws.{clip-some, clip-join, join-assoc, fold-cons, larger-some}
+use Rattle.helper.proofs.SizeLaws.{clip-some, clip-join, join-assoc, join-unit, fold-cons, larger-some}
 
 lt-of : {k : ℕ} → k ≤ 23 → k < 24
 lt-of p = omega arith
@@ -124,6 +124,10 @@ bits-fit n = go (leb n 8) (leb n 16) (leb n 32) (leb n 64) (leb n 128)
 pub clip-bits : (b : ℕ) → clip (some (bitBytes b)) ≡ Bytes (bitBytes b)
 clip-bits b = clip-some (bitBytes b) (bits-fit b)
 
+pub low-leaf : (k : ℕ) → k < 25 → isLeaf k ≡ true
+unfolding isLeaf
+low-leaf k p = rw (le-leb k 24 (omega arith))
+
 -- what is no leaf
 pub not-leaf : (k : ℕ) → isLeaf k ≡ false → (25 ≤ k) × (k ≤ 30) × (k ≡ 26 → ⊥)
 unfolding isLeaf
@@ -168,6 +172,68 @@ module _ (s w : List ℕ) (at : ℕ) (v : NestingLevel) (p : isContainerKind (ki
       ap (λ x. fold (kindAt w at) (sizes x (trees s w (countAt w at - 1) (at + 4)))) (included v u h .1)
       ∙ sym (size-container s w at v p ∙ rw (included v u h .0))
 
+-- ---- A container among the fields of one of its kind.
+
+-- two runs of trees, one after the other
+module _ (w : List ℕ) (j : ℕ) where
+  nests-run : (f i at : ℕ) → i ≤ f → TreesAt w at i → nests w j (at + 4 * i) ≡ true → nests w (i + j) at ≡ true
+  nests-run zero i at p h g = ap₂ (nests w) (omega arith) (omega arith) ∙ g
+  nests-run (suc f) zero at p h g = ap₂ (nests w) (omega arith) (omega arith) ∙ g
+  nests-run (suc f) (suc i) at p h g =
+      let a = first-some w at (suc i) h (omega arith) in
+      let b = first-within w at (suc i) h (omega arith) in
+      let n = first-node w at (suc i) h (omega arith) in
+      nests-step w (suc i + j) at a (omega arith)
+      ∙ rw (node-arity w at n, node-inner w at n .nested)
+      (ap (λ (x : ℕ). nests w x (at + 4 * countAt w at)) (omega arith)
+      ∙ nests-run f (suc i - countAt w at) (at + 4 * countAt w at) (omega arith) (other-trees w at (suc i) h (omega arith)) (ap (λ (x : ℕ). nests w j x) (omega arith) ∙ g))
+
+  module _ (s : List ℕ) (k : ℕ) (v : NestingLevel) where
+    fold-first : (i at : ℕ) → i ≤ 0 → fold k (sizes v (trees s w (i + j) at)) ≡ join k (fold k (sizes v (trees s w i at))) (fold k (sizes v (trees s w j (at + 4 * i))))
+    unfolding sizes
+    fold-first i at p =
+        ap₂ (λ (x y : ℕ). fold k (sizes v (trees s w x y))) (omega arith) (omega arith)
+        ∙ sym (join-unit k (sizes v (trees s w j (at + 4 * i))))
+        ∙ ap (λ (t : Trees). join k (fold k (sizes v t)) (fold k (sizes v (trees s w j (at + 4 * i))))) (sym (no-trees s w i at p))
+
+    fold-run : (f i at : ℕ) → i ≤ f → TreesAt w at i → fold k (sizes v (trees s w (i + j) at)) ≡ join k (fold k (sizes v (trees s w i at))) (fold k (sizes v (trees s w j (at + 4 * i))))
+    fold-run zero i at p h = fold-first i at p
+    fold-run (suc f) zero at p h = fold-first zero at (omega arith)
+    fold-run (suc f) (suc i) at p h =
+        let a = first-some w at (suc i) h (omega arith) in
+        let b = first-within w at (suc i) h (omega arith) in
+        ap (fold k) (sizes-step s w at v (suc i + j) a (omega arith))
+        ∙ fold-cons k (sizeAt s w at v) (sizes v (trees s w (suc i + j - countAt w at) (at + 4 * countAt w at)))
+        ∙ ap (join k (sizeAt s w at v))
+        (ap (λ (x : ℕ). fold k (sizes v (trees s w x (at + 4 * countAt w at)))) (omega arith)
+        ∙ fold-run f (suc i - countAt w at) (at + 4 * countAt w at) (omega arith) (other-trees w at (suc i) h (omega arith))
+        ∙ ap (λ (x : ℕ). join k (fold k (sizes v (trees s w (suc i - countAt w at) (at + 4 * countAt w at)))) (fold k (sizes v (trees s w j x)))) (omega arith))
+        ∙ sym (join-assoc k (sizeAt s w at v) (fold k (sizes v (trees s w (suc i - countAt w at) (at + 4 * countAt w at)))) (fold k (sizes v (trees s w j (at + 4 * suc i)))))
+        ∙ ap (λ (x : Option ℕ). join k x (fold k (sizes v (trees s w j (at + 4 * suc i))))) (sym (ap (fold k) (sizes-step s w at v (suc i) a b) ∙ fold-cons k (sizeAt s w at v) (sizes v (trees s w (suc i - countAt w at) (at + 4 * countAt w at)))))
+
+module _ (w : List ℕ) (at n : ℕ) (h : TreesAt w at n) (p : 0 < n) where
+  -- the fields of the first and the trees after it
+  run : countAt w at - 1 + (n - countAt w at) ≡ n - 1
+  run = let a = first-some w at n h p in let b = first-within w at n h p in omega arith
+
+  after-inner : at + 4 + 4 * (countAt w at - 1) ≡ at + 4 * countAt w at
+  after-inner = let a = first-some w at n h p in omega arith
+
+  inner-trees : TreesAt w (at + 4) (n - 1)
+  inner-trees = record {
+    room = let r = h .room in omega arith;
+    nested = ap (λ (x : ℕ). nests w x (at + 4)) (sym run)
+        ∙ nests-run w (n - countAt w at) (countAt w at - 1) (countAt w at - 1) (at + 4) (omega arith) (node-inner w at (first-node w at n h p)) (ap (nests w (n - countAt w at)) after-inner ∙ other-trees w at n h p .nested);
+  }
+
+  fold-inner : (s : List ℕ) → isContainerKind (kindAt w at) ≡ true → fold (kindAt w at) (sizes Within (trees s w n at)) ≡ fold (kindAt w at) (sizes Within (trees s w (n - 1) (at + 4)))
+  fold-inner s c =
+      ap (fold (kindAt w at)) (sizes-step s w at Within n (first-some w at n h p) (first-within w at n h p))
+      ∙ fold-cons (kindAt w at) (sizeAt s w at Within) (sizes Within (trees s w (n - countAt w at) (at + 4 * countAt w at)))
+      ∙ ap₂ (join (kindAt w at)) (size-container s w at Within c) (ap (λ (x : ℕ). fold (kindAt w at) (sizes Within (trees s w (n - countAt w at) x))) (sym after-inner))
+      ∙ sym (fold-run w (n - countAt w at) s (kindAt w at) Within (countAt w at - 1) (countAt w at - 1) (at + 4) (omega arith) (node-inner w at (first-node w at n h p)))
+      ∙ ap (λ (x : ℕ). fold (kindAt w at) (sizes Within (trees s w x (at + 4)))) run
+
 -- What is gathered of a container's fields: `all` of those before `at`, with the sizes of the `n` nodes from there on, makes `total`.
 pub record Gathered (k : ℕ) (v : NestingLevel) (w : List ℕ) (at n : ℕ) (all : Measured) (total : List ℕ → Option ℕ) : Type 0 where
   pub there : TreesAt w at n
@@ -194,3 +260,17 @@ module _ {k : ℕ} {v : NestingLevel} {w : List ℕ} {at n : ℕ} {all : Measure
             sym (fold-turn s w at k v n (i .0) (first-some w at n (g .there) p) (first-within w at n (g .there) p)) ∙ i .2,
           );
     }
+
+    -- a code, or a bitfield without a type, is one node
+    pub gathered-code : kindAt w at < 25 → (x : Measured) → ((s : List ℕ) → x ≡ clip (sizeAt s w at v)) → {y : Measured} → y ≡ joinMeasured k all x → Gathered k v w (at + 4) (n - 1) y total
+    gathered-code lo x e {y} d = subst (λ (c : ℕ). Gathered k v w (at + 4 * c) (n - c) y total) (eqb-true (countAt w at) 1 (sym (arity-low (kindAt w at) (countAt w at) (countAt w (at + 4)) lo) ∙ node-arity w at gathered-node)) (gathered-turn x e d)
+
+    -- a container of the same kind: its fields stand in its place
+    pub gathered-inner : isContainerKind k ≡ true → kindAt w at ≡ k → v ≡ Within → Gathered k v w (at + 4) (n - 1) all total
+    gathered-inner c e l = record {
+      there = inner-trees w at n (g .there) p;
+      rest = λ s. let i = g .rest s in (i .0, i .1, ap (join k (i .0)) (sym (same s)) ∙ i .2);
+    }
+      where
+        same : (s : List ℕ) → fold k (sizes v (trees s w n at)) ≡ fold k (sizes v (trees s w (n - 1) (at + 4)))
+        same s = subst (λ (j : ℕ). fold j (sizes v (trees s w n at)) ≡ fold j (sizes v (trees s w (n - 1) (at + 4)))) e (subst (λ (u : NestingLevel). fold (kindAt w at) (sizes u (trees s w n at)) ≡ fold (kindAt w at) (sizes u (trees s w (n - 1) (at + 4)))) (sym l) (fold-inner w at n (g .there) p s (ap isContainerKind e ∙ c)))

@@ -1,7 +1,8 @@
 // The size of a tree, and tree against tree (helper.rs, `Helper::size` and `compare_encodings`).
 ghost use Prim.Native.Nat.{ℕ, _+_, _-_, _*_, _≤_, _<_};
 ghost use mathlib.Core.Path.{_≡_};
-ghost use mathlib.Core.Bool.{true, false};
+ghost use mathlib.Core.Bool.{true, false, _||_};
+ghost use lib.Dec.{eqb};
 ghost use mathlib.Core.List.{List, []};
 ghost use lib.ListN.{length, take, drop};
 ghost use Rattle.kinds.specs.Byte.{sameBytes};
@@ -19,6 +20,7 @@ use kinds::NestingLevel;
 use kinds::PrimitiveSize;
 use kinds::Refusal;
 use kinds::equivalent_kinds;
+use kinds::is_container;
 use kinds::primitive_size;
 use sheet::Checked;
 use sheet::check;
@@ -233,7 +235,7 @@ fn size_of(nodes: &[u64], at: usize, level: NestingLevel) -> Measured
         return leaf_size(kind, nodes[at + 2]);
     }
     if kind < 29 {
-        let item = size_of(nodes, at + 4, level_below(kind, level));
+        let item = size_of(&nodes[0..], at + 4, level_below(kind, level));
         return item.held_by(kind, nodes[at + 1], nodes[at + 2]);
     }
     let Fields::Included(inner) = level.container_include_fields() else {
@@ -244,9 +246,21 @@ fn size_of(nodes: &[u64], at: usize, level: NestingLevel) -> Measured
     let mut all = Measured::of_no_fields(kind);
     while 0 < left {
         let field = nodes[child];
+        if field < 25 {
+            all = all.join(kind, leaf_size(field, nodes[child + 2]));
+            child += 4;
+            left -= 1;
+            continue;
+        }
+        if field == kind {
+            // a struct in a struct, or a union in a union: its fields count as the outer's own
+            child += 4;
+            left -= 1;
+            continue;
+        }
         let mut item = leaf_size(field, nodes[child + 2]);
         if !is_leaf(field) {
-            item = size_of(nodes, child, inner);
+            item = size_of(&nodes[0..], child, inner);
         }
         all = all.join(kind, item);
         let count = nodes[child + 3] as usize;
@@ -254,15 +268,6 @@ fn size_of(nodes: &[u64], at: usize, level: NestingLevel) -> Measured
         left -= count;
     }
     all
-}
-
-fn is_container(kind: u64) -> bool
-    ensures { λ r. ⌜ r ≡ isContainerKind kind ⌝ }
-{
-    if kind == 29 {
-        return true;
-    }
-    kind == 30
 }
 
 fn same_bytes(a: &[u8], b: &[u8]) -> bool
@@ -366,34 +371,52 @@ fn shown_count(level: NestingLevel, n: usize) -> usize
     }
 }
 
-// Whether the fields match: the trees of the `n` nodes from `from` on and those of the `m` nodes from `start` on. One that has none matches any.
-// A node with one child is followed by that child, so only containers need a call of their own.
-fn compare_fields(
-    a: &[u64],
-    an: &[u8],
-    from: usize,
-    n: usize,
-    b: &[u64],
-    bn: &[u8],
-    start: usize,
-    m: usize,
-    level: NestingLevel,
-    all: bool,
-) -> bool
-    requires { ⌜ TreesAt (now a) from n × TreesAt (now b) start m ⌝ }
-    requires { ⌜ KindsAndNames (now a) (length (now an)) from n × KindsAndNames (now b) (length (now bn)) start m ⌝ }
-    ensures { λ r. ⌜ r ≡ compareFields all level (trees (now (an .entry)) (now (a .entry)) n from) (trees (now (bn .entry)) (now (b .entry)) m start) ⌝ }
+fn either_none(n: usize, m: usize) -> bool
+    ensures { λ r. ⌜ r ≡ (eqb n 0 || eqb m 0) ⌝ }
 {
     if n == 0 {
         return true;
     }
-    if m == 0 {
+    m == 0
+}
+
+// Whether nothing comes after two containers, of `n` and `m` nodes of fields, that both have some.
+fn fields_last(after: usize, n: usize, later: usize, m: usize) -> bool
+    ensures { λ r. ⌜ (r ≡ true → (after ≤ 0) × (later ≤ 0) × (0 < n) × (0 < m)) ⌝ }
+{
+    if 0 < after {
+        return false;
+    }
+    if 0 < later {
+        return false;
+    }
+    if n == 0 {
+        return false;
+    }
+    0 < m
+}
+
+// Whether the fields match: the trees of the `left` nodes from `at` on and those of the `more` nodes from `bt` on. One that has none
+// matches any. A node with one child is followed by that child, and the last containers by their fields, so only others need a call.
+fn compare_fields(
+    a: &[u64],
+    an: &[u8],
+    mut at: usize,
+    mut left: usize,
+    b: &[u64],
+    bn: &[u8],
+    mut bt: usize,
+    mut more: usize,
+    mut level: NestingLevel,
+    all: bool,
+) -> bool
+    requires { ⌜ TreesAt (now a) at left × TreesAt (now b) bt more ⌝ }
+    requires { ⌜ KindsAndNames (now a) (length (now an)) at left × KindsAndNames (now b) (length (now bn)) bt more ⌝ }
+    ensures { λ r. ⌜ r ≡ compareFields all level (trees (now (an .entry)) (now (a .entry)) left at) (trees (now (bn .entry)) (now (b .entry)) more bt) ⌝ }
+{
+    if either_none(left, more) {
         return true;
     }
-    let mut at = from;
-    let mut left = n;
-    let mut bt = start;
-    let mut more = m;
     let mut here = level;
     while 0 < left {
         if more == 0 {
@@ -408,9 +431,21 @@ fn compare_fields(
         if is_container(kind) {
             c = a[at + 3] as usize;
             d = b[bt + 3] as usize;
-            let shown = shown_count(level_for(all, here), c - 1);
+            let n = shown_count(level_for(all, here), c - 1);
+            let m = d - 1;
+            let i = at + 4;
+            let j = bt + 4;
             let inner = NestingLevel::Within;
-            if !compare_fields(a, an, at + 4, shown, b, bn, bt + 4, d - 1, inner, all) {
+            if fields_last(left - c, n, more - d, m) {
+                at = i;
+                left = n;
+                bt = j;
+                more = m;
+                level = inner;
+                here = inner;
+                continue;
+            }
+            if !compare_fields(&a[0..], &an[0..], i, n, &b[0..], &bn[0..], j, m, inner, all) {
                 return false;
             }
         }
@@ -457,14 +492,28 @@ pub fn size(words: &[u64], names: &[u8]) -> Sized
 pub fn compare_encodings(aw: &[u64], an: &[u8], bw: &[u64], bn: &[u8], all: bool) -> Compared
     ensures { λ r. ⌜ r ≡ compareAnswer all (now (aw .entry)) (now (an .entry)) (now (bw .entry)) (now (bn .entry)) ⌝ }
 {
-    match both(check(aw, an), check(bw, bn)) {
+    match both(check(&aw[0..], &an[0..]), check(&bw[0..], &bn[0..])) {
         Checked::NotASheet => Compared::Refused(Refusal::NotASheet),
         Checked::BadName => Compared::Refused(Refusal::BadName),
         Checked::Good => {
+            if aw[4] < 24 {
+                return Compared::Decided(equivalent_kinds(aw[4], bw[4]));
+            }
             let top = NestingLevel::new();
             let n = aw[0] as usize;
             let m = bw[0] as usize;
-            Compared::Decided(compare_fields(&aw[4..], an, 0, n, &bw[4..], bn, 0, m, top, all))
+            Compared::Decided(compare_fields(
+                &aw[4..],
+                &an[0..],
+                0,
+                n,
+                &bw[4..],
+                &bn[0..],
+                0,
+                m,
+                top,
+                all,
+            ))
         }
     }
 }

@@ -1,11 +1,11 @@
 -- Laws of the unread part of a list.
-use Prim.Native.Nat.{ℕ, _+_, _≤_, _<_}
+use Prim.Native.Nat.{ℕ, _+_, _-_, _≤_, _<_}
 use mathlib.Core.Path.{_≡_, refl}
 use mathlib.Core.List.{List, [], _∷_}
 use native.Mathlib.Numerals.{add-one}
 use native.Mathlib.Omega.{arith}
-use lib.ListN.{length, drop, getD, length-drop}
-use lib.Seq.{drop-cons}
+use lib.ListN.{length, take, drop, getD, length-drop}
+use lib.Seq.{take-all, drop-cons}
 
 -- The next byte and what follows it.
 pub unread : (s : List ℕ) (i : ℕ) → i < length s → drop i s ≡ getD s i 0 ∷ drop (i + 1) s
@@ -17,3 +17,7 @@ unread-end s i h = none (drop i s) (simp length-drop (omega arith))
     none : (t : List ℕ) → length t ≡ 0 → t ≡ []
     none [] e = refl
     none (b ∷ t) e = absurd (omega arith)
+
+-- The part from the start on, as `&s[0..]` lends it.
+pub whole : (s : List ℕ) → take (length s - 0) s ≡ s
+whole s = take-all (length s - 0) s (omega arith)

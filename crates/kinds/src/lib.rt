@@ -4,6 +4,7 @@ ghost use Rattle.kinds.specs.Level.{indirection, containerIncludeFields}
 ghost use Rattle.kinds.specs.Name.{isNameByte, verifyName};
 ghost use Rattle.kinds.specs.Primitive.{kindOf, codeBytes, code, isObject, equivalent, sizeOf, primitiveSize};
 ghost use Rattle.kinds.specs.Container.{startByte, endByte, prefixByte};
+ghost use Rattle.kinds.specs.Sheet.{isContainerKind};
 ghost use Rattle.kinds.specs.Refusal.{errorNumber, errorByte, errorContainer, number, orZero, containerWord, values};
 ghost use mathlib.Core.Option.{some};
 
@@ -390,6 +391,16 @@ pub fn equivalent_kinds(p: u64, q: u64) -> bool
         return false;
     }
     is_object(q)
+}
+
+// Struct and union, by their kind words.
+pub fn is_container(kind: u64) -> bool
+    ensures { λ r. ⌜ r ≡ isContainerKind kind ⌝ }
+{
+    if kind == 29 {
+        return true;
+    }
+    kind == 30
 }
 
 // An ASCII letter, digit or underscore.

@@ -1,5 +1,5 @@
 -- Laws that lead from the pass over all nodes to the answer of the check.
-use Prim.Native.Nat.{ℕ, zero, suc, _+_, _-_, _*_, _≤_}
+use Prim.Native.Nat.{ℕ, zero, suc, _+_, _-_, _*_, _≤_, _<_}
 use native.Mathlib.Omega.{arith}
 use mathlib.Core.Path.{_≡_, refl, ap, ap₂, sym, _∙_}
 use mathlib.Core.List.{List}
@@ -15,6 +15,7 @@ use Rattle.kinds.proofs.SheetLaws.{header-says, trees-step}
 use Rattle.kinds.proofs.NodeLaws.{no-trees, first-some, first-within, first-node, node-inner, other-trees}
 use Rattle.sheet.specs.Check.{checked}
 use Rattle.sheet.specs.Walked.{inOrder, walked, answer}
+use Rattle.sheet.proofs.WalkLaws.{walked-code}
 use Rattle.sheet.specs.declared.Checked.the-variants.{NotASheet, BadName, Good}
 use Rattle.sheet.specs.declared.Walked.{Walked}
 use Rattle.sheet.specs.declared.Walked.the-variants.{Broken, Next}
@@ -119,3 +120,13 @@ module _ (words names : List ℕ) where
 
       pub checked-pass : getD words 7 0 ≡ getD words 0 0 → (x : Walked) → x ≡ walked names w (getD words 0 0) 0 0 (getD words 2 0) true → answer (getD words 2 0) x ≡ checked words names
       checked-pass c x h = rw (h, part) (sym (checked-walked (getD-drop 4 words 3 0 ∙ c)))
+
+    -- a lone code
+    pub checked-code : getD words 0 0 ≡ 1 → getD words 7 0 ≡ getD words 0 0 → getD words 4 0 < 24 → (x : Walked) → x ≡ cond (eqb (getD words 5 0) 0 && eqb (getD words 6 0) 0) (Next 0 true) Broken → answer (getD words 2 0) x ≡ checked words names
+    checked-code n c k x h = checked-pass (nodeWords words) refl c x (h ∙ sym code)
+      where
+        code : walked names (nodeWords words) (getD words 0 0) 0 0 (getD words 2 0) true ≡ cond (eqb (getD words 5 0) 0 && eqb (getD words 6 0) 0) (Next 0 true) Broken
+        code =
+            ap (λ (m : ℕ). walked names (nodeWords words) m 0 0 (getD words 2 0) true) n
+            ∙ walked-code names (nodeWords words) 0 0 (getD words 2 0) true (rw (getD-drop 4 words 0 0) k) (getD-drop 4 words 3 0 ∙ c ∙ n)
+            ∙ ap₂ (λ (a b : ℕ). cond (eqb a 0 && eqb b 0) (Next 0 true) Broken) (getD-drop 4 words 1 0) (getD-drop 4 words 2 0)

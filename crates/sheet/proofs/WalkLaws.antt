@@ -4,8 +4,8 @@ use native.Mathlib.Omega.{arith}
 use native.Mathlib.Numerals.{sub-one}
 use mathlib.Core.Path.{_≡_, refl, ap, ap₂, sym, _∙_}
 use mathlib.Core.List.{List}
-use mathlib.Core.Bool.{Bool, true, false, cond, _&&_, and-true, and-false}
-use borrow.Author.Tests.{le-leb, lt-leb, leb-true, leb-false, ne-eqb, eqb-true}
+use mathlib.Core.Bool.{Bool, true, false, cond, _&&_, _||_, and-true, and-false, false≢true}
+use borrow.Author.Tests.{le-leb, lt-leb, leb-true, leb-false, eq-eqb, ne-eqb, eqb-true}
 use lib.Dec.{leb, eqb}
 use lib.ListN.{take, drop}
 use Rattle.kinds.specs.Name.{verifyName}
@@ -52,6 +52,34 @@ module _ (k a b p e : ℕ) where
   unfolding numbers
   numbers-array h m = rw (h, le-leb a maxU64 m)
 
+-- a kind that takes no numbers
+numbers-none : (k a b p e : ℕ) → k ≤ 31 → isContainerKind k ≡ false → (k ≡ 24 → ⊥) → (k ≡ 25 → ⊥) → (k ≡ 28 → ⊥) → numbers k a b p e ≡ (eqb a 0 && eqb b 0)
+unfolding numbers
+numbers-none k a b p e le h q r t = rw (h, ne-eqb k 25 r, ne-eqb k 24 q, ne-eqb k 28 t, le-leb k 31 le)
+
+-- what is tested of a code
+pub node-code : (w : List ℕ) (n at p e : ℕ) → 0 < n → kindAt w at < 24 → nodeFits w n at p e ≡ ((eqb (firstAt w at) 0 && eqb (secondAt w at) 0) && eqb (countAt w at) 1)
+unfolding nodeFits
+node-code w n at p e h k =
+    ap₂ _&&_
+    (numbers-none (kindAt w at) (firstAt w at) (secondAt w at) p e (omega arith) (rw (ne-eqb (kindAt w at) 29 (λ d. omega arith), ne-eqb (kindAt w at) 30 (λ d. omega arith))) (λ d. omega arith) (λ d. omega arith) (λ d. omega arith))
+    (sym (fits-leaf n (kindAt w at) (countAt w at) (countAt w (at + 4)) h (arity-low (kindAt w at) (countAt w at) (countAt w (at + 4)) (omega arith))))
+
+-- what is tested of a pointer or an atomic
+pub indirection-kind : (k : ℕ) → (eqb k 26 || eqb k 27) ≡ true → (26 ≤ k) × (k ≤ 27)
+indirection-kind k h = go (eqb k 26) refl (eqb k 27) refl h
+  where
+    go : (t : Bool) → eqb k 26 ≡ t → (u : Bool) → eqb k 27 ≡ u → (t || u) ≡ true → (26 ≤ k) × (k ≤ 27)
+    go true p u q r = let e = eqb-true k 26 p in (omega arith, omega arith)
+    go false p true q r = let e = eqb-true k 27 q in (omega arith, omega arith)
+    go false p false q r = absurd (false≢true r)
+
+pub node-indirection : (w : List ℕ) (n at p e : ℕ) → 26 ≤ kindAt w at → kindAt w at ≤ 27 → nodeFits w n at p e ≡ ((eqb (firstAt w at) 0 && eqb (secondAt w at) 0) && fits n (kindAt w at) (countAt w at) (countAt w (at + 4)))
+unfolding nodeFits
+node-indirection w n at p e lo hi =
+    ap (λ (t : Bool). t && fits n (kindAt w at) (countAt w at) (countAt w (at + 4)))
+    (numbers-none (kindAt w at) (firstAt w at) (secondAt w at) p e (omega arith) (rw (ne-eqb (kindAt w at) 29 (λ d. omega arith), ne-eqb (kindAt w at) 30 (λ d. omega arith))) (λ d. omega arith) (λ d. omega arith) (λ d. omega arith))
+
 -- the name of one node
 pub good-label : (s : List ℕ) (k a b : ℕ) → goodName (label s k a b) ≡ cond (isContainerKind k) (verifyName (take b (drop a s))) true
 unfolding goodName label
@@ -96,6 +124,12 @@ container-says w n at p e k m =
 unfoldable pub then : Walked → (ℕ → Bool → Walked) → Walked
 then Broken k = Broken
 then (Next p good) k = k p good
+
+-- nothing comes after them
+then-end : (x : Walked) (k : ℕ → Bool → Walked) → ((q : ℕ) (f : Bool) → k q f ≡ Next q f) → then x k ≡ x
+unfolding then
+then-end Broken k h = refl
+then-end (Next q f) k h = h q f
 
 broken-if : (t : Bool) → cond t Broken Broken ≡ Broken
 broken-if true = refl
@@ -256,6 +290,13 @@ module _ (s w : List ℕ) (e : ℕ) where
             rw (order-step n at p g h, has-numbers, a, b, d, order-append (countAt w at - 1) (n - countAt w at) (at + 4) (p + secondAt w at) (g && verifyName (take (secondAt w at) (drop p s))), nests-step w n at l r, f .children, i)
             (then-if (nests w (countAt w at - 1) (at + 4)) (nests w (n - countAt w at) (at + 4 + 4 * (countAt w at - 1))) (inOrder s w (countAt w at - 1) (at + 4) (p + secondAt w at) e (g && verifyName (take (secondAt w at) (drop p s)))) (λ (q : ℕ) (t : Bool). inOrder s w (n - countAt w at) (at + 4 + 4 * (countAt w at - 1)) q e t))
 
+        -- the last of the nodes: what follows its fields is what follows it
+        pub walked-last : countAt w at ≡ n → (g' : Bool) → g' ≡ (g && verifyName (take (secondAt w at) (drop p s))) → walked s w n at p e g ≡ walked s w (n - 1) (at + 4) (p + secondAt w at) e g'
+        walked-last c g' same =
+            walked-container
+            ∙ then-end _ _ (λ q f. walked-none (n - countAt w at) (at + 4 * countAt w at) q f (omega arith))
+            ∙ ap₂ (λ (j : ℕ) (t : Bool). walked s w j (at + 4) (p + secondAt w at) e t) (omega arith) (sym same)
+
         module _ (g' : Bool) (same : g' ≡ (g && verifyName (take (secondAt w at) (drop p s)))) (x : Walked) (inner : x ≡ walked s w (countAt w at - 1) (at + 4) (p + secondAt w at) e g') where
           pub walked-broken : x ≡ Broken → walked s w n at p e g ≡ Broken
           unfolding then
@@ -264,3 +305,14 @@ module _ (s w : List ℕ) (e : ℕ) where
           pub walked-next : (q : ℕ) (f : Bool) → x ≡ Next q f → walked s w n at p e g ≡ walked s w (n - countAt w at) (at + 4 * countAt w at) q e f
           unfolding then
           walked-next q f b = walked-container ∙ rw (← same, ← inner, b)
+
+-- a lone code
+pub walked-code : (s w : List ℕ) (at p e : ℕ) (g : Bool) → kindAt w at < 24 → countAt w at ≡ 1 → walked s w 1 at p e g ≡ cond (eqb (firstAt w at) 0 && eqb (secondAt w at) 0) (Next p g) Broken
+walked-code s w at p e g k c = go (eqb (firstAt w at) 0 && eqb (secondAt w at) 0) refl
+  where
+    tests : (t : Bool) → (eqb (firstAt w at) 0 && eqb (secondAt w at) 0) ≡ t → nodeFits w 1 at p e ≡ t
+    tests t h = node-code w 1 at p e (omega arith) k ∙ rw (h, eq-eqb (countAt w at) 1 c) (and-true t)
+
+    go : (t : Bool) → (eqb (firstAt w at) 0 && eqb (secondAt w at) 0) ≡ t → walked s w 1 at p e g ≡ cond t (Next p g) Broken
+    go true h = walked-plain s w e 1 at p g (omega arith) (tests true h) (rw (ne-eqb (kindAt w at) 29 (λ d. omega arith), ne-eqb (kindAt w at) 30 (λ d. omega arith))) ∙ walked-none s w e (1 - 1) (at + 4) p g (omega arith)
+    go false h = walked-bad s w e 1 at p g (omega arith) (tests false h)

@@ -1,13 +1,15 @@
 // The check of a sheet: a tree in a lent list of words and a lent list of name bytes.
 ghost use Prim.Native.Nat.{ℕ, _+_, _-_, _*_, _≤_, _<_};
 ghost use mathlib.Core.Path.{_≡_};
-ghost use mathlib.Core.Bool.{true, false, _&&_};
+ghost use mathlib.Core.Bool.{true, false, cond, _&&_, _||_};
 ghost use lib.Dec.{leb, eqb};
 ghost use lib.ListN.{length, take, drop};
 ghost use Rattle.kinds.specs.Name.{verifyName};
 ghost use Rattle.kinds.specs.Sheet.{kindAt, countAt, isContainerKind, numbers, header};
 ghost use Rattle.sheet.specs.Check.{checked};
 ghost use Rattle.sheet.specs.Walked.{walked, fits, nodeFits, answer};
+use kinds::is_container;
+use kinds::verify_name;
 
 // Document 01's refusals 3 and 4, or neither.
 pub enum Checked {
@@ -20,15 +22,6 @@ pub enum Checked {
 enum Walked {
     Broken,
     Next(u64, bool),
-}
-
-fn is_container(kind: u64) -> bool
-    ensures { λ r. ⌜ r ≡ isContainerKind kind ⌝ }
-{
-    if kind == 29 {
-        return true;
-    }
-    kind == 30
 }
 
 // Whether the name at `first` is the next one and ends within the names.
@@ -65,6 +58,22 @@ fn numbers_ok(kind: u64, first: u64, second: u64) -> bool
     second == 0
 }
 
+// Whether a subtree of `count` nodes, whose root stands at `at` and takes one child, lies within the `left` nodes from there on
+// and ends where its child's ends.
+fn child_ok(nodes: &[u64], at: usize, count: u64, left: usize) -> bool
+    requires { ⌜ (0 < left) × (at + 4 * left ≤ length (now nodes)) ⌝ }
+    ensures { λ r. ⌜ ((k : ℕ) → 25 ≤ k → k ≤ 28 → r ≡ fits left k count (countAt (now (nodes .entry)) (at + 4))) ⌝ }
+{
+    if count < 2 {
+        return false;
+    }
+    if (left as u64) < count {
+        return false;
+    }
+    let child = at + 4;
+    nodes[child + 3] == count - 1
+}
+
 // Whether a subtree of `count` nodes, whose root is no container and stands at `at`, lies within the `left` nodes from there on
 // and has as many children as the root's kind takes.
 fn arity_ok(nodes: &[u64], at: usize, kind: u64, count: u64, left: usize) -> bool
@@ -77,22 +86,47 @@ fn arity_ok(nodes: &[u64], at: usize, kind: u64, count: u64, left: usize) -> boo
     if 28 < kind {
         return count == 1;
     }
-    if count < 2 {
-        return false;
-    }
-    if (left as u64) < count {
-        return false;
-    }
-    let child = at + 4;
-    nodes[child + 3] == count - 1
+    child_ok(nodes, at, count, left)
 }
 
-// Whether the node at `at`, no container, can stand first among the `left` nodes from there on.
+fn no_numbers(first: u64, second: u64) -> bool
+    ensures { λ r. ⌜ r ≡ (eqb first 0 && eqb second 0) ⌝ }
+{
+    if first != 0 {
+        return false;
+    }
+    second == 0
+}
+
+// Pointer and atomic.
+fn is_indirection(kind: u64) -> bool
+    ensures { λ r. ⌜ r ≡ (eqb kind 26 || eqb kind 27) ⌝ }
+{
+    if kind == 26 {
+        return true;
+    }
+    kind == 27
+}
+
+// Whether the node at `at`, no container, can stand first among the `left` nodes from there on. Codes and what points to others,
+// which come in long rows, are told apart before the rest.
 fn plain_ok(nodes: &[u64], at: usize, left: usize) -> bool
     requires { ⌜ (isContainerKind (kindAt (now nodes) at) ≡ false) × (0 < left) × (at + 4 * left ≤ length (now nodes)) ⌝ }
     ensures { λ r. ⌜ ((p e : ℕ) → r ≡ nodeFits (now (nodes .entry)) left at p e) ⌝ }
 {
     let kind = nodes[at];
+    if kind < 24 {
+        if !no_numbers(nodes[at + 1], nodes[at + 2]) {
+            return false;
+        }
+        return nodes[at + 3] == 1;
+    }
+    if is_indirection(kind) {
+        if !no_numbers(nodes[at + 1], nodes[at + 2]) {
+            return false;
+        }
+        return child_ok(nodes, at, nodes[at + 3], left);
+    }
     if !numbers_ok(kind, nodes[at + 1], nodes[at + 2]) {
         return false;
     }
@@ -124,11 +158,11 @@ fn name_good(names: &[u8], from: u64, size: u64, good: bool) -> bool
     }
     let a = from as usize;
     let b = a + size as usize;
-    kinds::verify_name(&names[a..b])
+    verify_name(&names[a..b])
 }
 
-// One pass over the `left` nodes from `at` on. Only a container makes a call: a kind with one child ends where its child ends,
-// so that the child can stand as the next of the nodes.
+// One pass over the `left` nodes from `at` on. Only a container that others follow makes a call: a kind with one child and the last
+// container end where what they hold ends, so that it can stand as the next of the nodes.
 fn check_nodes(
     nodes: &[u64],
     names: &[u8],
@@ -155,8 +189,14 @@ fn check_nodes(
         }
         let size = nodes[at + 2];
         let count = nodes[at + 3] as usize;
-        let named = name_good(names, name, size, good);
-        let inner = check_nodes(nodes, names, at + 4, count - 1, name + size, end, named);
+        good = name_good(names, name, size, good);
+        name = name + size;
+        if count == left {
+            at = at + 4;
+            left = left - 1;
+            continue;
+        }
+        let inner = check_nodes(&nodes[0..], &names[0..], at + 4, count - 1, name, end, good);
         let Walked::Next(p, g) = inner else {
             return Walked::Broken;
         };
@@ -216,6 +256,16 @@ fn answer_of(end: u64, pass: Walked) -> Checked
     }
 }
 
+// What a pass over one code with these numbers finds.
+fn lone_code(first: u64, second: u64) -> Walked
+    ensures { λ r. ⌜ r ≡ cond (eqb first 0 && eqb second 0) (Walked.Next 0 true) Walked.Broken ⌝ }
+{
+    if no_numbers(first, second) {
+        return Walked::Next(0, true);
+    }
+    Walked::Broken
+}
+
 // Whether the two lists begin with a sheet, and then whether each container of it has a good name.
 pub fn check(words: &[u64], names: &[u8]) -> Checked
     ensures { λ r. ⌜ r ≡ checked (now (words .entry)) (now (names .entry)) ⌝ }
@@ -228,6 +278,11 @@ pub fn check(words: &[u64], names: &[u8]) -> Checked
         return Checked::NotASheet;
     }
     let end = words[2];
-    let pass = check_nodes(&words[4..], names, 0, nodes as usize, 0, end, true);
+    if nodes == 1 {
+        if words[4] < 24 {
+            return answer_of(end, lone_code(words[5], words[6]));
+        }
+    }
+    let pass = check_nodes(&words[4..], &names[0..], 0, nodes as usize, 0, end, true);
     answer_of(end, pass)
 }

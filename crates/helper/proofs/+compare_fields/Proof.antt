@@ -5,7 +5,9 @@ use Rattle.helper.proofs.compare_fields.Reads as compare-fields
 use Rattle.helper.proofs.compare_fields.Kinds as compare-fields-kinds
 use Rattle.helper.proofs.+compare_fields.Lts-compare_fields as compare-fields-lts
 use Rattle.helper.proofs.compare_labels.Reads as compare-labels-reads
-use Rattle.helper.proofs.is_container.Reads as is-container-reads
+use Rattle.kinds.proofs.is_container.Reads as is-container-reads
+use Rattle.helper.proofs.either_none.Reads as either-none-reads
+use Rattle.helper.proofs.fields_last.Reads as fields-last-reads
 use Rattle.helper.proofs.level_after.Reads as level-after-reads
 use Rattle.helper.proofs.level_for.Reads as level-for-reads
 use Rattle.helper.proofs.shown_count.Reads as shown-count-reads
@@ -18,9 +20,10 @@ use borrow.Author.Needs.{needs}
 use Prim.Native.Nat.{_≤_}
 use mathlib.Core.Logic.{⊎-elim}
 use Rattle.kinds.specs.Sheet.{trees}
+use Rattle.kinds.proofs.ListLaws.{whole}
 use Rattle.kinds.proofs.NodeLaws.{walk-here}
 use Rattle.helper.specs.Measure.{compareFields}
-use Rattle.helper.proofs.CompareLaws.{Left, resume-level, fields-first-none, fields-second-none, fields-some, left-bounds, left-end, left-short, left-differ, left-fields, left-inner, left-after, left-next}
+use Rattle.helper.proofs.CompareLaws.{Left, resume-level, fields-none, fields-some, both-some, left-bounds, left-end, left-short, left-differ, left-fields, left-inner, left-after, left-last, left-next}
 
 abbrev μ-compare-fields : Measures 4 compare-fields-kinds.ps ℕ
 μ-compare-fields κs a = a .1 .1 .1 .0
@@ -42,32 +45,31 @@ compare-fields-below t =
     compare-fields.Pre
 
 abbrev compare-fields-claims : ℕ → compare-fields-lts.Claims
-compare-fields-claims t = (compare-labels-reads.Asked, compare-labels-reads.Learnt, is-container-reads.Asked, is-container-reads.Learnt, level-for-reads.Asked, level-for-reads.Learnt, shown-count-reads.Asked, shown-count-reads.Learnt, compare-fields-below t, compare-fields.Post, level-after-reads.Asked, level-after-reads.Learnt)
+compare-fields-claims t = (either-none-reads.Asked, either-none-reads.Learnt, compare-labels-reads.Asked, compare-labels-reads.Learnt, is-container-reads.Asked, is-container-reads.Learnt, level-for-reads.Asked, level-for-reads.Learnt, shown-count-reads.Asked, shown-count-reads.Learnt, fields-last-reads.Asked, fields-last-reads.Learnt, compare-fields-below t, compare-fields.Post, level-after-reads.Asked, level-after-reads.Learnt)
 
 abbrev compare-fields-Inv-loop : compare-fields-lts.InvT-loop
-compare-fields-Inv-loop a an from n b bn start m level all at₀ left₀ bt₀ more₀ here₀ at left bt more here = (left ≤ n) × Left all level an a bn b at left bt more here (compareFields all level (trees an a n from) (trees bn b m start))
+compare-fields-Inv-loop a an at₀ left₀ b bn bt₀ more₀ level₀ all here₀ at left bt more level here = (left ≤ left₀) × Left all level an a bn b at left bt more here (compareFields all level₀ (trees an a left₀ at₀) (trees bn b more₀ bt₀))
 
 abbrev compare-fields-μ-loop : compare-fields-lts.MeasureT-loop
-compare-fields-μ-loop a an from n b bn start m level all at₀ left₀ bt₀ more₀ here₀ at left bt more here = left
+compare-fields-μ-loop a an at₀ left₀ b bn bt₀ more₀ level₀ all here₀ at left bt more level here = left
+
+compare-fields-either-none-requires : (t : ℕ) → compare-fields-lts.Need-either-none-requires (compare-fields-claims t) (compare-fields-at t) compare-fields.Post compare-fields-Inv-loop compare-fields-μ-loop
+compare-fields-either-none-requires t c κs = search needs
 
 compare-fields-returns : (t : ℕ) → compare-fields-lts.Need-returns (compare-fields-claims t) (compare-fields-at t) compare-fields.Post compare-fields-Inv-loop compare-fields-μ-loop
 compare-fields-returns t c =
-    let a = c .before .before .before .before .before .args in
-    sym (fields-first-none (a .all) (a .level) (a .an .now) (a .a .now) (a .bn .now) (a .b .now) (a .n) (a .m) (a .from) (a .start) (omega arith))
-
-compare-fields-returns-2 : (t : ℕ) → compare-fields-lts.Need-returns-2 (compare-fields-claims t) (compare-fields-at t) compare-fields.Post compare-fields-Inv-loop compare-fields-μ-loop
-compare-fields-returns-2 t c =
     let a = c .before .before .before .before .before .before .args in
-    sym (fields-second-none (a .all) (a .level) (a .an .now) (a .a .now) (a .bn .now) (a .b .now) (a .n) (a .m) (a .from) (a .start) (omega arith))
+    sym (fields-none (a .all) (a .level) (a .an .now) (a .a .now) (a .bn .now) (a .b .now) (a .left) (a .more) (a .at) (a .bt) (sym (c .before .either-none .ensures) ∙ c .if1 .taken))
 
 compare-fields-loop-holds : (t : ℕ) → compare-fields-lts.Need-loop-holds (compare-fields-claims t) (compare-fields-at t) compare-fields.Post compare-fields-Inv-loop compare-fields-μ-loop
 compare-fields-loop-holds t c =
     let pre = c .before .before .before .before .before .before .pre in
     let a = c .before .before .before .before .before .before .args in
-    (omega arith, record { first = pre .1 .0 .0; second = pre .1 .0 .1; first-walk = pre .1 .1 .0; second-walk = pre .1 .1 .1; rest = resume-level _ _ _ _ ∙ sym (fields-some (a .all) (a .level) (a .an .now) (a .a .now) (a .bn .now) (a .b .now) (a .n) (a .m) (a .from) (a .start) (omega arith) (omega arith)) })
+    let s = both-some _ _ (sym (c .before .either-none .ensures) ∙ c .if1 .left) in
+    (omega arith, record { first = pre .1 .0 .0; second = pre .1 .0 .1; first-walk = pre .1 .1 .0; second-walk = pre .1 .1 .1; rest = resume-level _ _ _ _ ∙ sym (fields-some (a .all) (a .level) (a .an .now) (a .a .now) (a .bn .now) (a .b .now) (a .left) (a .more) (a .at) (a .bt) (s .0) (s .1)) })
 
-compare-fields-returns-3 : (t : ℕ) → compare-fields-lts.Need-returns-3 (compare-fields-claims t) (compare-fields-at t) compare-fields.Post compare-fields-Inv-loop compare-fields-μ-loop
-compare-fields-returns-3 t c = left-short (c .before .before .loop .inv .1) (c .before .loop-test .taken) (omega arith)
+compare-fields-returns-2 : (t : ℕ) → compare-fields-lts.Need-returns-2 (compare-fields-claims t) (compare-fields-at t) compare-fields.Post compare-fields-Inv-loop compare-fields-μ-loop
+compare-fields-returns-2 t c = left-short (c .before .before .loop .inv .1) (c .before .loop-test .taken) (omega arith)
 
 compare-fields-compare-labels-requires : (t : ℕ) → compare-fields-lts.Need-compare-labels-requires (compare-fields-claims t) (compare-fields-at t) compare-fields.Post compare-fields-Inv-loop compare-fields-μ-loop
 compare-fields-compare-labels-requires t c κs =
@@ -76,10 +78,8 @@ compare-fields-compare-labels-requires t c κs =
     let b = left-bounds (l .inv .1) (test .taken) (omega arith) in
     ((omega arith, omega arith), (walk-here _ _ _ _ (l .inv .1 .first-walk) (test .taken), walk-here _ _ _ _ (l .inv .1 .second-walk) (omega arith)))
 
-compare-fields-returns-4 : (t : ℕ) → compare-fields-lts.Need-returns-4 (compare-fields-claims t) (compare-fields-at t) compare-fields.Post compare-fields-Inv-loop compare-fields-μ-loop
-compare-fields-returns-4 t c =
-    let l = c .before .before .before .before .loop in
-    left-differ (l .inv .1) (c .before .before .before .loop-test .taken) (omega arith) (sym (c .before .compare-labels .ensures) ∙ not-true _ (c .if4 .taken))
+compare-fields-returns-3 : (t : ℕ) → compare-fields-lts.Need-returns-3 (compare-fields-claims t) (compare-fields-at t) compare-fields.Post compare-fields-Inv-loop compare-fields-μ-loop
+compare-fields-returns-3 t c = left-differ (c .before .before .before .before .loop .inv .1) (c .before .before .before .loop-test .taken) (omega arith) (sym (c .before .compare-labels .ensures) ∙ not-true _ (c .if3 .taken))
 
 compare-fields-mul-kind : (t : ℕ) → compare-fields-lts.Need-mul-kind (compare-fields-claims t) (compare-fields-at t) compare-fields.Post compare-fields-Inv-loop compare-fields-μ-loop
 compare-fields-mul-kind t c =
@@ -93,8 +93,7 @@ compare-fields-shared-slice-read-kind : (t : ℕ) → compare-fields-lts.Need-sh
 compare-fields-shared-slice-read-kind t c =
     let good = c .before .before .before .before .before .before .before .before .before .before .before .before .good in
     let l = c .before .before .before .before .before .loop in
-    let test = c .before .before .before .before .loop-test in
-    let b = left-bounds (l .inv .1) (test .taken) (omega arith) in
+    let b = left-bounds (l .inv .1) (c .before .before .before .before .loop-test .taken) (omega arith) in
     let g = good .1 .1 .1 .1 .0 .0 in
     omega arith
 
@@ -105,8 +104,7 @@ compare-fields-add-c : (t : ℕ) → compare-fields-lts.Need-add-c (compare-fiel
 compare-fields-add-c t c =
     let good = c .before .before .before .before .before .before .before .before .before .before .before .before .before .before .good in
     let l = c .before .before .before .before .before .before .before .loop in
-    let test = c .before .before .before .before .before .before .loop-test in
-    let b = left-bounds (l .inv .1) (test .taken) (omega arith) in
+    let b = left-bounds (l .inv .1) (c .before .before .before .before .before .before .loop-test .taken) (omega arith) in
     let g = good .1 .1 .1 .1 .0 .0 in
     omega arith
 
@@ -114,8 +112,7 @@ compare-fields-mul-c : (t : ℕ) → compare-fields-lts.Need-mul-c (compare-fiel
 compare-fields-mul-c t c =
     let good = c .before .before .before .before .before .before .before .before .before .before .before .before .before .before .good in
     let l = c .before .before .before .before .before .before .before .loop in
-    let test = c .before .before .before .before .before .before .loop-test in
-    let b = left-bounds (l .inv .1) (test .taken) (omega arith) in
+    let b = left-bounds (l .inv .1) (c .before .before .before .before .before .before .loop-test .taken) (omega arith) in
     let g = good .1 .1 .1 .1 .0 .0 in
     omega arith
 
@@ -123,8 +120,7 @@ compare-fields-shared-slice-read-c : (t : ℕ) → compare-fields-lts.Need-share
 compare-fields-shared-slice-read-c t c =
     let good = c .before .before .before .before .before .before .before .before .before .before .before .before .before .before .before .good in
     let l = c .before .before .before .before .before .before .before .before .loop in
-    let test = c .before .before .before .before .before .before .before .loop-test in
-    let b = left-bounds (l .inv .1) (test .taken) (omega arith) in
+    let b = left-bounds (l .inv .1) (c .before .before .before .before .before .before .before .loop-test .taken) (omega arith) in
     let g = good .1 .1 .1 .1 .0 .0 in
     omega arith
 
@@ -132,8 +128,7 @@ compare-fields-add-d : (t : ℕ) → compare-fields-lts.Need-add-d (compare-fiel
 compare-fields-add-d t c =
     let good = c .before .before .before .before .before .before .before .before .before .before .before .before .before .before .before .good in
     let l = c .before .before .before .before .before .before .before .before .loop in
-    let test = c .before .before .before .before .before .before .before .loop-test in
-    let b = left-bounds (l .inv .1) (test .taken) (omega arith) in
+    let b = left-bounds (l .inv .1) (c .before .before .before .before .before .before .before .loop-test .taken) (omega arith) in
     let g = good .1 .1 .1 .1 .0 .0 in
     omega arith
 
@@ -141,8 +136,7 @@ compare-fields-mul-d : (t : ℕ) → compare-fields-lts.Need-mul-d (compare-fiel
 compare-fields-mul-d t c =
     let good = c .before .before .before .before .before .before .before .before .before .before .before .before .before .before .before .good in
     let l = c .before .before .before .before .before .before .before .before .loop in
-    let test = c .before .before .before .before .before .before .before .loop-test in
-    let b = left-bounds (l .inv .1) (test .taken) (omega arith) in
+    let b = left-bounds (l .inv .1) (c .before .before .before .before .before .before .before .loop-test .taken) (omega arith) in
     let g = good .1 .1 .1 .1 .0 .0 in
     omega arith
 
@@ -150,8 +144,7 @@ compare-fields-shared-slice-read-d : (t : ℕ) → compare-fields-lts.Need-share
 compare-fields-shared-slice-read-d t c =
     let good = c .before .before .before .before .before .before .before .before .before .before .before .before .before .before .before .before .good in
     let l = c .before .before .before .before .before .before .before .before .before .loop in
-    let test = c .before .before .before .before .before .before .before .before .loop-test in
-    let b = left-bounds (l .inv .1) (test .taken) (omega arith) in
+    let b = left-bounds (l .inv .1) (c .before .before .before .before .before .before .before .before .loop-test .taken) (omega arith) in
     let g = good .1 .1 .1 .1 .0 .0 in
     omega arith
 
@@ -162,140 +155,178 @@ compare-fields-sub-shown-count : (t : ℕ) → compare-fields-lts.Need-sub-shown
 compare-fields-sub-shown-count t c =
     let good = c .before .before .before .before .before .before .before .before .before .before .before .before .before .before .before .before .before .good in
     let l = c .before .before .before .before .before .before .before .before .before .before .loop in
-    let test = c .before .before .before .before .before .before .before .before .before .loop-test in
-    let b = left-bounds (l .inv .1) (test .taken) (omega arith) in
+    let b = left-bounds (l .inv .1) (c .before .before .before .before .before .before .before .before .before .loop-test .taken) (omega arith) in
     let g = good .1 .1 .1 .1 .0 .0 in
     omega arith
 
 compare-fields-shown-count-requires : (t : ℕ) → compare-fields-lts.Need-shown-count-requires (compare-fields-claims t) (compare-fields-at t) compare-fields.Post compare-fields-Inv-loop compare-fields-μ-loop
 compare-fields-shown-count-requires t c κs = search needs
 
-compare-fields-add-compare-fields : (t : ℕ) → compare-fields-lts.Need-add-compare-fields (compare-fields-claims t) (compare-fields-at t) compare-fields.Post compare-fields-Inv-loop compare-fields-μ-loop
-compare-fields-add-compare-fields t c =
+compare-fields-sub-m : (t : ℕ) → compare-fields-lts.Need-sub-m (compare-fields-claims t) (compare-fields-at t) compare-fields.Post compare-fields-Inv-loop compare-fields-μ-loop
+compare-fields-sub-m t c =
     let good = c .before .before .before .before .before .before .before .before .before .before .before .before .before .before .before .before .before .before .good in
     let l = c .before .before .before .before .before .before .before .before .before .before .before .loop in
-    let test = c .before .before .before .before .before .before .before .before .before .before .loop-test in
-    let b = left-bounds (l .inv .1) (test .taken) (omega arith) in
+    let b = left-bounds (l .inv .1) (c .before .before .before .before .before .before .before .before .before .before .loop-test .taken) (omega arith) in
     let g = good .1 .1 .1 .1 .0 .0 in
     omega arith
 
-compare-fields-add-compare-fields-2 : (t : ℕ) → compare-fields-lts.Need-add-compare-fields-2 (compare-fields-claims t) (compare-fields-at t) compare-fields.Post compare-fields-Inv-loop compare-fields-μ-loop
-compare-fields-add-compare-fields-2 t c =
+compare-fields-add-i : (t : ℕ) → compare-fields-lts.Need-add-i (compare-fields-claims t) (compare-fields-at t) compare-fields.Post compare-fields-Inv-loop compare-fields-μ-loop
+compare-fields-add-i t c =
     let good = c .before .before .before .before .before .before .before .before .before .before .before .before .before .before .before .before .before .before .good in
     let l = c .before .before .before .before .before .before .before .before .before .before .before .loop in
-    let test = c .before .before .before .before .before .before .before .before .before .before .loop-test in
-    let b = left-bounds (l .inv .1) (test .taken) (omega arith) in
+    let b = left-bounds (l .inv .1) (c .before .before .before .before .before .before .before .before .before .before .loop-test .taken) (omega arith) in
     let g = good .1 .1 .1 .1 .0 .0 in
     omega arith
+
+compare-fields-add-j : (t : ℕ) → compare-fields-lts.Need-add-j (compare-fields-claims t) (compare-fields-at t) compare-fields.Post compare-fields-Inv-loop compare-fields-μ-loop
+compare-fields-add-j t c =
+    let good = c .before .before .before .before .before .before .before .before .before .before .before .before .before .before .before .before .before .before .good in
+    let l = c .before .before .before .before .before .before .before .before .before .before .before .loop in
+    let b = left-bounds (l .inv .1) (c .before .before .before .before .before .before .before .before .before .before .loop-test .taken) (omega arith) in
+    let g = good .1 .1 .1 .1 .0 .0 in
+    omega arith
+
+compare-fields-sub-fields-last : (t : ℕ) → compare-fields-lts.Need-sub-fields-last (compare-fields-claims t) (compare-fields-at t) compare-fields.Post compare-fields-Inv-loop compare-fields-μ-loop
+compare-fields-sub-fields-last t c =
+    let good = c .before .before .before .before .before .before .before .before .before .before .before .before .before .before .before .before .before .before .good in
+    let l = c .before .before .before .before .before .before .before .before .before .before .before .loop in
+    let b = left-bounds (l .inv .1) (c .before .before .before .before .before .before .before .before .before .before .loop-test .taken) (omega arith) in
+    let g = good .1 .1 .1 .1 .0 .0 in
+    omega arith
+
+compare-fields-sub-fields-last-2 : (t : ℕ) → compare-fields-lts.Need-sub-fields-last-2 (compare-fields-claims t) (compare-fields-at t) compare-fields.Post compare-fields-Inv-loop compare-fields-μ-loop
+compare-fields-sub-fields-last-2 t c =
+    let good = c .before .before .before .before .before .before .before .before .before .before .before .before .before .before .before .before .before .before .good in
+    let l = c .before .before .before .before .before .before .before .before .before .before .before .loop in
+    let b = left-bounds (l .inv .1) (c .before .before .before .before .before .before .before .before .before .before .loop-test .taken) (omega arith) in
+    let g = good .1 .1 .1 .1 .0 .0 in
+    omega arith
+
+compare-fields-fields-last-requires : (t : ℕ) → compare-fields-lts.Need-fields-last-requires (compare-fields-claims t) (compare-fields-at t) compare-fields.Post compare-fields-Inv-loop compare-fields-μ-loop
+compare-fields-fields-last-requires t c κs = search needs
+
+compare-fields-loop-less : (t : ℕ) → compare-fields-lts.Need-loop-less (compare-fields-claims t) (compare-fields-at t) compare-fields.Post compare-fields-Inv-loop compare-fields-μ-loop
+compare-fields-loop-less t c = let i = left-inner (c .before .before .before .before .before .before .before .before .before .before .before .before .before .loop .inv .1) (c .before .before .before .before .before .before .before .before .before .before .before .before .loop-test .taken) (omega arith) (sym (c .before .before .before .before .before .before .before .before .before .before .compare-labels .ensures) ∙ not-false _ (c .before .before .before .before .before .before .before .before .before .if3 .left)) (sym (c .before .before .before .before .before .before .before .is-container .ensures) ∙ c .before .before .before .before .before .before .if4 .taken) (c .before .before .before .level-for .ensures) (c .before .before .shown-count .ensures) in let j = i .0 in omega arith
+
+compare-fields-loop-again : (t : ℕ) → compare-fields-lts.Need-loop-again (compare-fields-claims t) (compare-fields-at t) compare-fields.Post compare-fields-Inv-loop compare-fields-μ-loop
+compare-fields-loop-again t c =
+    let b = left-bounds (c .before .before .before .before .before .before .before .before .before .before .before .before .before .loop .inv .1) (c .before .before .before .before .before .before .before .before .before .before .before .before .loop-test .taken) (omega arith) in
+    let i = left-inner (c .before .before .before .before .before .before .before .before .before .before .before .before .before .loop .inv .1) (c .before .before .before .before .before .before .before .before .before .before .before .before .loop-test .taken) (omega arith) (sym (c .before .before .before .before .before .before .before .before .before .before .compare-labels .ensures) ∙ not-false _ (c .before .before .before .before .before .before .before .before .before .if3 .left)) (sym (c .before .before .before .before .before .before .before .is-container .ensures) ∙ c .before .before .before .before .before .before .if4 .taken) (c .before .before .before .level-for .ensures) (c .before .before .shown-count .ensures) in
+    let j = i .0 in
+    let f = c .before .fields-last .ensures (c .if5 .taken) in
+    (omega arith, left-last (c .before .before .before .before .before .before .before .before .before .before .before .before .before .loop .inv .1) (c .before .before .before .before .before .before .before .before .before .before .before .before .loop-test .taken) (omega arith) (sym (c .before .before .before .before .before .before .before .before .before .before .compare-labels .ensures) ∙ not-false _ (c .before .before .before .before .before .before .before .before .before .if3 .left)) (sym (c .before .before .before .before .before .before .before .is-container .ensures) ∙ c .before .before .before .before .before .before .if4 .taken) (c .before .before .before .level-for .ensures) (c .before .before .shown-count .ensures) (omega arith) (omega arith) (f .2) (f .3))
 
 compare-fields-sub-compare-fields : (t : ℕ) → compare-fields-lts.Need-sub-compare-fields (compare-fields-claims t) (compare-fields-at t) compare-fields.Post compare-fields-Inv-loop compare-fields-μ-loop
-compare-fields-sub-compare-fields t c =
-    let good = c .before .before .before .before .before .before .before .before .before .before .before .before .before .before .before .before .before .before .good in
-    let l = c .before .before .before .before .before .before .before .before .before .before .before .loop in
-    let test = c .before .before .before .before .before .before .before .before .before .before .loop-test in
-    let b = left-bounds (l .inv .1) (test .taken) (omega arith) in
-    let g = good .1 .1 .1 .1 .0 .0 in
-    omega arith
+compare-fields-sub-compare-fields t c = search needs
+
+compare-fields-part-compare-fields-start : (t : ℕ) → compare-fields-lts.Need-part-compare-fields-start (compare-fields-claims t) (compare-fields-at t) compare-fields.Post compare-fields-Inv-loop compare-fields-μ-loop
+compare-fields-part-compare-fields-start t c = search needs
+
+compare-fields-part-compare-fields-end : (t : ℕ) → compare-fields-lts.Need-part-compare-fields-end (compare-fields-claims t) (compare-fields-at t) compare-fields.Post compare-fields-Inv-loop compare-fields-μ-loop
+compare-fields-part-compare-fields-end t c = search needs
+
+compare-fields-sub-compare-fields-2 : (t : ℕ) → compare-fields-lts.Need-sub-compare-fields-2 (compare-fields-claims t) (compare-fields-at t) compare-fields.Post compare-fields-Inv-loop compare-fields-μ-loop
+compare-fields-sub-compare-fields-2 t c = search needs
+
+compare-fields-part-compare-fields-start-2 : (t : ℕ) → compare-fields-lts.Need-part-compare-fields-start-2 (compare-fields-claims t) (compare-fields-at t) compare-fields.Post compare-fields-Inv-loop compare-fields-μ-loop
+compare-fields-part-compare-fields-start-2 t c = search needs
+
+compare-fields-part-compare-fields-end-2 : (t : ℕ) → compare-fields-lts.Need-part-compare-fields-end-2 (compare-fields-claims t) (compare-fields-at t) compare-fields.Post compare-fields-Inv-loop compare-fields-μ-loop
+compare-fields-part-compare-fields-end-2 t c = search needs
+
+compare-fields-sub-compare-fields-3 : (t : ℕ) → compare-fields-lts.Need-sub-compare-fields-3 (compare-fields-claims t) (compare-fields-at t) compare-fields.Post compare-fields-Inv-loop compare-fields-μ-loop
+compare-fields-sub-compare-fields-3 t c = search needs
+
+compare-fields-part-compare-fields-start-3 : (t : ℕ) → compare-fields-lts.Need-part-compare-fields-start-3 (compare-fields-claims t) (compare-fields-at t) compare-fields.Post compare-fields-Inv-loop compare-fields-μ-loop
+compare-fields-part-compare-fields-start-3 t c = search needs
+
+compare-fields-part-compare-fields-end-3 : (t : ℕ) → compare-fields-lts.Need-part-compare-fields-end-3 (compare-fields-claims t) (compare-fields-at t) compare-fields.Post compare-fields-Inv-loop compare-fields-μ-loop
+compare-fields-part-compare-fields-end-3 t c = search needs
+
+compare-fields-sub-compare-fields-4 : (t : ℕ) → compare-fields-lts.Need-sub-compare-fields-4 (compare-fields-claims t) (compare-fields-at t) compare-fields.Post compare-fields-Inv-loop compare-fields-μ-loop
+compare-fields-sub-compare-fields-4 t c = search needs
+
+compare-fields-part-compare-fields-start-4 : (t : ℕ) → compare-fields-lts.Need-part-compare-fields-start-4 (compare-fields-claims t) (compare-fields-at t) compare-fields.Post compare-fields-Inv-loop compare-fields-μ-loop
+compare-fields-part-compare-fields-start-4 t c = search needs
+
+compare-fields-part-compare-fields-end-4 : (t : ℕ) → compare-fields-lts.Need-part-compare-fields-end-4 (compare-fields-claims t) (compare-fields-at t) compare-fields.Post compare-fields-Inv-loop compare-fields-μ-loop
+compare-fields-part-compare-fields-end-4 t c = search needs
 
 compare-fields-compare-fields-requires : (t : ℕ) → compare-fields-lts.Need-compare-fields-requires (compare-fields-claims t) (compare-fields-at t) compare-fields.Post compare-fields-Inv-loop compare-fields-μ-loop
 compare-fields-compare-fields-requires t c κs =
-    let l = c .before .before .before .before .before .before .before .before .before .before .before .loop in
-    let test = c .before .before .before .before .before .before .before .before .before .before .loop-test in
-    let labels = c .before .before .before .before .before .before .before .before .compare-labels in
-    let if4 = c .before .before .before .before .before .before .before .if4 in
-    let container = c .before .before .before .before .before .is-container in
-    let if5 = c .before .before .before .before .if5 in
-    let i = left-inner (l .inv .1) (test .taken) (omega arith) (sym (labels .ensures) ∙ not-false _ (if4 .left)) (sym (container .ensures) ∙ if5 .taken) (c .before .level-for .ensures) (c .shown-count .ensures) in
-    (let j = i .0 in omega arith, (i .1, i .2))
+    let i = left-inner (c .before .before .before .before .before .before .before .before .before .before .before .before .before .before .before .before .before .loop .inv .1) (c .before .before .before .before .before .before .before .before .before .before .before .before .before .before .before .before .loop-test .taken) (omega arith) (sym (c .before .before .before .before .before .before .before .before .before .before .before .before .before .before .compare-labels .ensures) ∙ not-false _ (c .before .before .before .before .before .before .before .before .before .before .before .before .before .if3 .left)) (sym (c .before .before .before .before .before .before .before .before .before .before .before .is-container .ensures) ∙ c .before .before .before .before .before .before .before .before .before .before .if4 .taken) (c .before .before .before .before .before .before .before .level-for .ensures) (c .before .before .before .before .before .before .shown-count .ensures) in
+    let j = i .0 in
+    rw (whole, whole, whole, whole) (omega arith, (i .1, i .2))
 
-compare-fields-returns-5 : (t : ℕ) → compare-fields-lts.Need-returns-5 (compare-fields-claims t) (compare-fields-at t) compare-fields.Post compare-fields-Inv-loop compare-fields-μ-loop
-compare-fields-returns-5 t c =
-    let l = c .before .before .before .before .before .before .before .before .before .before .before .before .before .loop in
-    let test = c .before .before .before .before .before .before .before .before .before .before .before .before .loop-test in
-    let labels = c .before .before .before .before .before .before .before .before .before .before .compare-labels in
-    let if4 = c .before .before .before .before .before .before .before .before .before .if4 in
-    let container = c .before .before .before .before .before .before .before .is-container in
-    let if5 = c .before .before .before .before .before .before .if5 in
-    left-fields (l .inv .1) (test .taken) (omega arith) (sym (labels .ensures) ∙ not-false _ (if4 .left)) (sym (container .ensures) ∙ if5 .taken) (c .before .before .before .level-for .ensures) (c .before .before .shown-count .ensures) (sym (c .before .compare-fields .ensures) ∙ not-true _ (c .if6 .taken))
+compare-fields-returns-4 : (t : ℕ) → compare-fields-lts.Need-returns-4 (compare-fields-claims t) (compare-fields-at t) compare-fields.Post compare-fields-Inv-loop compare-fields-μ-loop
+compare-fields-returns-4 t c = left-fields (c .before .before .before .before .before .before .before .before .before .before .before .before .before .before .before .before .before .before .before .loop .inv .1) (c .before .before .before .before .before .before .before .before .before .before .before .before .before .before .before .before .before .before .loop-test .taken) (omega arith) (sym (c .before .before .before .before .before .before .before .before .before .before .before .before .before .before .before .before .compare-labels .ensures) ∙ not-false _ (c .before .before .before .before .before .before .before .before .before .before .before .before .before .before .before .if3 .left)) (sym (c .before .before .before .before .before .before .before .before .before .before .before .before .before .is-container .ensures) ∙ c .before .before .before .before .before .before .before .before .before .before .before .before .if4 .taken) (c .before .before .before .before .before .before .before .before .before .level-for .ensures) (c .before .before .before .before .before .before .before .before .shown-count .ensures) (sym (rw (whole, whole, whole, whole) at (c .before .compare-fields .ensures)) ∙ not-true _ (c .if6 .taken))
 
 compare-fields-mul-at : (t : ℕ) → compare-fields-lts.Need-mul-at (compare-fields-claims t) (compare-fields-at t) compare-fields.Post compare-fields-Inv-loop compare-fields-μ-loop
 compare-fields-mul-at t c =
     let good = c .before .before .before .before .before .before .before .before .before .before .before .before .before .before .before .good in
     let l = c .before .before .before .before .before .before .before .before .loop in
-    let test = c .before .before .before .before .before .before .before .loop-test in
-    let b = left-bounds (l .inv .1) (test .taken) (omega arith) in
+    let b = left-bounds (l .inv .1) (c .before .before .before .before .before .before .before .loop-test .taken) (omega arith) in
     let g = good .1 .1 .1 .1 .0 .0 in
-    ⊎-elim (λ i. omega arith) (λ i. omega arith) (c .before .if5 .came)
+    ⊎-elim (λ i. omega arith) (λ i. omega arith) (c .before .if4 .came)
 
 compare-fields-add-at : (t : ℕ) → compare-fields-lts.Need-add-at (compare-fields-claims t) (compare-fields-at t) compare-fields.Post compare-fields-Inv-loop compare-fields-μ-loop
 compare-fields-add-at t c =
     let good = c .before .before .before .before .before .before .before .before .before .before .before .before .before .before .before .good in
     let l = c .before .before .before .before .before .before .before .before .loop in
-    let test = c .before .before .before .before .before .before .before .loop-test in
-    let b = left-bounds (l .inv .1) (test .taken) (omega arith) in
+    let b = left-bounds (l .inv .1) (c .before .before .before .before .before .before .before .loop-test .taken) (omega arith) in
     let g = good .1 .1 .1 .1 .0 .0 in
-    ⊎-elim (λ i. omega arith) (λ i. omega arith) (c .before .if5 .came)
+    ⊎-elim (λ i. omega arith) (λ i. omega arith) (c .before .if4 .came)
 
 compare-fields-sub-left : (t : ℕ) → compare-fields-lts.Need-sub-left (compare-fields-claims t) (compare-fields-at t) compare-fields.Post compare-fields-Inv-loop compare-fields-μ-loop
 compare-fields-sub-left t c =
     let good = c .before .before .before .before .before .before .before .before .before .before .before .before .before .before .before .good in
     let l = c .before .before .before .before .before .before .before .before .loop in
-    let test = c .before .before .before .before .before .before .before .loop-test in
-    let b = left-bounds (l .inv .1) (test .taken) (omega arith) in
+    let b = left-bounds (l .inv .1) (c .before .before .before .before .before .before .before .loop-test .taken) (omega arith) in
     let g = good .1 .1 .1 .1 .0 .0 in
-    ⊎-elim (λ i. omega arith) (λ i. omega arith) (c .before .if5 .came)
+    ⊎-elim (λ i. omega arith) (λ i. omega arith) (c .before .if4 .came)
 
 compare-fields-mul-bt : (t : ℕ) → compare-fields-lts.Need-mul-bt (compare-fields-claims t) (compare-fields-at t) compare-fields.Post compare-fields-Inv-loop compare-fields-μ-loop
 compare-fields-mul-bt t c =
     let good = c .before .before .before .before .before .before .before .before .before .before .before .before .before .before .before .before .good in
     let l = c .before .before .before .before .before .before .before .before .before .loop in
-    let test = c .before .before .before .before .before .before .before .before .loop-test in
-    let b = left-bounds (l .inv .1) (test .taken) (omega arith) in
+    let b = left-bounds (l .inv .1) (c .before .before .before .before .before .before .before .before .loop-test .taken) (omega arith) in
     let g = good .1 .1 .1 .1 .0 .0 in
-    ⊎-elim (λ i. omega arith) (λ i. omega arith) (c .before .before .if5 .came)
+    ⊎-elim (λ i. omega arith) (λ i. omega arith) (c .before .before .if4 .came)
 
 compare-fields-add-bt : (t : ℕ) → compare-fields-lts.Need-add-bt (compare-fields-claims t) (compare-fields-at t) compare-fields.Post compare-fields-Inv-loop compare-fields-μ-loop
 compare-fields-add-bt t c =
     let good = c .before .before .before .before .before .before .before .before .before .before .before .before .before .before .before .before .good in
     let l = c .before .before .before .before .before .before .before .before .before .loop in
-    let test = c .before .before .before .before .before .before .before .before .loop-test in
-    let b = left-bounds (l .inv .1) (test .taken) (omega arith) in
+    let b = left-bounds (l .inv .1) (c .before .before .before .before .before .before .before .before .loop-test .taken) (omega arith) in
     let g = good .1 .1 .1 .1 .0 .0 in
-    ⊎-elim (λ i. omega arith) (λ i. omega arith) (c .before .before .if5 .came)
+    ⊎-elim (λ i. omega arith) (λ i. omega arith) (c .before .before .if4 .came)
 
 compare-fields-sub-more : (t : ℕ) → compare-fields-lts.Need-sub-more (compare-fields-claims t) (compare-fields-at t) compare-fields.Post compare-fields-Inv-loop compare-fields-μ-loop
 compare-fields-sub-more t c =
     let good = c .before .before .before .before .before .before .before .before .before .before .before .before .before .before .before .before .good in
     let l = c .before .before .before .before .before .before .before .before .before .loop in
-    let test = c .before .before .before .before .before .before .before .before .loop-test in
-    let b = left-bounds (l .inv .1) (test .taken) (omega arith) in
+    let b = left-bounds (l .inv .1) (c .before .before .before .before .before .before .before .before .loop-test .taken) (omega arith) in
     let g = good .1 .1 .1 .1 .0 .0 in
-    ⊎-elim (λ i. omega arith) (λ i. omega arith) (c .before .before .if5 .came)
+    ⊎-elim (λ i. omega arith) (λ i. omega arith) (c .before .before .if4 .came)
 
 compare-fields-level-after-requires : (t : ℕ) → compare-fields-lts.Need-level-after-requires (compare-fields-claims t) (compare-fields-at t) compare-fields.Post compare-fields-Inv-loop compare-fields-μ-loop
 compare-fields-level-after-requires t c κs = search needs
 
-compare-fields-loop-less : (t : ℕ) → compare-fields-lts.Need-loop-less (compare-fields-claims t) (compare-fields-at t) compare-fields.Post compare-fields-Inv-loop compare-fields-μ-loop
-compare-fields-loop-less t c =
+compare-fields-loop-less-2 : (t : ℕ) → compare-fields-lts.Need-loop-less-2 (compare-fields-claims t) (compare-fields-at t) compare-fields.Post compare-fields-Inv-loop compare-fields-μ-loop
+compare-fields-loop-less-2 t c =
     let good = c .before .before .before .before .before .before .before .before .before .before .before .before .before .before .before .before .before .good in
     let l = c .before .before .before .before .before .before .before .before .before .before .loop in
-    let test = c .before .before .before .before .before .before .before .before .before .loop-test in
-    let b = left-bounds (l .inv .1) (test .taken) (omega arith) in
+    let b = left-bounds (l .inv .1) (c .before .before .before .before .before .before .before .before .before .loop-test .taken) (omega arith) in
     let g = good .1 .1 .1 .1 .0 .0 in
-    ⊎-elim (λ i. omega arith) (λ i. omega arith) (c .before .before .before .if5 .came)
+    ⊎-elim (λ i. omega arith) (λ i. omega arith) (c .before .before .before .if4 .came)
 
-compare-fields-loop-again : (t : ℕ) → compare-fields-lts.Need-loop-again (compare-fields-claims t) (compare-fields-at t) compare-fields.Post compare-fields-Inv-loop compare-fields-μ-loop
-compare-fields-loop-again t c =
-    let l = c .before .before .before .before .before .before .before .before .before .before .loop in
-    let test = c .before .before .before .before .before .before .before .before .before .loop-test in
-    let labels = c .before .before .before .before .before .before .before .compare-labels in
-    let if4 = c .before .before .before .before .before .before .if4 in
-    let container = c .before .before .before .before .is-container in
-    let b = left-bounds (l .inv .1) (test .taken) (omega arith) in
-    ⊎-elim (λ i. (omega arith, left-after (l .inv .1) (test .taken) (omega arith) (sym (labels .ensures) ∙ not-false _ (if4 .left)) (sym (container .ensures) ∙ i .0 .taken) (i .3 .ensures) (i .4 .ensures) (sym (i .5 .ensures) ∙ not-false _ (i .6 .left)) (i .7) (i .8) (c .level-after .ensures))) (λ i. (omega arith, left-next (l .inv .1) (test .taken) (omega arith) (sym (labels .ensures) ∙ not-false _ (if4 .left)) (sym (container .ensures) ∙ i .0 .left) (i .1) (i .2) (c .level-after .ensures))) (c .before .before .before .if5 .came)
+compare-fields-loop-again-2 : (t : ℕ) → compare-fields-lts.Need-loop-again-2 (compare-fields-claims t) (compare-fields-at t) compare-fields.Post compare-fields-Inv-loop compare-fields-μ-loop
+compare-fields-loop-again-2 t c =
+    let b = left-bounds (c .before .before .before .before .before .before .before .before .before .before .loop .inv .1) (c .before .before .before .before .before .before .before .before .before .loop-test .taken) (omega arith) in
+    ⊎-elim (λ i. (omega arith, left-after (c .before .before .before .before .before .before .before .before .before .before .loop .inv .1) (c .before .before .before .before .before .before .before .before .before .loop-test .taken) (omega arith) (sym (c .before .before .before .before .before .before .before .compare-labels .ensures) ∙ not-false _ (c .before .before .before .before .before .before .if3 .left)) (sym (c .before .before .before .before .is-container .ensures) ∙ i .0 .taken) (i .3 .ensures) (i .4 .ensures) (sym (rw (whole, whole, whole, whole) at (i .11 .ensures)) ∙ not-false _ (i .12 .left)) (i .13) (i .14) (c .level-after .ensures))) (λ i. (omega arith, left-next (c .before .before .before .before .before .before .before .before .before .before .loop .inv .1) (c .before .before .before .before .before .before .before .before .before .loop-test .taken) (omega arith) (sym (c .before .before .before .before .before .before .before .compare-labels .ensures) ∙ not-false _ (c .before .before .before .before .before .before .if3 .left)) (sym (c .before .before .before .before .is-container .ensures) ∙ i .0 .left) (i .1) (i .2) (c .level-after .ensures))) (c .before .before .before .if4 .came)
 
-compare-fields-returns-6 : (t : ℕ) → compare-fields-lts.Need-returns-6 (compare-fields-claims t) (compare-fields-at t) compare-fields.Post compare-fields-Inv-loop compare-fields-μ-loop
-compare-fields-returns-6 t c = left-end (c .before .loop .inv .1) (c .loop-test .left)
+compare-fields-returns-5 : (t : ℕ) → compare-fields-lts.Need-returns-5 (compare-fields-claims t) (compare-fields-at t) compare-fields.Post compare-fields-Inv-loop compare-fields-μ-loop
+compare-fields-returns-5 t c = left-end (c .before .loop .inv .1) (c .loop-test .left)
 
 pub +compare-fields-spec : {M : Type 1} → statement M
 +compare-fields-spec = close μ-compare-fields λ t. compare-fields-lts.spec (compare-fields-claims t)
@@ -303,12 +334,12 @@ pub +compare-fields-spec : {M : Type 1} → statement M
     compare-fields.Post
     compare-fields-Inv-loop
     compare-fields-μ-loop
+    (compare-fields-either-none-requires t)
     (compare-fields-returns t)
-    (compare-fields-returns-2 t)
     (compare-fields-loop-holds t)
-    (compare-fields-returns-3 t)
+    (compare-fields-returns-2 t)
     (compare-fields-compare-labels-requires t)
-    (compare-fields-returns-4 t)
+    (compare-fields-returns-3 t)
     (compare-fields-mul-kind t)
     (compare-fields-shared-slice-read-kind t)
     (compare-fields-is-container-requires t)
@@ -321,11 +352,28 @@ pub +compare-fields-spec : {M : Type 1} → statement M
     (compare-fields-level-for-requires t)
     (compare-fields-sub-shown-count t)
     (compare-fields-shown-count-requires t)
-    (compare-fields-add-compare-fields t)
-    (compare-fields-add-compare-fields-2 t)
+    (compare-fields-sub-m t)
+    (compare-fields-add-i t)
+    (compare-fields-add-j t)
+    (compare-fields-sub-fields-last t)
+    (compare-fields-sub-fields-last-2 t)
+    (compare-fields-fields-last-requires t)
+    (compare-fields-loop-less t)
+    (compare-fields-loop-again t)
     (compare-fields-sub-compare-fields t)
+    (compare-fields-part-compare-fields-start t)
+    (compare-fields-part-compare-fields-end t)
+    (compare-fields-sub-compare-fields-2 t)
+    (compare-fields-part-compare-fields-start-2 t)
+    (compare-fields-part-compare-fields-end-2 t)
+    (compare-fields-sub-compare-fields-3 t)
+    (compare-fields-part-compare-fields-start-3 t)
+    (compare-fields-part-compare-fields-end-3 t)
+    (compare-fields-sub-compare-fields-4 t)
+    (compare-fields-part-compare-fields-start-4 t)
+    (compare-fields-part-compare-fields-end-4 t)
     (compare-fields-compare-fields-requires t)
-    (compare-fields-returns-5 t)
+    (compare-fields-returns-4 t)
     (compare-fields-mul-at t)
     (compare-fields-add-at t)
     (compare-fields-sub-left t)
@@ -333,6 +381,6 @@ pub +compare-fields-spec : {M : Type 1} → statement M
     (compare-fields-add-bt t)
     (compare-fields-sub-more t)
     (compare-fields-level-after-requires t)
-    (compare-fields-loop-less t)
-    (compare-fields-loop-again t)
-    (compare-fields-returns-6 t)
+    (compare-fields-loop-less-2 t)
+    (compare-fields-loop-again-2 t)
+    (compare-fields-returns-5 t)

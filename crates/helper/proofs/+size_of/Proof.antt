@@ -14,7 +14,7 @@ use Rattle.kinds.proofs.NestingLevel.container_include_fields.Reads as containe
 use Rattle.helper.proofs.+size_of.{statement}
 use Rattle.helper.proofs.+size_of.Tie.{close}
 use borrow.Author.Tests.{not-false}
-use mathlib.Core.Path.{sym, ap, _∙_}
+use mathlib.Core.Path.{_≡_, sym, ap, _∙_}
 use native.Mathlib.Omega.{arith}
 use borrow.Author.Needs.{needs}
 use Prim.Native.Nat.{_+_, _-_, _≤_}
@@ -22,10 +22,11 @@ use mathlib.Core.List.{[]}
 use mathlib.Core.Logic.{⊎-elim}
 use Rattle.kinds.specs.Sheet.{kindAt, countAt, trees}
 use Rattle.kinds.specs.Size.{sizes}
+use Rattle.kinds.proofs.ListLaws.{whole}
 use Rattle.kinds.proofs.NodeLaws.{node-inner, child-count, node-child}
 use Rattle.helper.specs.Measure.{clip, holdingMeasured, fold, sizeAt}
 use Rattle.helper.proofs.SizeLaws.{clip-holding, join-unit}
-use Rattle.helper.proofs.NodeSizeLaws.{Gathered, gathered-end, gathered-node, gathered-within, gathered-turn, size-leaf, not-leaf, size-held, size-dropped, size-included, bits-fit, container-kind}
+use Rattle.helper.proofs.NodeSizeLaws.{Gathered, gathered-end, gathered-node, gathered-within, gathered-turn, gathered-code, gathered-inner, included, low-leaf, size-leaf, not-leaf, size-held, size-dropped, size-included, bits-fit, container-kind}
 
 abbrev μ-size-of : Measures 1 size-of-kinds.ps ℕ
 μ-size-of κs a = countAt (a .0 .now) (a .1 .0)
@@ -71,24 +72,33 @@ size-of-returns t c =
     let a = c .before .before .before .before .before .before .args in
     λ s. c .leaf-size .ensures ∙ sym (ap clip (size-leaf s (a .nodes .now) (a .at) (a .level) (sym (c .before .before .before .is-leaf .ensures) ∙ c .before .before .if1 .taken)))
 
+size-of-sub-size-of : (t : ℕ) → size-of-lts.Need-sub-size-of (size-of-claims t) (size-of-at t) size-of.Post size-of-Inv-loop size-of-μ-loop
+size-of-sub-size-of t c = search needs
+
+size-of-part-size-of-start : (t : ℕ) → size-of-lts.Need-part-size-of-start (size-of-claims t) (size-of-at t) size-of.Post size-of-Inv-loop size-of-μ-loop
+size-of-part-size-of-start t c = search needs
+
+size-of-part-size-of-end : (t : ℕ) → size-of-lts.Need-part-size-of-end (size-of-claims t) (size-of-at t) size-of.Post size-of-Inv-loop size-of-μ-loop
+size-of-part-size-of-end t c = search needs
+
 size-of-add-size-of : (t : ℕ) → size-of-lts.Need-add-size-of (size-of-claims t) (size-of-at t) size-of.Post size-of-Inv-loop size-of-μ-loop
 size-of-add-size-of t c = search needs
 
 size-of-level-below-requires : (t : ℕ) → size-of-lts.Need-level-below-requires (size-of-claims t) (size-of-at t) size-of.Post size-of-Inv-loop size-of-μ-loop
 size-of-level-below-requires t c κs =
-    let a = c .before .before .before .before .before .args in
-    let n = not-leaf (kindAt (a .nodes .now) (a .at)) (sym (c .before .before .is-leaf .ensures) ∙ c .before .if1 .left) in
+    let a = c .before .before .before .before .before .before .args in
+    let n = not-leaf (kindAt (a .nodes .now) (a .at)) (sym (c .before .before .before .is-leaf .ensures) ∙ c .before .before .if1 .left) in
     (omega arith, omega arith)
 
 size-of-size-of-requires : (t : ℕ) → size-of-lts.Need-size-of-requires (size-of-claims t) (size-of-at t) size-of.Post size-of-Inv-loop size-of-μ-loop
 size-of-size-of-requires t c κs =
-    let a = c .before .before .before .before .before .before .args in
-    let pre = c .before .before .before .before .before .before .pre in
-    let n = not-leaf (kindAt (a .nodes .now) (a .at)) (sym (c .before .before .before .is-leaf .ensures) ∙ c .before .before .if1 .left) in
+    let a = c .before .before .before .before .before .before .before .args in
+    let pre = c .before .before .before .before .before .before .before .pre in
+    let n = not-leaf (kindAt (a .nodes .now) (a .at)) (sym (c .before .before .before .before .is-leaf .ensures) ∙ c .before .before .before .if1 .left) in
     let lo : 25 ≤ kindAt (a .nodes .now) (a .at) = omega arith in
     let hi : kindAt (a .nodes .now) (a .at) ≤ 28 = omega arith in
     let k = child-count _ _ (pre .1) lo hi in
-    (omega arith, node-child _ _ (pre .1) lo hi)
+    rw whole (omega arith, node-child _ _ (pre .1) lo hi)
 
 size-of-add-held-by : (t : ℕ) → size-of-lts.Need-add-held-by (size-of-claims t) (size-of-at t) size-of.Post size-of-Inv-loop size-of-μ-loop
 size-of-add-held-by t c = search needs
@@ -113,18 +123,14 @@ size-of-held-by-requires t c κs = search needs
 
 size-of-returns-2 : (t : ℕ) → size-of-lts.Need-returns-2 (size-of-claims t) (size-of-at t) size-of.Post size-of-Inv-loop size-of-μ-loop
 size-of-returns-2 t c =
-    let a = c .before .before .before .before .before .before .before .before .before .before .args in
-    let pre = c .before .before .before .before .before .before .before .before .before .before .pre in
-    let is-leaf = c .before .before .before .before .before .before .before .is-leaf in
-    let if1 = c .before .before .before .before .before .before .if1 in
-    let level-below = c .before .before .before .before .level-below in
-    let n = not-leaf (kindAt (a .nodes .now) (a .at)) (sym (is-leaf .ensures) ∙ if1 .left) in
+    let a = c .before .before .before .before .before .before .before .before .before .before .before .args in
+    let pre = c .before .before .before .before .before .before .before .before .before .before .before .pre in
+    let n = not-leaf (kindAt (a .nodes .now) (a .at)) (sym (c .before .before .before .before .before .before .before .before .is-leaf .ensures) ∙ c .before .before .before .before .before .before .before .if1 .left) in
     let lo : 25 ≤ kindAt (a .nodes .now) (a .at) = omega arith in
     let hi : kindAt (a .nodes .now) (a .at) ≤ 28 = omega arith in
-    λ s. c .held-by .ensures ∙ ap (holdingMeasured _ _ _) (c .before .before .before .size-of .ensures s ∙ ap (λ v. clip (sizeAt s (a .nodes .now) (a .at + 4) v)) (level-below .ensures s _ _)) ∙ clip-holding _ _ _ _ (bits-fit _) ∙ sym (ap clip (size-held s (a .nodes .now) (a .at) (pre .1) lo hi (a .level) (n .2)))
+    λ s. c .held-by .ensures ∙ ap (holdingMeasured _ _ _) ((rw whole at (c .before .before .before .size-of .ensures s)) ∙ ap (λ v. clip (sizeAt s (a .nodes .now) (a .at + 4) v)) (c .before .before .before .before .level-below .ensures s _ _)) ∙ clip-holding _ _ _ _ (bits-fit _) ∙ sym (ap clip (size-held s (a .nodes .now) (a .at) (pre .1) lo hi (a .level) (n .2)))
 
-size-of-container-include-fields-requires :
-    (t : ℕ) → size-of-lts.Need-container-include-fields-requires (size-of-claims t) (size-of-at t) size-of.Post size-of-Inv-loop size-of-μ-loop
+size-of-container-include-fields-requires : (t : ℕ) → size-of-lts.Need-container-include-fields-requires (size-of-claims t) (size-of-at t) size-of.Post size-of-Inv-loop size-of-μ-loop
 size-of-container-include-fields-requires t c κs = search needs
 
 size-of-enum-known-inner : (t : ℕ) → size-of-lts.Need-enum-known-inner (size-of-claims t) (size-of-at t) size-of.Post size-of-Inv-loop size-of-μ-loop
@@ -137,9 +143,7 @@ size-of-returns-3 : (t : ℕ) → size-of-lts.Need-returns-3 (size-of-claims t) 
 unfolding clip
 size-of-returns-3 t c =
     let a = c .before .before .before .before .before .before .before .before .args in
-    let is-leaf = c .before .before .before .before .before .is-leaf in
-    let if1 = c .before .before .before .before .if1 in
-    let n = not-leaf (kindAt (a .nodes .now) (a .at)) (sym (is-leaf .ensures) ∙ if1 .left) in
+    let n = not-leaf (kindAt (a .nodes .now) (a .at)) (sym (c .before .before .before .before .before .is-leaf .ensures) ∙ c .before .before .before .before .if1 .left) in
     λ s. sym (ap clip (size-dropped s (a .nodes .now) (a .at) (a .level) (container-kind (kindAt (a .nodes .now) (a .at)) (omega arith) (omega arith)) (sym (c .before .before .container-include-fields .ensures) ∙ c .enum-told .given .1)))
 
 size-of-add-child : (t : ℕ) → size-of-lts.Need-add-child (size-of-claims t) (size-of-at t) size-of.Post size-of-Inv-loop size-of-μ-loop
@@ -174,94 +178,117 @@ size-of-shared-slice-read-field : (t : ℕ) → size-of-lts.Need-shared-slice-re
 size-of-shared-slice-read-field t c = let b = gathered-within (c .before .before .loop .inv .1) (c .before .loop-test .taken) in omega arith
 
 size-of-add-leaf-size-2 : (t : ℕ) → size-of-lts.Need-add-leaf-size-2 (size-of-claims t) (size-of-at t) size-of.Post size-of-Inv-loop size-of-μ-loop
-size-of-add-leaf-size-2 t c = let b = gathered-within (c .before .before .loop .inv .1) (c .before .loop-test .taken) in omega arith
+size-of-add-leaf-size-2 t c = let b = gathered-within (c .before .before .before .loop .inv .1) (c .before .before .loop-test .taken) in omega arith
 
 size-of-mul-leaf-size-2 : (t : ℕ) → size-of-lts.Need-mul-leaf-size-2 (size-of-claims t) (size-of-at t) size-of.Post size-of-Inv-loop size-of-μ-loop
-size-of-mul-leaf-size-2 t c = let b = gathered-within (c .before .before .loop .inv .1) (c .before .loop-test .taken) in omega arith
+size-of-mul-leaf-size-2 t c = let b = gathered-within (c .before .before .before .loop .inv .1) (c .before .before .loop-test .taken) in omega arith
 
 size-of-shared-slice-read-leaf-size-2 : (t : ℕ) → size-of-lts.Need-shared-slice-read-leaf-size-2 (size-of-claims t) (size-of-at t) size-of.Post size-of-Inv-loop size-of-μ-loop
-size-of-shared-slice-read-leaf-size-2 t c = let b = gathered-within (c .before .before .before .loop .inv .1) (c .before .before .loop-test .taken) in omega arith
+size-of-shared-slice-read-leaf-size-2 t c = let b = gathered-within (c .before .before .before .before .loop .inv .1) (c .before .before .before .loop-test .taken) in omega arith
 
 size-of-leaf-size-requires-2 : (t : ℕ) → size-of-lts.Need-leaf-size-requires-2 (size-of-claims t) (size-of-at t) size-of.Post size-of-Inv-loop size-of-μ-loop
 size-of-leaf-size-requires-2 t c κs = search needs
 
-size-of-is-leaf-requires-2 : (t : ℕ) → size-of-lts.Need-is-leaf-requires-2 (size-of-claims t) (size-of-at t) size-of.Post size-of-Inv-loop size-of-μ-loop
-size-of-is-leaf-requires-2 t c κs = search needs
-
-size-of-size-of-requires-2 : (t : ℕ) → size-of-lts.Need-size-of-requires-2 (size-of-claims t) (size-of-at t) size-of.Post size-of-Inv-loop size-of-μ-loop
-size-of-size-of-requires-2 t c κs =
-    let l = c .before .before .before .before .before .before .loop in
-    let test = c .before .before .before .before .before .loop-test in
-    let b = gathered-within (l .inv .1) (test .taken) in
-    (omega arith, gathered-node (l .inv .1) (test .taken))
-
 size-of-join-requires : (t : ℕ) → size-of-lts.Need-join-requires (size-of-claims t) (size-of-at t) size-of.Post size-of-Inv-loop size-of-μ-loop
 size-of-join-requires t c κs = search needs
 
+size-of-add-child-2 : (t : ℕ) → size-of-lts.Need-add-child-2 (size-of-claims t) (size-of-at t) size-of.Post size-of-Inv-loop size-of-μ-loop
+size-of-add-child-2 t c = let b = gathered-within (c .before .before .before .before .before .before .loop .inv .1) (c .before .before .before .before .before .loop-test .taken) in omega arith
+
+size-of-sub-left-2 : (t : ℕ) → size-of-lts.Need-sub-left-2 (size-of-claims t) (size-of-at t) size-of.Post size-of-Inv-loop size-of-μ-loop
+size-of-sub-left-2 t c = let b = gathered-within (c .before .before .before .before .before .before .loop .inv .1) (c .before .before .before .before .before .loop-test .taken) in omega arith
+
+size-of-loop-less : (t : ℕ) → size-of-lts.Need-loop-less (size-of-claims t) (size-of-at t) size-of.Post size-of-Inv-loop size-of-μ-loop
+size-of-loop-less t c = let b = gathered-within (c .before .before .before .before .before .before .loop .inv .1) (c .before .before .before .before .before .loop-test .taken) in omega arith
+
+size-of-loop-again : (t : ℕ) → size-of-lts.Need-loop-again (size-of-claims t) (size-of-at t) size-of.Post size-of-Inv-loop size-of-μ-loop
+size-of-loop-again t c =
+    let a = c .before .before .before .before .before .before .before .before .before .before .before .before .before .before .before .before .before .before .args in
+    let b = gathered-within (c .before .before .before .before .before .before .loop .inv .1) (c .before .before .before .before .before .loop-test .taken) in
+    let k : kindAt (a .nodes .now) (c .before .before .before .before .before .before .loop .child) < 25 = omega arith in
+    (omega arith, gathered-code (c .before .before .before .before .before .before .loop .inv .1) (c .before .before .before .before .before .loop-test .taken) k (c .before .leaf-size2 .result) (λ s. c .before .leaf-size2 .ensures ∙ sym (ap clip (size-leaf s (a .nodes .now) (c .before .before .before .before .before .before .loop .child) _ (low-leaf _ k)))) (c .join .ensures))
+
+size-of-add-child-3 : (t : ℕ) → size-of-lts.Need-add-child-3 (size-of-claims t) (size-of-at t) size-of.Post size-of-Inv-loop size-of-μ-loop
+size-of-add-child-3 t c = let b = gathered-within (c .before .before .before .before .loop .inv .1) (c .before .before .before .loop-test .taken) in omega arith
+
+size-of-sub-left-3 : (t : ℕ) → size-of-lts.Need-sub-left-3 (size-of-claims t) (size-of-at t) size-of.Post size-of-Inv-loop size-of-μ-loop
+size-of-sub-left-3 t c = let b = gathered-within (c .before .before .before .before .loop .inv .1) (c .before .before .before .loop-test .taken) in omega arith
+
+size-of-loop-less-2 : (t : ℕ) → size-of-lts.Need-loop-less-2 (size-of-claims t) (size-of-at t) size-of.Post size-of-Inv-loop size-of-μ-loop
+size-of-loop-less-2 t c = let b = gathered-within (c .before .before .before .before .loop .inv .1) (c .before .before .before .loop-test .taken) in omega arith
+
+size-of-loop-again-2 : (t : ℕ) → size-of-lts.Need-loop-again-2 (size-of-claims t) (size-of-at t) size-of.Post size-of-Inv-loop size-of-μ-loop
+size-of-loop-again-2 t c =
+    let a = c .before .before .before .before .before .before .before .before .before .before .before .before .before .before .before .before .args in
+    let n = not-leaf (kindAt (a .nodes .now) (a .at)) (sym (c .before .before .before .before .before .before .before .before .before .before .before .before .before .is-leaf .ensures) ∙ c .before .before .before .before .before .before .before .before .before .before .before .before .if1 .left) in
+    let b = gathered-within (c .before .before .before .before .loop .inv .1) (c .before .before .before .loop-test .taken) in
+    let k : kindAt (a .nodes .now) (c .before .before .before .before .loop .child) ≡ kindAt (a .nodes .now) (a .at) = omega arith in
+    (omega arith, gathered-inner (c .before .before .before .before .loop .inv .1) (c .before .before .before .loop-test .taken) (container-kind (kindAt (a .nodes .now) (a .at)) (omega arith) (omega arith)) k (included (a .level) _ (sym (c .before .before .before .before .before .before .before .before .before .before .container-include-fields .ensures) ∙ c .before .before .before .before .before .before .before .before .inner .given .1) .1))
+
+size-of-add-leaf-size-3 : (t : ℕ) → size-of-lts.Need-add-leaf-size-3 (size-of-claims t) (size-of-at t) size-of.Post size-of-Inv-loop size-of-μ-loop
+size-of-add-leaf-size-3 t c = let b = gathered-within (c .before .before .before .before .loop .inv .1) (c .before .before .before .loop-test .taken) in omega arith
+
+size-of-mul-leaf-size-3 : (t : ℕ) → size-of-lts.Need-mul-leaf-size-3 (size-of-claims t) (size-of-at t) size-of.Post size-of-Inv-loop size-of-μ-loop
+size-of-mul-leaf-size-3 t c = let b = gathered-within (c .before .before .before .before .loop .inv .1) (c .before .before .before .loop-test .taken) in omega arith
+
+size-of-shared-slice-read-leaf-size-3 : (t : ℕ) → size-of-lts.Need-shared-slice-read-leaf-size-3 (size-of-claims t) (size-of-at t) size-of.Post size-of-Inv-loop size-of-μ-loop
+size-of-shared-slice-read-leaf-size-3 t c = let b = gathered-within (c .before .before .before .before .before .loop .inv .1) (c .before .before .before .before .loop-test .taken) in omega arith
+
+size-of-leaf-size-requires-3 : (t : ℕ) → size-of-lts.Need-leaf-size-requires-3 (size-of-claims t) (size-of-at t) size-of.Post size-of-Inv-loop size-of-μ-loop
+size-of-leaf-size-requires-3 t c κs = search needs
+
+size-of-is-leaf-requires-2 : (t : ℕ) → size-of-lts.Need-is-leaf-requires-2 (size-of-claims t) (size-of-at t) size-of.Post size-of-Inv-loop size-of-μ-loop
+size-of-is-leaf-requires-2 t c κs = search needs
+
+size-of-sub-size-of-2 : (t : ℕ) → size-of-lts.Need-sub-size-of-2 (size-of-claims t) (size-of-at t) size-of.Post size-of-Inv-loop size-of-μ-loop
+size-of-sub-size-of-2 t c = search needs
+
+size-of-part-size-of-start-2 : (t : ℕ) → size-of-lts.Need-part-size-of-start-2 (size-of-claims t) (size-of-at t) size-of.Post size-of-Inv-loop size-of-μ-loop
+size-of-part-size-of-start-2 t c = search needs
+
+size-of-part-size-of-end-2 : (t : ℕ) → size-of-lts.Need-part-size-of-end-2 (size-of-claims t) (size-of-at t) size-of.Post size-of-Inv-loop size-of-μ-loop
+size-of-part-size-of-end-2 t c = search needs
+
+size-of-size-of-requires-2 : (t : ℕ) → size-of-lts.Need-size-of-requires-2 (size-of-claims t) (size-of-at t) size-of.Post size-of-Inv-loop size-of-μ-loop
+size-of-size-of-requires-2 t c κs =
+    let b = gathered-within (c .before .before .before .before .before .before .before .before .before .loop .inv .1) (c .before .before .before .before .before .before .before .before .loop-test .taken) in
+    rw whole (omega arith, gathered-node (c .before .before .before .before .before .before .before .before .before .loop .inv .1) (c .before .before .before .before .before .before .before .before .loop-test .taken))
+
+size-of-join-requires-2 : (t : ℕ) → size-of-lts.Need-join-requires-2 (size-of-claims t) (size-of-at t) size-of.Post size-of-Inv-loop size-of-μ-loop
+size-of-join-requires-2 t c κs = search needs
+
 size-of-add-count : (t : ℕ) → size-of-lts.Need-add-count (size-of-claims t) (size-of-at t) size-of.Post size-of-Inv-loop size-of-μ-loop
-size-of-add-count t c =
-    let l = c .before .before .before .before .before .before .before .loop in
-    let test = c .before .before .before .before .before .before .loop-test in
-    let b = gathered-within (l .inv .1) (test .taken) in
-    omega arith
+size-of-add-count t c = let b = gathered-within (c .before .before .before .before .before .before .before .before .before .loop .inv .1) (c .before .before .before .before .before .before .before .before .loop-test .taken) in omega arith
 
 size-of-mul-count : (t : ℕ) → size-of-lts.Need-mul-count (size-of-claims t) (size-of-at t) size-of.Post size-of-Inv-loop size-of-μ-loop
 size-of-mul-count t c = search needs
 
 size-of-shared-slice-read-count : (t : ℕ) → size-of-lts.Need-shared-slice-read-count (size-of-claims t) (size-of-at t) size-of.Post size-of-Inv-loop size-of-μ-loop
-size-of-shared-slice-read-count t c =
-    let l = c .before .before .before .before .before .before .before .before .loop in
-    let test = c .before .before .before .before .before .before .before .loop-test in
-    let b = gathered-within (l .inv .1) (test .taken) in
-    omega arith
+size-of-shared-slice-read-count t c = let b = gathered-within (c .before .before .before .before .before .before .before .before .before .before .loop .inv .1) (c .before .before .before .before .before .before .before .before .before .loop-test .taken) in omega arith
 
 size-of-mul-child : (t : ℕ) → size-of-lts.Need-mul-child (size-of-claims t) (size-of-at t) size-of.Post size-of-Inv-loop size-of-μ-loop
-size-of-mul-child t c =
-    let l = c .before .before .before .before .before .before .before .before .loop in
-    let test = c .before .before .before .before .before .before .before .loop-test in
-    let b = gathered-within (l .inv .1) (test .taken) in
-    omega arith
+size-of-mul-child t c = let b = gathered-within (c .before .before .before .before .before .before .before .before .before .before .loop .inv .1) (c .before .before .before .before .before .before .before .before .before .loop-test .taken) in omega arith
 
-size-of-add-child-2 : (t : ℕ) → size-of-lts.Need-add-child-2 (size-of-claims t) (size-of-at t) size-of.Post size-of-Inv-loop size-of-μ-loop
-size-of-add-child-2 t c =
-    let l = c .before .before .before .before .before .before .before .before .loop in
-    let test = c .before .before .before .before .before .before .before .loop-test in
-    let b = gathered-within (l .inv .1) (test .taken) in
-    omega arith
+size-of-add-child-4 : (t : ℕ) → size-of-lts.Need-add-child-4 (size-of-claims t) (size-of-at t) size-of.Post size-of-Inv-loop size-of-μ-loop
+size-of-add-child-4 t c = let b = gathered-within (c .before .before .before .before .before .before .before .before .before .before .loop .inv .1) (c .before .before .before .before .before .before .before .before .before .loop-test .taken) in omega arith
 
-size-of-sub-left-2 : (t : ℕ) → size-of-lts.Need-sub-left-2 (size-of-claims t) (size-of-at t) size-of.Post size-of-Inv-loop size-of-μ-loop
-size-of-sub-left-2 t c =
-    let l = c .before .before .before .before .before .before .before .before .loop in
-    let test = c .before .before .before .before .before .before .before .loop-test in
-    let b = gathered-within (l .inv .1) (test .taken) in
-    omega arith
+size-of-sub-left-4 : (t : ℕ) → size-of-lts.Need-sub-left-4 (size-of-claims t) (size-of-at t) size-of.Post size-of-Inv-loop size-of-μ-loop
+size-of-sub-left-4 t c = let b = gathered-within (c .before .before .before .before .before .before .before .before .before .before .loop .inv .1) (c .before .before .before .before .before .before .before .before .before .loop-test .taken) in omega arith
 
-size-of-loop-less : (t : ℕ) → size-of-lts.Need-loop-less (size-of-claims t) (size-of-at t) size-of.Post size-of-Inv-loop size-of-μ-loop
-size-of-loop-less t c =
-    let l = c .before .before .before .before .before .before .before .before .loop in
-    let test = c .before .before .before .before .before .before .before .loop-test in
-    let b = gathered-within (l .inv .1) (test .taken) in
-    omega arith
+size-of-loop-less-3 : (t : ℕ) → size-of-lts.Need-loop-less-3 (size-of-claims t) (size-of-at t) size-of.Post size-of-Inv-loop size-of-μ-loop
+size-of-loop-less-3 t c = let b = gathered-within (c .before .before .before .before .before .before .before .before .before .before .loop .inv .1) (c .before .before .before .before .before .before .before .before .before .loop-test .taken) in omega arith
 
-size-of-loop-again : (t : ℕ) → size-of-lts.Need-loop-again (size-of-claims t) (size-of-at t) size-of.Post size-of-Inv-loop size-of-μ-loop
-size-of-loop-again t c =
-    let a = c .before .before .before .before .before .before .before .before .before .before .before .before .before .before .before .before .before .before .before .before .args in
-    let l = c .before .before .before .before .before .before .before .before .loop in
-    let test = c .before .before .before .before .before .before .before .loop-test in
-    let leaf-size2 = c .before .before .before .before .leaf-size2 in
-    let if3 = c .before .before .if3 in
-    let b = gathered-within (l .inv .1) (test .taken) in
-    (omega arith, gathered-turn (l .inv .1) (test .taken) (if3 .item) (λ s. ⊎-elim (λ j. j .2 ∙ j .1 .ensures s) (λ j. j .1 ∙ leaf-size2 .ensures ∙ sym (ap clip (size-leaf s (a .nodes .now) (l .child) _ (sym (c .before .before .before .is-leaf2 .ensures) ∙ not-false _ (j .0 .left))))) (if3 .came)) (c .before .join .ensures))
+size-of-loop-again-3 : (t : ℕ) → size-of-lts.Need-loop-again-3 (size-of-claims t) (size-of-at t) size-of.Post size-of-Inv-loop size-of-μ-loop
+size-of-loop-again-3 t c =
+    let a = c .before .before .before .before .before .before .before .before .before .before .before .before .before .before .before .before .before .before .before .before .before .before .args in
+    let b = gathered-within (c .before .before .before .before .before .before .before .before .before .before .loop .inv .1) (c .before .before .before .before .before .before .before .before .before .loop-test .taken) in
+    (omega arith, gathered-turn (c .before .before .before .before .before .before .before .before .before .before .loop .inv .1) (c .before .before .before .before .before .before .before .before .before .loop-test .taken) (c .before .before .if5 .item) (λ s. ⊎-elim (λ j. j .3 ∙ (rw whole at (j .2 .ensures s))) (λ j. j .1 ∙ c .before .before .before .before .leaf-size3 .ensures ∙ sym (ap clip (size-leaf s (a .nodes .now) (c .before .before .before .before .before .before .before .before .before .before .loop .child) _ (sym (c .before .before .before .is-leaf2 .ensures) ∙ not-false _ (j .0 .left))))) (c .before .before .if5 .came)) (c .before .join2 .ensures))
 
 size-of-returns-4 : (t : ℕ) → size-of-lts.Need-returns-4 (size-of-claims t) (size-of-at t) size-of.Post size-of-Inv-loop size-of-μ-loop
 size-of-returns-4 t c =
     let a = c .before .before .before .before .before .before .before .before .before .before .before .before .before .args in
-    let is-leaf = c .before .before .before .before .before .before .before .before .before .before .is-leaf in
-    let if1 = c .before .before .before .before .before .before .before .before .before .if1 in
-    let fields = c .before .before .before .before .before .before .before .container-include-fields in
-    let inner = c .before .before .before .before .before .inner in
-    let n = not-leaf (kindAt (a .nodes .now) (a .at)) (sym (is-leaf .ensures) ∙ if1 .left) in
-    λ s. gathered-end (c .before .loop .inv .1) (c .loop-test .left) s ∙ ap clip (size-included s (a .nodes .now) (a .at) (a .level) (container-kind (kindAt (a .nodes .now) (a .at)) (omega arith) (omega arith)) _ (sym (fields .ensures) ∙ inner .given .1))
+    let n = not-leaf (kindAt (a .nodes .now) (a .at)) (sym (c .before .before .before .before .before .before .before .before .before .before .is-leaf .ensures) ∙ c .before .before .before .before .before .before .before .before .before .if1 .left) in
+    λ s. gathered-end (c .before .loop .inv .1) (c .loop-test .left) s ∙ ap clip (size-included s (a .nodes .now) (a .at) (a .level) (container-kind (kindAt (a .nodes .now) (a .at)) (omega arith) (omega arith)) _ (sym (c .before .before .before .before .before .before .before .container-include-fields .ensures) ∙ c .before .before .before .before .before .inner .given .1))
 
 pub +size-of-spec : {M : Type 1} → statement M
 +size-of-spec = close μ-size-of λ t. size-of-lts.spec (size-of-claims t)
@@ -277,6 +304,9 @@ pub +size-of-spec : {M : Type 1} → statement M
     (size-of-shared-slice-read-leaf-size t)
     (size-of-leaf-size-requires t)
     (size-of-returns t)
+    (size-of-sub-size-of t)
+    (size-of-part-size-of-start t)
+    (size-of-part-size-of-end t)
     (size-of-add-size-of t)
     (size-of-level-below-requires t)
     (size-of-size-of-requires t)
@@ -305,15 +335,31 @@ pub +size-of-spec : {M : Type 1} → statement M
     (size-of-mul-leaf-size-2 t)
     (size-of-shared-slice-read-leaf-size-2 t)
     (size-of-leaf-size-requires-2 t)
-    (size-of-is-leaf-requires-2 t)
-    (size-of-size-of-requires-2 t)
     (size-of-join-requires t)
-    (size-of-add-count t)
-    (size-of-mul-count t)
-    (size-of-shared-slice-read-count t)
-    (size-of-mul-child t)
     (size-of-add-child-2 t)
     (size-of-sub-left-2 t)
     (size-of-loop-less t)
     (size-of-loop-again t)
+    (size-of-add-child-3 t)
+    (size-of-sub-left-3 t)
+    (size-of-loop-less-2 t)
+    (size-of-loop-again-2 t)
+    (size-of-add-leaf-size-3 t)
+    (size-of-mul-leaf-size-3 t)
+    (size-of-shared-slice-read-leaf-size-3 t)
+    (size-of-leaf-size-requires-3 t)
+    (size-of-is-leaf-requires-2 t)
+    (size-of-sub-size-of-2 t)
+    (size-of-part-size-of-start-2 t)
+    (size-of-part-size-of-end-2 t)
+    (size-of-size-of-requires-2 t)
+    (size-of-join-requires-2 t)
+    (size-of-add-count t)
+    (size-of-mul-count t)
+    (size-of-shared-slice-read-count t)
+    (size-of-mul-child t)
+    (size-of-add-child-4 t)
+    (size-of-sub-left-4 t)
+    (size-of-loop-less-3 t)
+    (size-of-loop-again-3 t)
     (size-of-returns-4 t)

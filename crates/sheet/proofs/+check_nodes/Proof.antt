@@ -6,15 +6,16 @@ use mathlib.Core.List.{List}
 use borrow.Author.Needs.{needs}
 use borrow.Fn.Kinds.{In}
 use borrow.Fn.PlainCycle.{Measures, is, falls, and}
-use Rattle.kinds.specs.Sheet.{kindAt, isContainerKind}
+use Rattle.kinds.proofs.ListLaws.{whole}
+use Rattle.kinds.specs.Sheet.{kindAt, countAt, isContainerKind}
 use Rattle.sheet.specs.Walked.{walked, nodeFits}
 use Rattle.sheet.proofs.TestLaws.{passed, failed}
-use Rattle.sheet.proofs.WalkLaws.{Container, container-says, walked-bad, walked-plain, walked-broken, walked-next, walked-none, walked-le}
+use Rattle.sheet.proofs.WalkLaws.{Container, container-says, walked-bad, walked-plain, walked-last, walked-broken, walked-next, walked-none, walked-le}
 use Rattle.sheet.proofs.check_nodes.Reads as check-nodes
 use Rattle.sheet.proofs.check_nodes.Kinds as check-nodes-kinds
 use Rattle.sheet.proofs.+check_nodes.Lts-check_nodes as check-nodes-lts
 use Rattle.sheet.proofs.container_ok.Reads as container-ok-reads
-use Rattle.sheet.proofs.is_container.Reads as is-container-reads
+use Rattle.kinds.proofs.is_container.Reads as is-container-reads
 use Rattle.sheet.proofs.name_good.Reads as name-good-reads
 use Rattle.sheet.proofs.plain_ok.Reads as plain-ok-reads
 use Rattle.sheet.proofs.+check_nodes.{statement}
@@ -128,17 +129,47 @@ check-nodes-shared-slice-read-count t c = search needs
 check-nodes-name-good-requires : (t : ℕ) → check-nodes-lts.Need-name-good-requires (claims t) (check-nodes-at t) check-nodes.Post check-nodes-Inv-loop check-nodes-μ-loop
 check-nodes-name-good-requires t c κs = let k = container t (c .before .before) in omega arith
 
+check-nodes-add-name : (t : ℕ) → check-nodes-lts.Need-add-name (claims t) (check-nodes-at t) check-nodes.Post check-nodes-Inv-loop check-nodes-μ-loop
+check-nodes-add-name t c = let k = container t (c .before .before .before) in record { fits = omega arith }
+
+check-nodes-add-at-2 : (t : ℕ) → check-nodes-lts.Need-add-at-2 (claims t) (check-nodes-at t) check-nodes.Post check-nodes-Inv-loop check-nodes-μ-loop
+check-nodes-add-at-2 t c = search needs
+
+check-nodes-sub-left-2 : (t : ℕ) → check-nodes-lts.Need-sub-left-2 (claims t) (check-nodes-at t) check-nodes.Post check-nodes-Inv-loop check-nodes-μ-loop
+check-nodes-sub-left-2 t c = search needs
+
+check-nodes-loop-less-2 : (t : ℕ) → check-nodes-lts.Need-loop-less-2 (claims t) (check-nodes-at t) check-nodes.Post check-nodes-Inv-loop check-nodes-μ-loop
+check-nodes-loop-less-2 t c = search needs
+
+check-nodes-loop-again-2 : (t : ℕ) → check-nodes-lts.Need-loop-again-2 (claims t) (check-nodes-at t) check-nodes.Post check-nodes-Inv-loop check-nodes-μ-loop
+check-nodes-loop-again-2 t c = let b = c .before .before .before .before in let k = container t b in let d : countAt (nodes t b) (looped t b .loop .at) ≡ looped t b .loop .left = omega arith in (omega arith, omega arith, omega arith, looped t b .loop .inv .3 ∙ walked-last _ _ _ _ _ _ _ (b .before .before .before .before .before .loop-test .taken) (fits t b) (kind t b) d _ (c .before .name-good .ensures))
+
+check-nodes-sub-check-nodes : (t : ℕ) → check-nodes-lts.Need-sub-check-nodes (claims t) (check-nodes-at t) check-nodes.Post check-nodes-Inv-loop check-nodes-μ-loop
+check-nodes-sub-check-nodes t c = search needs
+
+check-nodes-part-check-nodes-start : (t : ℕ) → check-nodes-lts.Need-part-check-nodes-start (claims t) (check-nodes-at t) check-nodes.Post check-nodes-Inv-loop check-nodes-μ-loop
+check-nodes-part-check-nodes-start t c = search needs
+
+check-nodes-part-check-nodes-end : (t : ℕ) → check-nodes-lts.Need-part-check-nodes-end (claims t) (check-nodes-at t) check-nodes.Post check-nodes-Inv-loop check-nodes-μ-loop
+check-nodes-part-check-nodes-end t c = search needs
+
+check-nodes-sub-check-nodes-2 : (t : ℕ) → check-nodes-lts.Need-sub-check-nodes-2 (claims t) (check-nodes-at t) check-nodes.Post check-nodes-Inv-loop check-nodes-μ-loop
+check-nodes-sub-check-nodes-2 t c = search needs
+
+check-nodes-part-check-nodes-start-2 : (t : ℕ) → check-nodes-lts.Need-part-check-nodes-start-2 (claims t) (check-nodes-at t) check-nodes.Post check-nodes-Inv-loop check-nodes-μ-loop
+check-nodes-part-check-nodes-start-2 t c = search needs
+
+check-nodes-part-check-nodes-end-2 : (t : ℕ) → check-nodes-lts.Need-part-check-nodes-end-2 (claims t) (check-nodes-at t) check-nodes.Post check-nodes-Inv-loop check-nodes-μ-loop
+check-nodes-part-check-nodes-end-2 t c = search needs
+
 check-nodes-add-check-nodes : (t : ℕ) → check-nodes-lts.Need-add-check-nodes (claims t) (check-nodes-at t) check-nodes.Post check-nodes-Inv-loop check-nodes-μ-loop
 check-nodes-add-check-nodes t c = search needs
 
-check-nodes-sub-check-nodes : (t : ℕ) → check-nodes-lts.Need-sub-check-nodes (claims t) (check-nodes-at t) check-nodes.Post check-nodes-Inv-loop check-nodes-μ-loop
-check-nodes-sub-check-nodes t c = let k = container t (c .before .before .before) in omega arith
-
-check-nodes-add-check-nodes-2 : (t : ℕ) → check-nodes-lts.Need-add-check-nodes-2 (claims t) (check-nodes-at t) check-nodes.Post check-nodes-Inv-loop check-nodes-μ-loop
-check-nodes-add-check-nodes-2 t c = let k = container t (c .before .before .before) in record { fits = omega arith }
+check-nodes-sub-check-nodes-3 : (t : ℕ) → check-nodes-lts.Need-sub-check-nodes-3 (claims t) (check-nodes-at t) check-nodes.Post check-nodes-Inv-loop check-nodes-μ-loop
+check-nodes-sub-check-nodes-3 t c = let k = container t (c .before .before .before .before .before .before) in omega arith
 
 check-nodes-check-nodes-requires : (t : ℕ) → check-nodes-lts.Need-check-nodes-requires (claims t) (check-nodes-at t) check-nodes.Post check-nodes-Inv-loop check-nodes-μ-loop
-check-nodes-check-nodes-requires t c κs = let k = container t (c .before .before .before) in (omega arith, (omega arith, omega arith, omega arith))
+check-nodes-check-nodes-requires t c κs = let b = c .before .before .before .before .before .before in let k = container t b in (omega arith, (rw whole (omega arith), omega arith, rw whole (omega arith)))
 
 check-nodes-enum-known-inner : (t : ℕ) → check-nodes-lts.Need-enum-known-inner (claims t) (check-nodes-at t) check-nodes.Post check-nodes-Inv-loop check-nodes-μ-loop
 check-nodes-enum-known-inner t c = search needs
@@ -147,22 +178,22 @@ check-nodes-enum-told : (t : ℕ) → check-nodes-lts.Need-enum-told (claims t) 
 check-nodes-enum-told t c = search needs
 
 check-nodes-returns-3 : (t : ℕ) → check-nodes-lts.Need-returns-3 (claims t) (check-nodes-at t) check-nodes.Post check-nodes-Inv-loop check-nodes-μ-loop
-check-nodes-returns-3 t c = let b = c .before .before .before .before .before .before in sym (looped t b .loop .inv .3 ∙ walked-broken _ _ _ _ _ _ _ (b .before .before .before .before .before .loop-test .taken) (fits t b) (kind t b) _ (c .before .before .before .name-good .ensures) _ (c .before .before .check-nodes .ensures) (c .enum-told .given .1))
+check-nodes-returns-3 t c = let b = c .before .before .before .before .before .before .before .before .before in sym (looped t b .loop .inv .3 ∙ walked-broken _ _ _ _ _ _ _ (b .before .before .before .before .before .loop-test .taken) (fits t b) (kind t b) _ (c .before .before .before .before .before .before .name-good .ensures) _ (rw (whole, whole) at (c .before .before .check-nodes .ensures)) (c .enum-told .given .1))
 
 check-nodes-mul-at : (t : ℕ) → check-nodes-lts.Need-mul-at (claims t) (check-nodes-at t) check-nodes.Post check-nodes-Inv-loop check-nodes-μ-loop
-check-nodes-mul-at t c = let k = container t (c .before .before .before .before .before .before .before) in search needs
+check-nodes-mul-at t c = let k = container t (c .before .before .before .before .before .before .before .before .before .before) in search needs
 
-check-nodes-add-at-2 : (t : ℕ) → check-nodes-lts.Need-add-at-2 (claims t) (check-nodes-at t) check-nodes.Post check-nodes-Inv-loop check-nodes-μ-loop
-check-nodes-add-at-2 t c = let k = container t (c .before .before .before .before .before .before .before) in search needs
+check-nodes-add-at-3 : (t : ℕ) → check-nodes-lts.Need-add-at-3 (claims t) (check-nodes-at t) check-nodes.Post check-nodes-Inv-loop check-nodes-μ-loop
+check-nodes-add-at-3 t c = let k = container t (c .before .before .before .before .before .before .before .before .before .before) in search needs
 
-check-nodes-sub-left-2 : (t : ℕ) → check-nodes-lts.Need-sub-left-2 (claims t) (check-nodes-at t) check-nodes.Post check-nodes-Inv-loop check-nodes-μ-loop
-check-nodes-sub-left-2 t c = let k = container t (c .before .before .before .before .before .before .before) in omega arith
+check-nodes-sub-left-3 : (t : ℕ) → check-nodes-lts.Need-sub-left-3 (claims t) (check-nodes-at t) check-nodes.Post check-nodes-Inv-loop check-nodes-μ-loop
+check-nodes-sub-left-3 t c = let k = container t (c .before .before .before .before .before .before .before .before .before .before) in omega arith
 
-check-nodes-loop-less-2 : (t : ℕ) → check-nodes-lts.Need-loop-less-2 (claims t) (check-nodes-at t) check-nodes.Post check-nodes-Inv-loop check-nodes-μ-loop
-check-nodes-loop-less-2 t c = let k = container t (c .before .before .before .before .before .before .before) in omega arith
+check-nodes-loop-less-3 : (t : ℕ) → check-nodes-lts.Need-loop-less-3 (claims t) (check-nodes-at t) check-nodes.Post check-nodes-Inv-loop check-nodes-μ-loop
+check-nodes-loop-less-3 t c = let k = container t (c .before .before .before .before .before .before .before .before .before .before) in omega arith
 
-check-nodes-loop-again-2 : (t : ℕ) → check-nodes-lts.Need-loop-again-2 (claims t) (check-nodes-at t) check-nodes.Post check-nodes-Inv-loop check-nodes-μ-loop
-check-nodes-loop-again-2 t c = let b = c .before .before .before .before .before .before .before in let k = container t b in (omega arith, omega arith, walked-le _ _ _ _ _ _ _ _ _ (k .name-fits) (sym (c .before .inner .given .1) ∙ c .before .before .before .check-nodes .ensures), looped t b .loop .inv .3 ∙ walked-next _ _ _ _ _ _ _ (b .before .before .before .before .before .loop-test .taken) (fits t b) (kind t b) _ (c .before .before .before .before .name-good .ensures) _ (c .before .before .before .check-nodes .ensures) _ _ (c .before .inner .given .1))
+check-nodes-loop-again-3 : (t : ℕ) → check-nodes-lts.Need-loop-again-3 (claims t) (check-nodes-at t) check-nodes.Post check-nodes-Inv-loop check-nodes-μ-loop
+check-nodes-loop-again-3 t c = let b = c .before .before .before .before .before .before .before .before .before .before in let k = container t b in (omega arith, omega arith, walked-le _ _ _ _ _ _ _ _ _ (k .name-fits) (sym (c .before .inner .given .1) ∙ c .before .before .before .check-nodes .ensures), looped t b .loop .inv .3 ∙ walked-next _ _ _ _ _ _ _ (b .before .before .before .before .before .loop-test .taken) (fits t b) (kind t b) _ (c .before .before .before .before .before .before .before .name-good .ensures) _ (rw (whole, whole) at (c .before .before .before .check-nodes .ensures)) _ _ (c .before .inner .given .1))
 
 check-nodes-returns-4 : (t : ℕ) → check-nodes-lts.Need-returns-4 (claims t) (check-nodes-at t) check-nodes.Post check-nodes-Inv-loop check-nodes-μ-loop
 check-nodes-returns-4 t c = sym (c .before .loop .inv .3 ∙ walked-none _ _ _ _ _ _ _ (c .loop-test .left))
@@ -192,16 +223,26 @@ pub +check-nodes-spec : {M : Type 1} → statement M
     (check-nodes-mul-count t)
     (check-nodes-shared-slice-read-count t)
     (check-nodes-name-good-requires t)
-    (check-nodes-add-check-nodes t)
+    (check-nodes-add-name t)
+    (check-nodes-add-at-2 t)
+    (check-nodes-sub-left-2 t)
+    (check-nodes-loop-less-2 t)
+    (check-nodes-loop-again-2 t)
     (check-nodes-sub-check-nodes t)
-    (check-nodes-add-check-nodes-2 t)
+    (check-nodes-part-check-nodes-start t)
+    (check-nodes-part-check-nodes-end t)
+    (check-nodes-sub-check-nodes-2 t)
+    (check-nodes-part-check-nodes-start-2 t)
+    (check-nodes-part-check-nodes-end-2 t)
+    (check-nodes-add-check-nodes t)
+    (check-nodes-sub-check-nodes-3 t)
     (check-nodes-check-nodes-requires t)
     (check-nodes-enum-known-inner t)
     (check-nodes-enum-told t)
     (check-nodes-returns-3 t)
     (check-nodes-mul-at t)
-    (check-nodes-add-at-2 t)
-    (check-nodes-sub-left-2 t)
-    (check-nodes-loop-less-2 t)
-    (check-nodes-loop-again-2 t)
+    (check-nodes-add-at-3 t)
+    (check-nodes-sub-left-3 t)
+    (check-nodes-loop-less-3 t)
+    (check-nodes-loop-again-3 t)
     (check-nodes-returns-4 t)
