@@ -11,7 +11,7 @@ ghost use Rattle.kinds.specs.Primitive.{codeBytes};
 ghost use Rattle.kinds.specs.Sheet.{kindAt, countAt, isContainerKind, labelAt, trees};
 ghost use Rattle.kinds.specs.Tree.{isEnd};
 ghost use Rattle.kinds.specs.Walk.{NodeAt, TreesAt, KindAndName, KindsAndNames};
-ghost use Rattle.expect.specs.Agree.{ExpectedIs, expectAt, containerOf, anyObject, expectLeaf, openingByte, opening, closing, afterName, InText, OpenedIs, indirectionOf, isIndirection, codeByte, ownByte, levelAfter, OpenedAt};
+ghost use Rattle.expect.specs.Agree.{ExpectedIs, containerOf, anyObject, expectLeaf, openingByte, opening, closing, afterName, InText, OpenedIs, indirectionOf, isIndirection, codeByte, ownByte, levelAfter, OpenedAt};
 ghost use Rattle.expect.specs.Encoding.{compared};
 use kinds::Code;
 use kinds::ContainerKind;
@@ -447,20 +447,13 @@ fn expect_fields(
             continue;
         }
         let count = nodes[at + 3] as usize;
+        let m = count - 1;
         let after = match open_node(nodes, names, at, here, text, place) {
             Opened::Mismatch => Expected::Mismatch,
             Opened::Taken(to) => Expected::Remaining(to),
             Opened::Fields(to, inner) => {
-                let fields = expect_fields(
-                    &nodes[0..],
-                    &names[0..],
-                    at + 4,
-                    count - 1,
-                    inner,
-                    &text[0..],
-                    to,
-                );
-                close_node(fields, kind, nodes[at + 2], text)
+                let all = expect_fields(&nodes[0..], &names[0..], at + 4, m, inner, &text[0..], to);
+                close_node(all, kind, nodes[at + 2], text)
             }
         };
         let Expected::Remaining(next) = after else {

@@ -1,8 +1,8 @@
 use Prim.Native.Nat.{ℕ, _+_, _-_, _≤_, _<_}
-use mathlib.Core.Path.{refl, sym, _∙_}
+use mathlib.Core.Path.{sym, _∙_}
 use mathlib.Core.Logic.{⊎-elim}
 use native.Mathlib.Omega.{arith}
-use lib.ListN.{length, drop}
+use lib.ListN.{drop}
 use borrow.Author.Needs.{needs}
 use borrow.Fn.Kinds.{In}
 use borrow.Fn.PlainCycle.{Measures, is, falls, and}
@@ -49,6 +49,17 @@ expect-fields-Inv-loop nodes names from n level text start at₀ left₀ place�
 abbrev expect-fields-μ-loop : expect-fields-lts.MeasureT-loop
 expect-fields-μ-loop nodes names from n level text start at₀ left₀ place₀ here₀ at left place here = left
 
+-- The node at hand, whichever way the arms of its opening met.
+after-is : (t : ℕ) (c : expect-fields-lts.At-match2-came (expect-fields-claims t) (expect-fields-at t) expect-fields.Post expect-fields-Inv-loop expect-fields-μ-loop)
+    → let a = c .before .before .before .before .before .before .before .before .before .before .before .args in let l = c .before .before .before .before .before .before .before .loop in ExpectedIs (a .text .now) (c .match2 .after) (expectAt (a .names .now) (a .nodes .now) (l .at) (l .here) (drop (l .place) (a .text .now)))
+after-is t c =
+    let a = c .before .before .before .before .before .before .before .before .before .before .before .args in
+    let l = c .before .before .before .before .before .before .before .loop in
+    ⊎-elim (λ i. after-off (a .names .now) (a .nodes .now) (l .at) (l .here) (a .text .now) (l .place) (c .before .open-node .result) (c .before .open-node .ensures) (c .match2 .after) (i .1 .given .1) (i .2))
+    (⊎-elim (λ i. after-whole (a .names .now) (a .nodes .now) (l .at) (l .here) (a .text .now) (l .place) (c .before .open-node .result) (c .before .open-node .ensures) (c .match2 .after) (i .1 .given .0 .0) (i .1 .given .1) (i .3))
+    (λ i. after-fields (a .names .now) (a .nodes .now) (l .at) (l .here) (a .text .now) (l .place) (c .before .open-node .result) (c .before .open-node .ensures) (c .match2 .after) (i .1 .given .0 .0) (i .1 .given .0 .1 .0) (i .1 .given .1) (i .6 .result) (i .8 .result)
+    (lent-fields (a .names .now) (a .nodes .now) _ (a .text .now) (countAt (a .nodes .now) (l .at) - 1) (l .at + 4) (i .1 .given .0 .0) (rest (a .nodes .now) 0) (i .1 .given .0 .1 .0) (i .6 .result) (i .6 .ensures)) (i .8 .ensures) (i .9))) (c .match2 .came)
+
 expect-fields-loop-holds : (t : ℕ) → expect-fields-lts.Need-loop-holds (expect-fields-claims t) (expect-fields-at t) expect-fields.Post expect-fields-Inv-loop expect-fields-μ-loop
 expect-fields-loop-holds t c =
     let pre = c .before .before .before .pre .1 in
@@ -63,7 +74,6 @@ expect-fields-mul-kind t c =
 expect-fields-shared-slice-read-kind : (t : ℕ) → expect-fields-lts.Need-shared-slice-read-kind (expect-fields-claims t) (expect-fields-at t) expect-fields.Post expect-fields-Inv-loop expect-fields-μ-loop
 expect-fields-shared-slice-read-kind t c =
     let b = left-bounds (c .before .before .loop .inv .1) (c .before .loop-test .taken) in
-    let g = c .before .before .before .before .before .before .good .0 in
     omega arith
 
 expect-fields-own-byte-requires : (t : ℕ) → expect-fields-lts.Need-own-byte-requires (expect-fields-claims t) (expect-fields-at t) expect-fields.Post expect-fields-Inv-loop expect-fields-μ-loop
@@ -94,7 +104,6 @@ expect-fields-add-at t c =
 expect-fields-sub-left : (t : ℕ) → expect-fields-lts.Need-sub-left (expect-fields-claims t) (expect-fields-at t) expect-fields.Post expect-fields-Inv-loop expect-fields-μ-loop
 expect-fields-sub-left t c =
     let b = left-bounds (c .before .before .before .before .before .before .before .before .loop .inv .1) (c .before .before .before .before .before .before .before .loop-test .taken) in
-    let g = c .before .before .before .before .before .before .before .before .before .before .before .before .good .0 in
     omega arith
 
 expect-fields-level-after-requires : (t : ℕ) → expect-fields-lts.Need-level-after-requires (expect-fields-claims t) (expect-fields-at t) expect-fields.Post expect-fields-Inv-loop expect-fields-μ-loop
@@ -103,7 +112,6 @@ expect-fields-level-after-requires t c κs = search needs
 expect-fields-loop-less : (t : ℕ) → expect-fields-lts.Need-loop-less (expect-fields-claims t) (expect-fields-at t) expect-fields.Post expect-fields-Inv-loop expect-fields-μ-loop
 expect-fields-loop-less t c =
     let b = left-bounds (c .before .before .before .before .before .before .before .before .before .loop .inv .1) (c .before .before .before .before .before .before .before .before .loop-test .taken) in
-    let g = c .before .before .before .before .before .before .before .before .before .before .before .before .before .good .0 in
     omega arith
 
 expect-fields-loop-again : (t : ℕ) → expect-fields-lts.Need-loop-again (expect-fields-claims t) (expect-fields-at t) expect-fields.Post expect-fields-Inv-loop expect-fields-μ-loop
@@ -128,7 +136,11 @@ expect-fields-mul-count t c =
 expect-fields-shared-slice-read-count : (t : ℕ) → expect-fields-lts.Need-shared-slice-read-count (expect-fields-claims t) (expect-fields-at t) expect-fields.Post expect-fields-Inv-loop expect-fields-μ-loop
 expect-fields-shared-slice-read-count t c =
     let b = left-bounds (c .before .before .before .before .before .loop .inv .1) (c .before .before .before .before .loop-test .taken) in
-    let g = c .before .before .before .before .before .before .before .before .before .good .0 in
+    omega arith
+
+expect-fields-sub-m : (t : ℕ) → expect-fields-lts.Need-sub-m (expect-fields-claims t) (expect-fields-at t) expect-fields.Post expect-fields-Inv-loop expect-fields-μ-loop
+expect-fields-sub-m t c =
+    let b = left-bounds (c .before .before .before .before .before .loop .inv .1) (c .before .before .before .before .loop-test .taken) in
     omega arith
 
 expect-fields-open-node-requires : (t : ℕ) → expect-fields-lts.Need-open-node-requires (expect-fields-claims t) (expect-fields-at t) expect-fields.Post expect-fields-Inv-loop expect-fields-μ-loop
@@ -171,13 +183,7 @@ expect-fields-add-expect-fields t c =
     omega arith
 
 expect-fields-sub-expect-fields-3 : (t : ℕ) → expect-fields-lts.Need-sub-expect-fields-3 (expect-fields-claims t) (expect-fields-at t) expect-fields.Post expect-fields-Inv-loop expect-fields-μ-loop
-expect-fields-sub-expect-fields-3 t c =
-    let b = left-bounds (c .before .before .before .before .before .before .before .before .before .before .before .loop .inv .1) (c .before .before .before .before .before .before .before .before .before .before .loop-test .taken) in
-    let g = c .before .before .before .before .before .before .before .before .before .before .before .before .before .before .before .good .0 in
-    omega arith
-
-expect-fields-sub-expect-fields-4 : (t : ℕ) → expect-fields-lts.Need-sub-expect-fields-4 (expect-fields-claims t) (expect-fields-at t) expect-fields.Post expect-fields-Inv-loop expect-fields-μ-loop
-expect-fields-sub-expect-fields-4 t c = search needs
+expect-fields-sub-expect-fields-3 t c = search needs
 
 expect-fields-part-expect-fields-start-3 : (t : ℕ) → expect-fields-lts.Need-part-expect-fields-start-3 (expect-fields-claims t) (expect-fields-at t) expect-fields.Post expect-fields-Inv-loop expect-fields-μ-loop
 expect-fields-part-expect-fields-start-3 t c = search needs
@@ -209,7 +215,6 @@ expect-fields-mul-close-node t c =
 expect-fields-shared-slice-read-close-node : (t : ℕ) → expect-fields-lts.Need-shared-slice-read-close-node (expect-fields-claims t) (expect-fields-at t) expect-fields.Post expect-fields-Inv-loop expect-fields-μ-loop
 expect-fields-shared-slice-read-close-node t c =
     let b = left-bounds (c .before .before .before .before .before .before .before .before .before .before .before .before .before .before .loop .inv .1) (c .before .before .before .before .before .before .before .before .before .before .before .before .before .loop-test .taken) in
-    let g = c .before .before .before .before .before .before .before .before .before .before .before .before .before .before .before .before .before .before .good .0 in
     omega arith
 
 expect-fields-close-node-requires : (t : ℕ) → expect-fields-lts.Need-close-node-requires (expect-fields-claims t) (expect-fields-at t) expect-fields.Post expect-fields-Inv-loop expect-fields-μ-loop
@@ -228,12 +233,7 @@ expect-fields-returns-2 : (t : ℕ) → expect-fields-lts.Need-returns-2 (expect
 expect-fields-returns-2 t c =
     let a = c .before .before .before .before .before .before .before .before .before .before .before .before .before .args in
     let l = c .before .before .before .before .before .before .before .before .before .loop in
-    let k : ExpectedIs (a .text .now) (c .before .before .match2 .after) (expectAt (a .names .now) (a .nodes .now) (l .at) (l .here) (drop (l .place) (a .text .now))) =
-    ⊎-elim (λ i. after-off (a .names .now) (a .nodes .now) (l .at) (l .here) (a .text .now) (l .place) (c .before .before .before .open-node .result) (c .before .before .before .open-node .ensures) (c .before .before .match2 .after) (i .1 .given .1) (i .2))
-    (⊎-elim (λ i. after-whole (a .names .now) (a .nodes .now) (l .at) (l .here) (a .text .now) (l .place) (c .before .before .before .open-node .result) (c .before .before .before .open-node .ensures) (c .before .before .match2 .after) (i .1 .given .0 .0) (i .1 .given .1) (i .3))
-    (λ i. after-fields (a .names .now) (a .nodes .now) (l .at) (l .here) (a .text .now) (l .place) (c .before .before .before .open-node .result) (c .before .before .before .open-node .ensures) (c .before .before .match2 .after) (i .1 .given .0 .0) (i .1 .given .0 .1 .0) (i .1 .given .1) (i .6 .result) (i .8 .result)
-    (lent-fields (a .names .now) (a .nodes .now) _ (a .text .now) (countAt (a .nodes .now) (l .at) - 1) (l .at + 4) (i .1 .given .0 .0) (rest (a .nodes .now) 0) (i .1 .given .0 .1 .0) (i .6 .result) (i .6 .ensures)) (i .8 .ensures) (i .9))) (c .before .before .match2 .came) in
-    left-off (l .inv .1) (c .before .before .before .before .before .before .before .before .loop-test .taken) (rw (c .enum-told3 .given .1) at k)
+    left-off (l .inv .1) (c .before .before .before .before .before .before .before .before .loop-test .taken) (rw (c .enum-told3 .given .1) at (after-is t (c .before .before)))
 
 expect-fields-mul-at : (t : ℕ) → expect-fields-lts.Need-mul-at (expect-fields-claims t) (expect-fields-at t) expect-fields.Post expect-fields-Inv-loop expect-fields-μ-loop
 expect-fields-mul-at t c =
@@ -250,25 +250,18 @@ expect-fields-add-at-2 t c =
 expect-fields-sub-left-2 : (t : ℕ) → expect-fields-lts.Need-sub-left-2 (expect-fields-claims t) (expect-fields-at t) expect-fields.Post expect-fields-Inv-loop expect-fields-μ-loop
 expect-fields-sub-left-2 t c =
     let b = left-bounds (c .before .before .before .before .before .before .before .before .before .before .loop .inv .1) (c .before .before .before .before .before .before .before .before .before .loop-test .taken) in
-    let g = c .before .before .before .before .before .before .before .before .before .before .before .before .before .before .good .0 in
     omega arith
 
 expect-fields-loop-less-2 : (t : ℕ) → expect-fields-lts.Need-loop-less-2 (expect-fields-claims t) (expect-fields-at t) expect-fields.Post expect-fields-Inv-loop expect-fields-μ-loop
 expect-fields-loop-less-2 t c =
     let b = left-bounds (c .before .before .before .before .before .before .before .before .before .before .loop .inv .1) (c .before .before .before .before .before .before .before .before .before .loop-test .taken) in
-    let g = c .before .before .before .before .before .before .before .before .before .before .before .before .before .before .good .0 in
     omega arith
 
 expect-fields-loop-again-2 : (t : ℕ) → expect-fields-lts.Need-loop-again-2 (expect-fields-claims t) (expect-fields-at t) expect-fields.Post expect-fields-Inv-loop expect-fields-μ-loop
 expect-fields-loop-again-2 t c =
     let a = c .before .before .before .before .before .before .before .before .before .before .before .before .before .before .args in
     let l = c .before .before .before .before .before .before .before .before .before .before .loop in
-    let k : ExpectedIs (a .text .now) (c .before .before .before .match2 .after) (expectAt (a .names .now) (a .nodes .now) (l .at) (l .here) (drop (l .place) (a .text .now))) =
-    ⊎-elim (λ i. after-off (a .names .now) (a .nodes .now) (l .at) (l .here) (a .text .now) (l .place) (c .before .before .before .before .open-node .result) (c .before .before .before .before .open-node .ensures) (c .before .before .before .match2 .after) (i .1 .given .1) (i .2))
-    (⊎-elim (λ i. after-whole (a .names .now) (a .nodes .now) (l .at) (l .here) (a .text .now) (l .place) (c .before .before .before .before .open-node .result) (c .before .before .before .before .open-node .ensures) (c .before .before .before .match2 .after) (i .1 .given .0 .0) (i .1 .given .1) (i .3))
-    (λ i. after-fields (a .names .now) (a .nodes .now) (l .at) (l .here) (a .text .now) (l .place) (c .before .before .before .before .open-node .result) (c .before .before .before .before .open-node .ensures) (c .before .before .before .match2 .after) (i .1 .given .0 .0) (i .1 .given .0 .1 .0) (i .1 .given .1) (i .6 .result) (i .8 .result)
-    (lent-fields (a .names .now) (a .nodes .now) _ (a .text .now) (countAt (a .nodes .now) (l .at) - 1) (l .at + 4) (i .1 .given .0 .0) (rest (a .nodes .now) 0) (i .1 .given .0 .1 .0) (i .6 .result) (i .6 .ensures)) (i .8 .ensures) (i .9))) (c .before .before .before .match2 .came) in
-    let n = rw (c .before .after .given .1) at k in
+    let n = rw (c .before .after .given .1) at (after-is t (c .before .before .before)) in
     (omega arith, left-more (l .inv .1) (c .before .before .before .before .before .before .before .before .before .loop-test .taken) (c .before .after .given .0 .0) (n .1) (n .0))
 
 expect-fields-returns-3 : (t : ℕ) → expect-fields-lts.Need-returns-3 (expect-fields-claims t) (expect-fields-at t) expect-fields.Post expect-fields-Inv-loop expect-fields-μ-loop
@@ -296,6 +289,7 @@ pub +expect-fields-spec : {M : Type 1} → statement M
     (expect-fields-add-count t)
     (expect-fields-mul-count t)
     (expect-fields-shared-slice-read-count t)
+    (expect-fields-sub-m t)
     (expect-fields-open-node-requires t)
     (expect-fields-enum-told-2 t)
     (expect-fields-enum-known-to-2 t)
@@ -308,7 +302,6 @@ pub +expect-fields-spec : {M : Type 1} → statement M
     (expect-fields-part-expect-fields-end-2 t)
     (expect-fields-add-expect-fields t)
     (expect-fields-sub-expect-fields-3 t)
-    (expect-fields-sub-expect-fields-4 t)
     (expect-fields-part-expect-fields-start-3 t)
     (expect-fields-part-expect-fields-end-3 t)
     (expect-fields-expect-fields-requires t)

@@ -1,7 +1,6 @@
 use mathlib.Core.Path.{_∙_}
-use native.Mathlib.Omega.{arith}
 use borrow.Author.Needs.{needs}
-use Rattle.kinds.specs.Sheet.{kindAt, firstAt, secondAt}
+use Rattle.kinds.specs.Sheet.{kindAt, secondAt}
 use Rattle.expect.specs.Agree.{expectLeaf}
 use Rattle.expect.proofs.WalkLaws.{leaf-is, none-is, around-off, around-more, container-range, opened-at, not-indirection, lent-whole}
 use Rattle.expect.proofs.open_node.Statement.{statement}
