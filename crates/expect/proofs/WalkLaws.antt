@@ -10,7 +10,7 @@ use lib.Dec.{leb, eqb}
 use native.Mathlib.Nat.{add-sub-cancel-left}
 use Rattle.kinds.proofs.ListLaws.{unread, unread-end}
 use Rattle.kinds.proofs.SheetLaws.{trees-step}
-use Rattle.kinds.proofs.NodeLaws.{child-count, node-child, label-primitive, label-bits, label-typed, label-pointer, label-atomic, label-array, label-struct, label-union, label-none, no-trees, some-trees, walk-inner}
+use Rattle.kinds.proofs.NodeLaws.{child-count, node-child, label-primitive, label-bits, label-typed, label-pointer, label-atomic, label-array, label-struct, label-union, label-none, no-trees, some-trees}
 use Rattle.kinds.specs.Container.{startByte, endByte, prefixByte}
 use Rattle.kinds.specs.Expect as E
 use Rattle.kinds.specs.Expect.{remaining, mismatch, _then_, orElse, expectByte, expectBytes, expectNumber, expectPrimitive, skipItems, expectFields, expectContainer, expectNode, expectEncoding, isEmpty}
@@ -24,12 +24,12 @@ use Rattle.kinds.specs.declared.ContainerKind.the-variants.{Struct, Union}
 use Rattle.kinds.specs.declared.Fields.the-variants.{Included, Dropped}
 use Rattle.kinds.specs.declared.NestingLevel.{NestingLevel}
 use Rattle.kinds.specs.declared.NestingLevel.the-variants.{Top, Within, Bottom}
-use Rattle.expect.specs.Agree.{expectAt, ExpectedIs, InText, Behind, containerOf, indirectionOf, opening, closing, OpenedIs}
+use Rattle.expect.specs.Agree.{expectAt, ExpectedIs, InText, containerOf, indirectionOf, isIndirection, opening, closing, OpenedIs, OpenedAt}
 use Rattle.expect.specs.declared.Expected as X
 use Rattle.expect.specs.declared.Expected.the-variants as XV
 use Rattle.expect.specs.declared.Opened.{Opened}
 use Rattle.expect.specs.declared.Opened.the-variants as O
-use Rattle.expect.proofs.TextLaws.{then-remaining, then-mismatch, then-nothing, closing-container}
+use Rattle.expect.proofs.TextLaws.{then-remaining, then-mismatch, then-nothing, closing-container, rest}
 
 pub then-assoc : (x : E.Expected) (f g : List ℕ → E.Expected) → ((x then f) then g) ≡ (x then (λ t. f t then g))
 unfolding _then_
@@ -46,14 +46,6 @@ module _ (names w : List ℕ) (v : NestingLevel) (s : List ℕ) where
   pub expect-no-trees : (n at : ℕ) → n ≤ 0 → expectEncoding v (trees names w n at) s ≡ remaining s
   unfolding expectEncoding
   expect-no-trees n at p = ap (λ (x : Trees). expectEncoding v x s) (no-trees names w n at p)
-
-  module _ (n at : ℕ) (p : 1 ≤ countAt w at) (q : countAt w at ≤ n) where
-    pub fields-off : expectAt names w at v s ≡ mismatch → expectEncoding v (trees names w n at) s ≡ mismatch
-    fields-off e = expect-trees n at p q ∙ then-mismatch _ _ e
-
-    pub fields-more : (t : List ℕ) → expectAt names w at v s ≡ remaining t
-        → expectEncoding v (trees names w n at) s ≡ expectEncoding v (trees names w (n - countAt w at) (at + 4 * countAt w at)) t
-    fields-more t e = expect-trees n at p q ∙ then-remaining _ _ _ e
 
 -- The only child of a node.
 only-child : (names w : List ℕ) (at : ℕ) (v : NestingLevel) (s : List ℕ) → NodeAt w at → 25 ≤ kindAt w at → kindAt w at ≤ 28
@@ -103,7 +95,7 @@ module _ (names w : List ℕ) (at : ℕ) (v : NestingLevel) (s : List ℕ) where
     behind-more h t e = behind ∙ then-remaining _ _ _ e ∙ only-child names w at (indirection (indirectionOf (kindAt w at)) v) t h (omega arith) (omega arith)
 
   -- A bitfield with a type, and an array.
-  module _ (h : NodeAt w at) (lo : 25 ≤ kindAt w at) (hi : kindAt w at < 29) (m : kindAt w at ≡ 26 → ⊥) (n : kindAt w at ≡ 27 → ⊥) where
+  module _ (lo : 25 ≤ kindAt w at) (hi : kindAt w at < 29) (m : kindAt w at ≡ 26 → ⊥) (n : kindAt w at ≡ 27 → ⊥) where
     around : expectAt names w at v s ≡ (opening (kindAt w at) (firstAt w at) s then (λ t. expectEncoding v (trees names w (countAt w at - 1) (at + 4)) t then (λ u. closing (kindAt w at) (secondAt w at) u)))
     unfolding expectAt expectNode opening closing
     around = go (eqb (kindAt w at) 25) refl
@@ -122,8 +114,8 @@ module _ (names w : List ℕ) (at : ℕ) (v : NestingLevel) (s : List ℕ) where
     around-off e = around ∙ then-mismatch _ _ e
 
     pub around-more : (t : List ℕ) → opening (kindAt w at) (firstAt w at) s ≡ remaining t
-        → expectAt names w at v s ≡ (expectAt names w (at + 4) v t then (λ u. closing (kindAt w at) (secondAt w at) u))
-    around-more t e = around ∙ then-remaining _ _ _ e ∙ ap (λ (x : E.Expected). x then (λ u. closing (kindAt w at) (secondAt w at) u)) (only-child names w at v t h lo (omega arith))
+        → expectAt names w at v s ≡ (expectEncoding v (trees names w (countAt w at - 1) (at + 4)) t then (λ u. closing (kindAt w at) (secondAt w at) u))
+    around-more t e = around ∙ then-remaining _ _ _ e
 
 -- Containers.
 module _ (k : ContainerKind) (e : Bool) (inner : List ℕ → E.Expected) (s : List ℕ) where
@@ -227,23 +219,6 @@ pub in-text : (text : List ℕ) (r : X.Expected) (q : E.Expected) → ExpectedIs
 in-text text (XV.Remaining to) q h = h .1
 in-text text XV.Mismatch q h = tt
 
--- One pointer or atomic further.
-pub behind-step : (w : List ℕ) (at : ℕ) (v : NestingLevel) (text : List ℕ) (place to : ℕ) (u : NestingLevel) (next : ℕ) → Behind w at v text place to u next
-    → 26 ≤ kindAt w to → kindAt w to ≤ 27 → (x : NestingLevel) → x ≡ indirection (indirectionOf (kindAt w to)) u
-    → (last : ℕ) → expectByte (prefixByte (indirectionOf (kindAt w to))) (drop next text) ≡ remaining (drop last text) → last ≤ length text
-    → Behind w at v text place (to + 4) x last
-behind-step w at v text place to u next b lo hi x e last h l =
-    let c = child-count w to (b .node) (omega arith) (omega arith) in
-    let d = b .node .some-node in
-    let f = b .fewer in
-    record {
-      node = node-child w to (b .node) (omega arith) (omega arith);
-      fewer = omega arith;
-      kinds-and-names = λ m k. walk-inner w m to (countAt w to) (b .kinds-and-names m k) (countAt w (to + 4)) (omega arith);
-      same = λ names. b .same names ∙ behind-more names w to u (drop next text) lo hi (b .node) (drop last text) h ∙ ap (λ (y : NestingLevel). expectAt names w (to + 4) y (drop last text)) (sym e);
-      within = l;
-    }
-
 pub container-range : (k : ℕ) → 29 ≤ k → k ≤ 31 → (k ≡ 31 → ⊥) → isContainerKind k ≡ true
 container-range k lo hi n = go (eqb k 29) refl
   where
@@ -282,9 +257,24 @@ module _ (names w : List ℕ) (at : ℕ) (v : NestingLevel) (s : List ℕ) where
 
   pub container-fields : isContainerKind (kindAt w at) ≡ true → (t : List ℕ) (x : NestingLevel) → x ≡ Within
       → ((inner : List ℕ → E.Expected) → expectNode (labelAt names w at) v (isEnd (trees names w (countAt w at - 1) (at + 4))) inner s ≡ (inner t then (λ u. expectByte (endByte (containerOf (kindAt w at))) u)))
-      → expectAt names w at v s ≡ (expectEncoding x (trees names w (countAt w at - 1) (at + 4)) t then (λ u. closing (kindAt w at) 0 u))
+      → expectAt names w at v s ≡ (expectEncoding x (trees names w (countAt w at - 1) (at + 4)) t then (λ u. closing (kindAt w at) (secondAt w at) u))
   unfolding expectAt
   container-fields c t x e h =
       h (λ t. expectEncoding (inside (labelAt names w at) v) (trees names w (countAt w at - 1) (at + 4)) t)
       ∙ ap (λ (y : NestingLevel). expectEncoding y (trees names w (countAt w at - 1) (at + 4)) t then (λ u. expectByte (endByte (containerOf (kindAt w at))) u)) (ap (λ (l : Label). inside l v) (container-label names (kindAt w at) (firstAt w at) (secondAt w at) c) ∙ inside-container (containerOf (kindAt w at)) _ v ∙ sym e)
-      ∙ then-same (expectEncoding x (trees names w (countAt w at - 1) (at + 4)) t) _ _ (λ u. sym (closing-container (kindAt w at) 0 u (λ d. false≢true (sym (ap isContainerKind d) ∙ c)) (λ d. false≢true (sym (ap isContainerKind d) ∙ c))))
+      ∙ then-same (expectEncoding x (trees names w (countAt w at - 1) (at + 4)) t) _ _ (λ u. sym (closing-container (kindAt w at) (secondAt w at) u (λ d. false≢true (sym (ap isContainerKind d) ∙ c)) (λ d. false≢true (sym (ap isContainerKind d) ∙ c))))
+
+pub opened-at : (names w : List ℕ) (at : ℕ) (v : NestingLevel) (text : List ℕ) (place : ℕ) (r : Opened) → isContainerKind (kindAt w at) ≡ true
+    → OpenedIs text (containerOf (kindAt w at)) Within r (λ inner. expectNode (labelAt names w at) v (isEnd (trees names w (countAt w at - 1) (at + 4))) inner (drop place text))
+    → OpenedAt names w at v text place r
+opened-at names w at v text place (O.Taken to) c h = (container-whole names w at v (drop place text) (remaining (drop to text)) (h .0), h .1)
+opened-at names w at v text place O.Mismatch c h = container-whole names w at v (drop place text) mismatch h
+opened-at names w at v text place (O.Fields to u) c h = (container-fields names w at v (drop place text) c (drop to text) u (h .2) (h .0), h .1)
+
+pub not-indirection : (k : ℕ) → isIndirection k ≡ false → (k ≡ 26 → ⊥) × (k ≡ 27 → ⊥)
+not-indirection k h = (λ e. false≢true (sym h ∙ ap isIndirection e), λ e. false≢true (sym h ∙ ap isIndirection e))
+
+-- An outcome on the whole text, lent as a slice of its own.
+pub lent-whole : (text : List ℕ) (r : X.Expected) (place : ℕ) (f : List ℕ → E.Expected)
+    → ExpectedIs (take (length text - 0) (drop 0 text)) r (f (drop place (take (length text - 0) (drop 0 text)))) → ExpectedIs text r (f (drop place text))
+lent-whole text r place f h = subst (λ (x : List ℕ). ExpectedIs x r (f (drop place x))) (rest text 0) h

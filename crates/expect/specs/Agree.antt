@@ -1,19 +1,19 @@
 -- What the walkers' outcomes say, against the definitions of tree against text (kinds, Expect). `w` is the words from the first node on.
 use Prim.Native.Nat.{ℕ, _+_, _-_, _≤_}
-use mathlib.Core.Bool.{Bool, cond}
+use mathlib.Core.Bool.{Bool, cond, _||_}
 use mathlib.Core.Path.{_≡_}
-use mathlib.Core.List.{List}
+use mathlib.Core.List.{List, _∷_, _++_}
 use lib.Dec.{leb, eqb}
-use lib.ListN.{length, drop}
-use Rattle.kinds.specs.Byte.{byte}
-use Rattle.kinds.specs.Container.{endByte}
+use lib.ListN.{length, getD, drop}
+use Rattle.kinds.specs.Byte.{byte, bytes}
+use Rattle.kinds.specs.Container.{endByte, prefixByte}
 use Rattle.kinds.specs.Expect as E
 use Rattle.kinds.specs.Expect.{remaining, mismatch, _then_, orElse, expectByte, expectBytes, expectNumber, expectPrimitive, expectFields, expectNode, expectEncoding}
+use Rattle.kinds.specs.Level.{indirection}
 use Rattle.kinds.specs.Parse.{maxU64, maxU8}
 use Rattle.kinds.specs.Primitive.{code}
-use Rattle.kinds.specs.Sheet.{kindAt, countAt, labelAt, trees}
+use Rattle.kinds.specs.Sheet.{kindAt, secondAt, countAt, labelAt, trees}
 use Rattle.kinds.specs.Tree.{isEnd, inside}
-use Rattle.kinds.specs.Walk.{NodeAt, KindsAndNames}
 use Rattle.kinds.specs.declared.ContainerKind.{ContainerKind}
 use Rattle.kinds.specs.declared.ContainerKind.the-variants.{Struct, Union}
 use Rattle.kinds.specs.declared.IndirectionKind.{IndirectionKind}
@@ -23,8 +23,6 @@ use Rattle.expect.specs.declared.Expected.{Expected}
 use Rattle.expect.specs.declared.Expected.the-variants.{Remaining, Mismatch}
 use Rattle.expect.specs.declared.Opened.{Opened}
 use Rattle.expect.specs.declared.Opened.the-variants as O
-use Rattle.expect.specs.declared.Reached.{Reached}
-use Rattle.expect.specs.declared.Reached.the-variants as R
 
 -- The place after what was taken stands for the text from there on.
 abbrev pub ExpectedIs : List ℕ → Expected → E.Expected → Type 0
@@ -80,15 +78,27 @@ OpenedIs text k u (O.Fields to v) q = ((inner : List ℕ → E.Expected) → q i
 abbrev pub indirectionOf : ℕ → IndirectionKind
 indirectionOf k = cond (eqb k 26) Pointer Atomic
 
--- The node at `to` stands for that at `at`, behind pointers and atomics.
-pub record Behind (w : List ℕ) (at : ℕ) (v : NestingLevel) (text : List ℕ) (place to : ℕ) (u : NestingLevel) (next : ℕ) : Type 0 where
-  pub node : NodeAt w to
-  pub fewer : countAt w to ≤ countAt w at
-  pub kinds-and-names : (m : ℕ) → KindsAndNames w m at (countAt w at) → KindsAndNames w m to (countAt w to)
-  pub same : (names : List ℕ) → expectAt names w at v (drop place text) ≡ expectAt names w to u (drop next text)
-  pub within : next ≤ length text
+abbrev pub isIndirection : ℕ → Bool
+isIndirection k = eqb k 26 || eqb k 27
 
--- The first node that is neither a pointer nor an atomic, or no match of their bytes.
-abbrev pub ReachedIs : List ℕ → ℕ → NestingLevel → List ℕ → ℕ → Reached → Type 0
-ReachedIs w at v text place (R.Node to u next) = Behind w at v text place to u next × ((kindAt w to ≡ 26 → ⊥) × (kindAt w to ≡ 27 → ⊥))
-ReachedIs w at v text place R.Mismatch = (names : List ℕ) → expectAt names w at v (drop place text) ≡ mismatch
+-- The codes of one byte that no other primitive is compared as, by kind; 0 for the other primitives.
+abbrev pub codeBytesByKind : List ℕ
+codeBytesByKind = bytes "csilqCSILQfdD" ++ 0 ∷ 0 ∷ 0 ∷ bytes "Bv*" ++ 0 ∷ 0 ∷ 0 ∷ bytes ":?"
+
+unfoldable pub codeByte : ℕ → ℕ
+codeByte k = getD codeBytesByKind k 0
+
+-- The byte of a node of whose own text it is the whole, or 0.
+unfoldable pub ownByte : ℕ → ℕ
+ownByte k = cond (isIndirection k) (prefixByte (indirectionOf k)) (codeByte k)
+
+-- The level after such a node: what it holds comes next, or the next tree at the level `v`.
+unfoldable pub levelAfter : ℕ → NestingLevel → NestingLevel → NestingLevel
+levelAfter k v here = cond (isIndirection k) (indirection (indirectionOf k) here) v
+
+-- The node at `at` up to its children: taken whole, no match, or its children, at a level, and what stands after them are still to come.
+abbrev pub OpenedAt : List ℕ → List ℕ → ℕ → NestingLevel → List ℕ → ℕ → Opened → Type 0
+OpenedAt names w at v text place (O.Taken to) = (expectAt names w at v (drop place text) ≡ remaining (drop to text)) × (to ≤ length text)
+OpenedAt names w at v text place O.Mismatch = expectAt names w at v (drop place text) ≡ mismatch
+OpenedAt names w at v text place (O.Fields to u) =
+    (expectAt names w at v (drop place text) ≡ (expectEncoding u (trees names w (countAt w at - 1) (at + 4)) (drop to text) then (λ t. closing (kindAt w at) (secondAt w at) t))) × (to ≤ length text)

@@ -1,6 +1,6 @@
 // Tree against text: parse.rs's `expect_encoding` over the node words of a sheet and a place in the text.
 ghost use mathlib.Core.Path.{_≡_};
-ghost use mathlib.Core.Bool.{true};
+ghost use mathlib.Core.Bool.{true, false};
 ghost use Prim.Native.Nat.{_+_, _-_, _≤_};
 ghost use lib.Dec.{eqb};
 ghost use lib.ListN.{length, drop};
@@ -11,7 +11,7 @@ ghost use Rattle.kinds.specs.Primitive.{codeBytes};
 ghost use Rattle.kinds.specs.Sheet.{kindAt, countAt, isContainerKind, labelAt, trees};
 ghost use Rattle.kinds.specs.Tree.{isEnd};
 ghost use Rattle.kinds.specs.Walk.{NodeAt, TreesAt, KindAndName, KindsAndNames};
-ghost use Rattle.expect.specs.Agree.{ExpectedIs, expectAt, containerOf, anyObject, expectLeaf, openingByte, opening, closing, afterName, InText, OpenedIs, indirectionOf, ReachedIs};
+ghost use Rattle.expect.specs.Agree.{ExpectedIs, containerOf, anyObject, expectLeaf, openingByte, opening, closing, afterName, InText, OpenedIs, indirectionOf, isIndirection, codeByte, ownByte, levelAfter, OpenedAt};
 ghost use Rattle.expect.specs.Encoding.{compared};
 use kinds::Code;
 use kinds::ContainerKind;
@@ -36,17 +36,11 @@ enum Expected {
     Mismatch,
 }
 
-// A container up to its fields: taken whole, or its fields are still to come, at a level.
+// A node up to its children: taken whole, or its children are still to come, at a level.
 enum Opened {
     Taken(usize),
     Mismatch,
     Fields(usize, NestingLevel),
-}
-
-// The node behind pointers and atomics, its level, and the place after their bytes.
-enum Reached {
-    Node(usize, NestingLevel, usize),
-    Mismatch,
 }
 
 // What tree against text answers.
@@ -347,81 +341,81 @@ fn indirection_kind(kind: u64) -> IndirectionKind
     IndirectionKind::Atomic
 }
 
-// Pointers and atomics, down to the first node that is neither.
-fn pass_indirections(
-    nodes: &[u64],
-    from: usize,
-    outer: NestingLevel,
-    text: &[u8],
-    start: usize,
-) -> Reached
-    requires { ⌜ NodeAt (now nodes) from × (start ≤ length (now text)) ⌝ }
-    ensures { λ r. ⌜ ReachedIs (now (nodes .entry)) from outer (now (text .entry)) start r ⌝ }
+fn is_indirection(kind: u64) -> bool
+    ensures { λ r. ⌜ r ≡ isIndirection kind ⌝ }
 {
-    let mut at = from;
-    let mut level = outer;
-    let mut place = start;
-    loop {
-        let kind = nodes[at];
-        if kind < 26 {
-            return Reached::Node(at, level, place);
-        }
-        if 27 < kind {
-            return Reached::Node(at, level, place);
-        }
-        let indirection = indirection_kind(kind);
-        let Expected::Remaining(to) = expect_byte(indirection.prefix_byte(), text, place) else {
-            return Reached::Mismatch;
-        };
-        level = level.indirection(indirection);
-        at = at + 4;
-        place = to;
+    if kind == 26 {
+        return true;
     }
+    kind == 27
 }
 
-// The node at `from` against the text from `start` on.
-fn expect_encoding(
+// The codes of one byte that no other primitive is compared as, by kind; 0 for the other primitives.
+const CODE_BYTES: [u8; 24] = *b"csilqCSILQfdD\x00\x00\x00Bv*\x00\x00\x00:?";
+
+fn code_byte(kind: u64) -> u8
+    ensures { λ r. ⌜ r ≡ codeByte kind ⌝ }
+{
+    if 24 <= kind {
+        return 0;
+    }
+    CODE_BYTES[kind as usize]
+}
+
+// The byte of a node of whose own text it is the whole: such a code, a pointer's or an atomic's. 0 for the others.
+fn own_byte(kind: u64) -> u8
+    ensures { λ r. ⌜ r ≡ ownByte kind ⌝ }
+{
+    if is_indirection(kind) {
+        return indirection_kind(kind).prefix_byte();
+    }
+    code_byte(kind)
+}
+
+// The level after such a node: that of what it holds, or `level`, at which the trees side by side are.
+fn level_after(kind: u64, level: NestingLevel, here: NestingLevel) -> NestingLevel
+    ensures { λ r. ⌜ r ≡ levelAfter kind level here ⌝ }
+{
+    if is_indirection(kind) {
+        return here.indirection(indirection_kind(kind));
+    }
+    level
+}
+
+// The node at `at`, no pointer and no atomic, up to its children.
+fn open_node(
     nodes: &[u64],
     names: &[u8],
-    from: usize,
-    outer: NestingLevel,
+    at: usize,
+    level: NestingLevel,
     text: &[u8],
-    start: usize,
-) -> Expected
-    requires { ⌜ NodeAt (now nodes) from × (start ≤ length (now text)) ⌝ }
-    requires { ⌜ KindsAndNames (now nodes) (length (now names)) from (countAt (now nodes) from) ⌝ }
-    ensures { λ r. ⌜ ExpectedIs (now (text .entry)) r (expectAt (now (names .entry)) (now (nodes .entry)) from outer (drop start (now (text .entry)))) ⌝ }
+    place: usize,
+) -> Opened
+    requires { ⌜ NodeAt (now nodes) at × KindAndName (now nodes) (length (now names)) at × (place ≤ length (now text)) ⌝ }
+    requires { ⌜ isIndirection (kindAt (now nodes) at) ≡ false ⌝ }
+    ensures { λ r. ⌜ OpenedAt (now (names .entry)) (now (nodes .entry)) at level (now (text .entry)) place r ⌝ }
 {
-    let Reached::Node(at, level, place) = pass_indirections(nodes, from, outer, text, start) else {
-        return Expected::Mismatch;
-    };
     let kind = nodes[at];
     if kind < 25 {
-        return expect_leaf(kind, nodes[at + 2], text, place);
+        return match expect_leaf(kind, nodes[at + 2], &text[0..], place) {
+            Expected::Mismatch => Opened::Mismatch,
+            Expected::Remaining(to) => Opened::Taken(to),
+        };
     }
     if kind == 31 {
-        return Expected::Remaining(place);
+        return Opened::Taken(place);
     }
     if kind < 29 {
-        let Expected::Remaining(to) = expect_opening(kind, nodes[at + 1], text, place) else {
-            return Expected::Mismatch;
-        };
         // A bitfield and an array keep the level.
-        let after = expect_encoding(nodes, names, at + 4, level, text, to);
-        return close_node(after, kind, nodes[at + 2], text);
+        return match expect_opening(kind, nodes[at + 1], text, place) {
+            Expected::Mismatch => Opened::Mismatch,
+            Expected::Remaining(to) => Opened::Fields(to, level),
+        };
     }
-    match open_container(nodes, names, at, level, text, place) {
-        Opened::Mismatch => Expected::Mismatch,
-        Opened::Taken(to) => Expected::Remaining(to),
-        Opened::Fields(to, inner) => {
-            let count = nodes[at + 3] as usize;
-            let after = expect_fields(nodes, names, at + 4, count - 1, inner, text, to);
-            close_node(after, kind, 0, text)
-        }
-    }
+    open_container(nodes, names, at, level, text, place)
 }
 
-// The trees of the `n` nodes from `from` on, one after the other.
+// The trees of the `n` nodes from `from` on, one after the other. A pointer and an atomic are followed by what they hold.
 fn expect_fields(
     nodes: &[u64],
     names: &[u8],
@@ -438,14 +432,37 @@ fn expect_fields(
     let mut at = from;
     let mut left = n;
     let mut place = start;
+    let mut here = level;
     while 0 < left {
-        let Expected::Remaining(to) = expect_encoding(nodes, names, at, level, text, place) else {
+        let kind = nodes[at];
+        let byte = own_byte(kind);
+        if byte != 0 {
+            let Expected::Remaining(to) = expect_byte(byte, text, place) else {
+                return Expected::Mismatch;
+            };
+            at = at + 4;
+            left = left - 1;
+            place = to;
+            here = level_after(kind, level, here);
+            continue;
+        }
+        let count = nodes[at + 3] as usize;
+        let m = count - 1;
+        let after = match open_node(nodes, names, at, here, text, place) {
+            Opened::Mismatch => Expected::Mismatch,
+            Opened::Taken(to) => Expected::Remaining(to),
+            Opened::Fields(to, inner) => {
+                let all = expect_fields(&nodes[0..], &names[0..], at + 4, m, inner, &text[0..], to);
+                close_node(all, kind, nodes[at + 2], text)
+            }
+        };
+        let Expected::Remaining(next) = after else {
             return Expected::Mismatch;
         };
-        let count = nodes[at + 3] as usize;
         at = at + 4 * count;
         left = left - count;
-        place = to;
+        place = next;
+        here = level;
     }
     Expected::Remaining(place)
 }
@@ -471,7 +488,13 @@ pub fn equivalent_to_str(words: &[u64], names: &[u8], text: &[u8]) -> Compared
         Checked::BadName => Compared::Refused(Refusal::BadName),
         Checked::Good => {
             let start = strip_leading_qualifiers(text);
-            let walked = expect_encoding(&words[4..], names, 0, NestingLevel::new(), text, start);
+            let code = code_byte(words[4]);
+            if code != 0 {
+                return Compared::Decided(decide(expect_byte(code, text, start), text));
+            }
+            let n = words[0] as usize;
+            let top = NestingLevel::new();
+            let walked = expect_fields(&words[4..], &names[0..], 0, n, top, &text[0..], start);
             Compared::Decided(decide(walked, text))
         }
     }

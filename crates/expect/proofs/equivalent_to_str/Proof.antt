@@ -1,10 +1,13 @@
 use mathlib.Core.Path.{sym, ap, _∙_}
 use native.Mathlib.Omega.{arith}
 use borrow.Author.Needs.{needs}
+use lib.ListN.{getD, drop}
+use Rattle.kinds.specs.Sheet.{nodeWords}
 use Rattle.sheet.specs.declared.Checked.the-variants.{Good}
 use Rattle.expect.specs.declared.Compared.the-variants.{Decided}
 use Rattle.expect.proofs.TextLaws.{rest}
-use Rattle.expect.proofs.AnswerLaws.{words-enough, sheet-walk, too-long, of-sheet, decided}
+use Rattle.expect.proofs.FieldLaws.{lent-walk, lent-fields}
+use Rattle.expect.proofs.AnswerLaws.{words-enough, sheet-trees, too-long, of-sheet, walked-fields, walked-code, decided}
 use Rattle.expect.proofs.equivalent_to_str.Statement.{statement}
 use Rattle.expect.proofs.equivalent_to_str.Tie as tie
 
@@ -26,32 +29,98 @@ enum-told-3 c = search needs
 strip-leading-qualifiers-requires : tie.Need-strip-leading-qualifiers-requires
 strip-leading-qualifiers-requires c κs = search needs
 
-sub-expect-encoding : tie.Need-sub-expect-encoding
-sub-expect-encoding c = let h = words-enough (c .before .before .before .before .before .before .before .before .args .words .now) (c .before .before .before .before .before .before .before .before .args .names .now) (sym (c .before .before .before .check .ensures) ∙ c .before .enum-told3 .given .1) in omega arith
+shared-slice-read-code-byte : tie.Need-shared-slice-read-code-byte
+shared-slice-read-code-byte c =
+    let a = c .before .before .before .before .before .before .before .before .before .args in
+    let good = sym (c .before .before .before .before .check .ensures) ∙ c .before .before .enum-told3 .given .1 in
+    let h = words-enough (a .words .now) (a .names .now) good in
+    omega arith
 
-part-expect-encoding-start : tie.Need-part-expect-encoding-start
-part-expect-encoding-start c = let h = words-enough (c .before .before .before .before .before .before .before .before .args .words .now) (c .before .before .before .before .before .before .before .before .args .names .now) (sym (c .before .before .before .check .ensures) ∙ c .before .enum-told3 .given .1) in omega arith
+code-byte-requires : tie.Need-code-byte-requires
+code-byte-requires c κs = search needs
 
-part-expect-encoding-end : tie.Need-part-expect-encoding-end
-part-expect-encoding-end c = search needs
-
-new-requires : tie.Need-new-requires
-new-requires c κs = search needs
-
-expect-encoding-requires : tie.Need-expect-encoding-requires
-expect-encoding-requires c κs = let h = sheet-walk (c .before .before .before .before .before .before .before .before .before .before .args .words .now) (c .before .before .before .before .before .before .before .before .before .before .args .names .now) _ (sym (c .before .before .before .before .before .check .ensures) ∙ c .before .before .before .enum-told3 .given .1) (rest (c .before .before .before .before .before .before .before .before .before .before .args .words .now) 4) in ((h .0, c .before .before .strip-leading-qualifiers .ensures .1), h .1)
+expect-byte-requires : tie.Need-expect-byte-requires
+expect-byte-requires c κs = search needs
 
 decide-requires : tie.Need-decide-requires
 decide-requires c κs = search needs
 
 returns-2 : tie.Need-returns-2
-returns-2 c = of-sheet (c .before .before .before .before .before .before .before .args .words .now) (c .before .before .before .before .before .before .before .args .names .now) (c .before .before .before .before .before .before .before .args .text .now) (c .before .before .before .if1 .left) _ (sym (c .before .before .check .ensures) ∙ c .enum-told .given .1)
+returns-2 c =
+    let a = c .before .before .before .before .before .before .before .before .before .before .before .before .before .args in
+    let good = sym (c .before .before .before .before .before .before .before .before .check .ensures) ∙ c .before .before .before .before .before .before .enum-told3 .given .1 in
+    ap Decided (decided (a .words .now) (a .names .now) (a .text .now) (c .before .before .before .before .before .strip-leading-qualifiers .result) (c .before .expect-byte .result) _ (c .before .before .before .before .before .strip-leading-qualifiers .ensures .0) (walked-code (a .words .now) (a .names .now) (a .text .now) (c .before .expect-byte .result) _ (c .before .before .before .code-byte .result) good (c .before .before .before .code-byte .ensures) (c .before .before .if2 .taken) (c .before .expect-byte .ensures)) (c .decide .ensures))
+    ∙ of-sheet (a .words .now) (a .names .now) (a .text .now) (c .before .before .before .before .before .before .before .before .before .if1 .left) Good good
+
+shared-slice-read-n : tie.Need-shared-slice-read-n
+shared-slice-read-n c =
+    let a = c .before .before .before .before .before .before .before .before .before .before .before .before .args in
+    let good = sym (c .before .before .before .before .before .before .before .check .ensures) ∙ c .before .before .before .before .before .enum-told3 .given .1 in
+    let h = words-enough (a .words .now) (a .names .now) good in
+    omega arith
+
+new-requires : tie.Need-new-requires
+new-requires c κs = search needs
+
+sub-expect-fields : tie.Need-sub-expect-fields
+sub-expect-fields c =
+    let a = c .before .before .before .before .before .before .before .before .before .before .before .before .before .args in
+    let good = sym (c .before .before .before .before .before .before .before .before .check .ensures) ∙ c .before .before .before .before .before .before .enum-told3 .given .1 in
+    let h = words-enough (a .words .now) (a .names .now) good in
+    omega arith
+
+part-expect-fields-start : tie.Need-part-expect-fields-start
+part-expect-fields-start c =
+    let a = c .before .before .before .before .before .before .before .before .before .before .before .before .before .args in
+    let good = sym (c .before .before .before .before .before .before .before .before .check .ensures) ∙ c .before .before .before .before .before .before .enum-told3 .given .1 in
+    let h = words-enough (a .words .now) (a .names .now) good in
+    omega arith
+
+part-expect-fields-end : tie.Need-part-expect-fields-end
+part-expect-fields-end c = search needs
+
+sub-expect-fields-2 : tie.Need-sub-expect-fields-2
+sub-expect-fields-2 c = search needs
+
+part-expect-fields-start-2 : tie.Need-part-expect-fields-start-2
+part-expect-fields-start-2 c = search needs
+
+part-expect-fields-end-2 : tie.Need-part-expect-fields-end-2
+part-expect-fields-end-2 c = search needs
+
+sub-expect-fields-3 : tie.Need-sub-expect-fields-3
+sub-expect-fields-3 c = search needs
+
+part-expect-fields-start-3 : tie.Need-part-expect-fields-start-3
+part-expect-fields-start-3 c = search needs
+
+part-expect-fields-end-3 : tie.Need-part-expect-fields-end-3
+part-expect-fields-end-3 c = search needs
+
+expect-fields-requires : tie.Need-expect-fields-requires
+expect-fields-requires c κs =
+    let a = c .before .before .before .before .before .before .before .before .before .before .before .before .before .before .before .before .args in
+    let good = sym (c .before .before .before .before .before .before .before .before .before .before .before .check .ensures) ∙ c .before .before .before .before .before .before .before .before .before .enum-told3 .given .1 in
+    let h = sheet-trees (a .words .now) (a .names .now) good in
+    lent-walk (a .names .now) (nodeWords (a .words .now)) _ (a .text .now) _ _ _ (rest (a .words .now) 4) (h .0) (c .before .before .before .before .before .before .before .before .strip-leading-qualifiers .ensures .1) (h .1)
+
+decide-requires-2 : tie.Need-decide-requires-2
+decide-requires-2 c κs = search needs
 
 returns-3 : tie.Need-returns-3
-returns-3 c = of-sheet (c .before .before .before .before .before .before .before .args .words .now) (c .before .before .before .before .before .before .before .args .names .now) (c .before .before .before .before .before .before .before .args .text .now) (c .before .before .before .if1 .left) _ (sym (c .before .before .check .ensures) ∙ c .enum-told2 .given .1)
+returns-3 c = of-sheet (c .before .before .before .before .before .before .before .args .words .now) (c .before .before .before .before .before .before .before .args .names .now) (c .before .before .before .before .before .before .before .args .text .now) (c .before .before .before .if1 .left) _ (sym (c .before .before .check .ensures) ∙ c .enum-told .given .1)
 
 returns-4 : tie.Need-returns-4
-returns-4 c = ap Decided (decided (c .before .before .before .before .before .before .before .before .before .before .before .before .args .words .now) (c .before .before .before .before .before .before .before .before .before .before .before .before .args .names .now) (c .before .before .before .before .before .before .before .before .before .before .before .before .args .text .now) _ (c .before .before .before .before .strip-leading-qualifiers .result) _ (c .before .expect-encoding .result) _ (sym (c .before .before .before .before .before .before .before .check .ensures) ∙ c .before .before .before .before .before .enum-told3 .given .1) (rest (c .before .before .before .before .before .before .before .before .before .before .before .before .args .words .now) 4) (c .before .before .new .ensures) (c .before .before .before .before .strip-leading-qualifiers .ensures .0) (c .before .expect-encoding .ensures) (c .decide .ensures)) ∙ of-sheet (c .before .before .before .before .before .before .before .before .before .before .before .before .args .words .now) (c .before .before .before .before .before .before .before .before .before .before .before .before .args .names .now) (c .before .before .before .before .before .before .before .before .before .before .before .before .args .text .now) (c .before .before .before .before .before .before .before .before .if1 .left) Good (sym (c .before .before .before .before .before .before .before .check .ensures) ∙ c .before .before .before .before .before .enum-told3 .given .1)
+returns-4 c = of-sheet (c .before .before .before .before .before .before .before .args .words .now) (c .before .before .before .before .before .before .before .args .names .now) (c .before .before .before .before .before .before .before .args .text .now) (c .before .before .before .if1 .left) _ (sym (c .before .before .check .ensures) ∙ c .enum-told2 .given .1)
+
+returns-5 : tie.Need-returns-5
+returns-5 c =
+    let a = c .before .before .before .before .before .before .before .before .before .before .before .before .before .before .before .before .before .before .args in
+    let good = sym (c .before .before .before .before .before .before .before .before .before .before .before .before .before .check .ensures) ∙ c .before .before .before .before .before .before .before .before .before .before .before .enum-told3 .given .1 in
+    let start = c .before .before .before .before .before .before .before .before .before .before .strip-leading-qualifiers .result in
+    let f = lent-fields (a .names .now) (nodeWords (a .words .now)) _ (a .text .now) (getD (a .words .now) 0 0) 0 start (rest (a .words .now) 4) (c .before .before .before .before .before .new .result) (c .before .expect-fields .result) (c .before .expect-fields .ensures) in
+    ap Decided (decided (a .words .now) (a .names .now) (a .text .now) start (c .before .expect-fields .result) _ (c .before .before .before .before .before .before .before .before .before .before .strip-leading-qualifiers .ensures .0) (walked-fields (a .words .now) (a .names .now) (a .text .now) (c .before .expect-fields .result) (drop start (a .text .now)) (c .before .before .before .before .before .new .result) (c .before .before .before .before .before .new .ensures) f) (c .decide2 .ensures))
+    ∙ of-sheet (a .words .now) (a .names .now) (a .text .now) (c .before .before .before .before .before .before .before .before .before .before .before .before .before .before .if1 .left) Good good
 
 pub equivalent-to-str-spec : {M : Type 1} → statement M
 equivalent-to-str-spec =
@@ -63,12 +132,24 @@ equivalent-to-str-spec =
     enum-told-2
     enum-told-3
     strip-leading-qualifiers-requires
-    sub-expect-encoding
-    part-expect-encoding-start
-    part-expect-encoding-end
-    new-requires
-    expect-encoding-requires
+    shared-slice-read-code-byte
+    code-byte-requires
+    expect-byte-requires
     decide-requires
     returns-2
+    shared-slice-read-n
+    new-requires
+    sub-expect-fields
+    part-expect-fields-start
+    part-expect-fields-end
+    sub-expect-fields-2
+    part-expect-fields-start-2
+    part-expect-fields-end-2
+    sub-expect-fields-3
+    part-expect-fields-start-3
+    part-expect-fields-end-3
+    expect-fields-requires
+    decide-requires-2
     returns-3
-    returns-4)
+    returns-4
+    returns-5)

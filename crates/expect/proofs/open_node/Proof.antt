@@ -1,0 +1,129 @@
+use mathlib.Core.Path.{_∙_}
+use borrow.Author.Needs.{needs}
+use Rattle.kinds.specs.Sheet.{kindAt, secondAt}
+use Rattle.expect.specs.Agree.{expectLeaf}
+use Rattle.expect.proofs.WalkLaws.{leaf-is, none-is, around-off, around-more, container-range, opened-at, not-indirection, lent-whole}
+use Rattle.expect.proofs.open_node.Statement.{statement}
+use Rattle.expect.proofs.open_node.Tie as tie
+
+mul-kind : tie.Need-mul-kind
+mul-kind c = search needs
+
+shared-slice-read-kind : tie.Need-shared-slice-read-kind
+shared-slice-read-kind c = search needs
+
+add-expect-leaf : tie.Need-add-expect-leaf
+add-expect-leaf c = search needs
+
+mul-expect-leaf : tie.Need-mul-expect-leaf
+mul-expect-leaf c = search needs
+
+shared-slice-read-expect-leaf : tie.Need-shared-slice-read-expect-leaf
+shared-slice-read-expect-leaf c = search needs
+
+sub-expect-leaf : tie.Need-sub-expect-leaf
+sub-expect-leaf c = search needs
+
+part-expect-leaf-start : tie.Need-part-expect-leaf-start
+part-expect-leaf-start c = search needs
+
+part-expect-leaf-end : tie.Need-part-expect-leaf-end
+part-expect-leaf-end c = search needs
+
+expect-leaf-requires : tie.Need-expect-leaf-requires
+expect-leaf-requires c κs = search needs
+
+enum-told : tie.Need-enum-told
+enum-told c = search needs
+
+enum-known-to : tie.Need-enum-known-to
+enum-known-to c = search needs
+
+returns : tie.Need-returns
+returns c =
+    let a = c .before .before .before .before .before .before .before .before .before .before .args in
+    let n = rw (c .enum-told .given .1) at (lent-whole (a .text .now) (c .before .before .expect-leaf .result) (a .place) (λ s. expectLeaf (kindAt (a .nodes .now) (a .at)) (secondAt (a .nodes .now) (a .at)) s) (c .before .before .expect-leaf .ensures)) in
+    leaf-is (a .names .now) (a .nodes .now) (a .at) (a .level) _ (c .before .before .before .before .before .if1 .taken) ∙ n
+
+returns-2 : tie.Need-returns-2
+returns-2 c =
+    let a = c .before .before .before .before .before .before .before .before .before .before .before .args in
+    let n = rw (c .before .to .given .1) at (lent-whole (a .text .now) (c .before .before .before .expect-leaf .result) (a .place) (λ s. expectLeaf (kindAt (a .nodes .now) (a .at)) (secondAt (a .nodes .now) (a .at)) s) (c .before .before .before .expect-leaf .ensures)) in
+    (leaf-is (a .names .now) (a .nodes .now) (a .at) (a .level) _ (c .before .before .before .before .before .before .if1 .taken) ∙ n .0, n .1)
+
+returns-3 : tie.Need-returns-3
+returns-3 c =
+    let a = c .before .before .before .before .before .before .args in
+    (none-is (a .names .now) (a .nodes .now) (a .at) (a .level) _ (c .if2 .taken), c .before .before .before .before .before .before .pre .0 .2)
+
+add-expect-opening : tie.Need-add-expect-opening
+add-expect-opening c = search needs
+
+mul-expect-opening : tie.Need-mul-expect-opening
+mul-expect-opening c = search needs
+
+shared-slice-read-expect-opening : tie.Need-shared-slice-read-expect-opening
+shared-slice-read-expect-opening c = search needs
+
+expect-opening-requires : tie.Need-expect-opening-requires
+expect-opening-requires c κs = search needs
+
+enum-told-2 : tie.Need-enum-told-2
+enum-told-2 c = search needs
+
+enum-known-to-2 : tie.Need-enum-known-to-2
+enum-known-to-2 c = search needs
+
+returns-4 : tie.Need-returns-4
+returns-4 c =
+    let a = c .before .before .before .before .before .before .before .before .before .before .before .args in
+    let m = not-indirection (kindAt (a .nodes .now) (a .at)) (c .before .before .before .before .before .before .before .before .before .before .before .pre .1) in
+    let n = rw (c .enum-told2 .given .1) at (c .before .before .expect-opening .ensures) in
+    around-off (a .names .now) (a .nodes .now) (a .at) (a .level) _ (c .before .before .before .before .before .before .if1 .left) (c .before .before .before .before .if3 .taken) (m .0) (m .1) n
+
+returns-5 : tie.Need-returns-5
+returns-5 c =
+    let a = c .before .before .before .before .before .before .before .before .before .before .before .before .args in
+    let m = not-indirection (kindAt (a .nodes .now) (a .at)) (c .before .before .before .before .before .before .before .before .before .before .before .before .pre .1) in
+    let n = rw (c .before .to2 .given .1) at (c .before .before .before .expect-opening .ensures) in
+    (around-more (a .names .now) (a .nodes .now) (a .at) (a .level) _ (c .before .before .before .before .before .before .before .if1 .left) (c .before .before .before .before .before .if3 .taken) (m .0) (m .1) _ (n .0), n .1)
+
+open-container-requires : tie.Need-open-container-requires
+open-container-requires c κs =
+    let a = c .before .before .before .before .before .before .before .args in
+    let k = c .before .before .before .before .before .before .before .pre .0 .1 in
+    (c .before .before .before .before .before .before .before .pre .0 .0, k, container-range (kindAt (a .nodes .now) (a .at)) (c .if3 .left) (k .kind) (c .before .if2 .left))
+
+returns-6 : tie.Need-returns-6
+returns-6 c =
+    let a = c .before .before .before .before .before .before .before .before .args in
+    opened-at (a .names .now) (a .nodes .now) (a .at) (a .level) (a .text .now) (a .place) (c .open-container .result) (container-range (kindAt (a .nodes .now) (a .at)) (c .before .if3 .left) (c .before .before .before .before .before .before .before .before .pre .0 .1 .kind) (c .before .before .if2 .left)) (c .open-container .ensures)
+
+pub open-node-spec : {M : Type 1} → statement M
+open-node-spec =
+    tie.close
+    (tie.spec
+    mul-kind
+    shared-slice-read-kind
+    add-expect-leaf
+    mul-expect-leaf
+    shared-slice-read-expect-leaf
+    sub-expect-leaf
+    part-expect-leaf-start
+    part-expect-leaf-end
+    expect-leaf-requires
+    enum-told
+    enum-known-to
+    returns
+    returns-2
+    returns-3
+    add-expect-opening
+    mul-expect-opening
+    shared-slice-read-expect-opening
+    expect-opening-requires
+    enum-told-2
+    enum-known-to-2
+    returns-4
+    returns-5
+    open-container-requires
+    returns-6)
