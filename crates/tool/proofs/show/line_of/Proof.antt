@@ -1,0 +1,50 @@
+-- `tool::show::line_of` meets its contract. Assumes nothing.
+use Prim.Native.Nat.{_-_}
+use mathlib.Core.Path.{_≡_, refl, ap, _∙_}
+use native.Mathlib.Omega.{arith}
+use borrow.Author.Needs.{needs}
+use Rattle.tool.specs.Show.{lineOf}
+use Rattle.tool.proofs.ShowLaws.{line-more, line-here}
+use Rattle.tool.proofs.show.line_of.Statement.{statement}
+use Rattle.tool.proofs.show.line_of.Tie as tie
+
+abbrev Inv-loop : tie.InvT-loop
+Inv-loop table k unread₀ left₀ unread left = lineOf left unread ≡ lineOf k table
+
+abbrev μ-loop : tie.MeasureT-loop
+μ-loop table k unread₀ left₀ unread left = left
+
+loop-holds : tie.Need-loop-holds Inv-loop μ-loop
+loop-holds c = refl
+
+rest-requires : tie.Need-rest-requires Inv-loop μ-loop
+rest-requires c κs = search needs
+
+sub-left : tie.Need-sub-left Inv-loop μ-loop
+sub-left c = omega arith
+
+loop-less : tie.Need-loop-less Inv-loop μ-loop
+loop-less c = omega arith
+
+loop-again : tie.Need-loop-again Inv-loop μ-loop
+loop-again c = ap (lineOf (c .before .before .loop .left - 1)) (c .rest .ensures) ∙ line-more (c .before .before .loop .left) (c .before .before .loop .unread .now) (c .before .loop-test .taken) ∙ c .before .before .loop .inv
+
+field-requires : tie.Need-field-requires Inv-loop μ-loop
+field-requires c κs = search needs
+
+returns : tie.Need-returns Inv-loop μ-loop
+returns c = c .field .ensures ∙ line-here (c .before .before .loop .left) (c .before .before .loop .unread .now) (c .before .loop-test .left) ∙ c .before .before .loop .inv
+
+pub line-of-spec : {M : Type 1} → statement M
+line-of-spec =
+    tie.close
+    (tie.spec
+    Inv-loop
+    μ-loop
+    loop-holds
+    rest-requires
+    sub-left
+    loop-less
+    loop-again
+    field-requires
+    returns)

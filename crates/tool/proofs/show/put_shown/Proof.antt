@@ -1,0 +1,65 @@
+-- `tool::show::put_shown` meets its contract. Assumes nothing.
+use Prim.Native.Nat.{_+_, _-_, _≤_}
+use mathlib.Core.Path.{_≡_, refl, sym, _∙_}
+use native.Mathlib.Omega.{arith}
+use borrow.Author.Needs.{needs}
+use lib.ListN.{length, drop, getD}
+use Rattle.lines.specs.Put.{each}
+use Rattle.lines.proofs.PutLaws.{ToPut, to-put, then-put, all-put, put-same, each-more, each-end}
+use Rattle.tool.specs.Show.{shownByte, shownText}
+use Rattle.tool.proofs.show.put_shown.Statement.{statement}
+use Rattle.tool.proofs.show.put_shown.Tie as tie
+
+abbrev Inv-loop : tie.InvT-loop
+Inv-loop out₀ at s i₀ to₀ out i to = ToPut out₀ at (shownText s) out to (each shownByte (drop i s)) × (length out ≡ length out₀) × (i ≤ length s)
+
+abbrev μ-loop : tie.MeasureT-loop
+μ-loop out₀ at s i₀ to₀ out i to = length s - i
+
+loop-holds : tie.Need-loop-holds Inv-loop μ-loop
+unfolding shownText
+loop-holds c = (to-put _ _ _, refl, omega arith)
+
+shared-slice-read-glyph : tie.Need-shared-slice-read-glyph Inv-loop μ-loop
+shared-slice-read-glyph c = omega arith
+
+glyph-requires : tie.Need-glyph-requires Inv-loop μ-loop
+glyph-requires c κs = search needs
+
+slice-aggregate-put-bytes : tie.Need-slice-aggregate-put-bytes Inv-loop μ-loop
+slice-aggregate-put-bytes c = search needs
+
+put-bytes-requires : tie.Need-put-bytes-requires Inv-loop μ-loop
+put-bytes-requires c κs = search needs
+
+add-i : tie.Need-add-i Inv-loop μ-loop
+add-i c = omega arith
+
+loop-less : tie.Need-loop-less Inv-loop μ-loop
+loop-less c = omega arith
+
+loop-again : tie.Need-loop-again Inv-loop μ-loop
+loop-again c = (then-put (shownByte (getD (c .before .before .before .before .before .before .before .before .before .before .before .args .s .now) (c .before .before .before .before .before .before .before .before .loop .i) 0)) (each shownByte (drop (c .before .before .before .before .before .before .before .before .loop .i + 1) (c .before .before .before .before .before .before .before .before .before .before .before .args .s .now))) (each-more shownByte (c .before .before .before .before .before .before .before .before .before .before .before .args .s .now) (c .before .before .before .before .before .before .before .before .loop .i) (c .before .before .before .before .before .before .before .loop-test .taken)) (c .before .before .before .before .before .before .before .before .loop .inv .0) (put-same (c .before .before .before .before .glyph .ensures) (c .before .before .put-bytes .ensures)), c .before .before .put-bytes .kept .0 ∙ c .before .before .before .before .before .before .before .before .loop .inv .1, omega arith)
+
+same-length : tie.Need-same-length Inv-loop μ-loop
+same-length c = c .before .loop .inv .1
+
+returns : tie.Need-returns Inv-loop μ-loop
+returns c = all-put (each-end shownByte (c .before .before .before .before .args .s .now) (c .before .loop .i) (c .loop-test .left)) (c .before .loop .inv .0)
+
+pub put-shown-spec : {M : Type 1} → statement M
+put-shown-spec =
+    tie.close
+    (tie.spec
+    Inv-loop
+    μ-loop
+    loop-holds
+    shared-slice-read-glyph
+    glyph-requires
+    slice-aggregate-put-bytes
+    put-bytes-requires
+    add-i
+    loop-less
+    loop-again
+    same-length
+    returns)

@@ -1,0 +1,52 @@
+-- `tool::show::put_times` meets its contract. Assumes nothing.
+use Prim.Native.Nat.{_-_}
+use mathlib.Core.Path.{_≡_, refl, _∙_}
+use native.Mathlib.Omega.{arith}
+use borrow.Author.Needs.{needs}
+use lib.ListN.{length}
+use Rattle.lines.proofs.PutLaws.{ToPut, to-put, then-put, all-put}
+use Rattle.tool.specs.Show.{times}
+use Rattle.tool.proofs.ShowLaws.{times-more, times-none}
+use Rattle.tool.proofs.show.put_times.Statement.{statement}
+use Rattle.tool.proofs.show.put_times.Tie as tie
+
+abbrev Inv-loop : tie.InvT-loop
+Inv-loop out₀ at s n left₀ to₀ out left to = ToPut out₀ at (times n s) out to (times left s) × (length out ≡ length out₀)
+
+abbrev μ-loop : tie.MeasureT-loop
+μ-loop out₀ at s n left₀ to₀ out left to = left
+
+loop-holds : tie.Need-loop-holds Inv-loop μ-loop
+loop-holds c = (to-put _ _ _, refl)
+
+put-bytes-requires : tie.Need-put-bytes-requires Inv-loop μ-loop
+put-bytes-requires c κs = search needs
+
+sub-left : tie.Need-sub-left Inv-loop μ-loop
+sub-left c = omega arith
+
+loop-less : tie.Need-loop-less Inv-loop μ-loop
+loop-less c = omega arith
+
+loop-again : tie.Need-loop-again Inv-loop μ-loop
+loop-again c = (then-put (c .before .before .before .before .before .before .before .before .args .s .now) (times (c .before .before .before .before .before .loop .left - 1) (c .before .before .before .before .before .before .before .before .args .s .now)) (times-more (c .before .before .before .before .before .loop .left) (c .before .before .before .before .before .before .before .before .args .s .now) (c .before .before .before .before .loop-test .taken)) (c .before .before .before .before .before .loop .inv .0) (c .before .before .put-bytes .ensures), c .before .before .put-bytes .kept .0 ∙ c .before .before .before .before .before .loop .inv .1)
+
+same-length : tie.Need-same-length Inv-loop μ-loop
+same-length c = c .before .loop .inv .1
+
+returns : tie.Need-returns Inv-loop μ-loop
+returns c = all-put (times-none (c .before .loop .left) (c .before .before .before .before .args .s .now) (c .loop-test .left)) (c .before .loop .inv .0)
+
+pub put-times-spec : {M : Type 1} → statement M
+put-times-spec =
+    tie.close
+    (tie.spec
+    Inv-loop
+    μ-loop
+    loop-holds
+    put-bytes-requires
+    sub-left
+    loop-less
+    loop-again
+    same-length
+    returns)

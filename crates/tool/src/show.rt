@@ -1,0 +1,259 @@
+// What is shown of a tree and of a refusal, put into a lent output from a place on; each answers the next place.
+ghost use mathlib.Core.Path.{_≡_};
+ghost use mathlib.Core.List.{[], _∷_};
+ghost use lib.ListN.{take, drop, getD};
+ghost use Rattle.lines.specs.Put.{Put};
+ghost use Rattle.tool.specs.Show.{shownByte, shownText, times, depthOf, lineOf};
+
+// The word at `i`, or 0 beyond the end.
+fn word_at(words: &[u64], i: usize) -> u64
+    ensures { λ r. ⌜ r ≡ getD (now (words .entry)) i 0 ⌝ }
+{
+    if i < words.len() {
+        return words[i];
+    }
+    0
+}
+
+// At most `n` items of `s` from `from` on.
+fn part(s: &[u8], from: usize, n: usize) -> &[u8]
+    ensures { λ r. ⌜ now r ≡ take n (drop from (now (s .entry))) ⌝ }
+{
+    if from <= s.len() {
+        return lines::front(&s[from..], n);
+    }
+    lines::front(s, 0)
+}
+
+// How often a byte stands in the text.
+pub fn count_of(s: &[u8], b: u8) -> usize {
+    let mut n = 0;
+    let mut i = 0;
+    while i < s.len() {
+        if s[i] == b {
+            n += 1;
+        }
+        i += 1;
+    }
+    n
+}
+
+// A byte that is no printable ASCII shows as a dot, so that each byte takes one column.
+fn glyph(b: u8) -> u8
+    ensures { λ r. ⌜ r ∷ [] ≡ shownByte b ⌝ }
+{
+    if b < b' ' {
+        return b'.';
+    }
+    if b'~' < b {
+        return b'.';
+    }
+    b
+}
+
+pub fn put_shown(out: &mut [u8], at: usize, s: &[u8]) -> usize
+    ensures { λ r. ⌜ Put (now (out .entry)) at (shownText (now (s .entry))) (now (out .exit)) r ⌝ }
+{
+    let mut i = 0;
+    let mut to = at;
+    while i < s.len() {
+        to = lines::put_bytes(out, to, &[glyph(s[i])]);
+        i += 1;
+    }
+    to
+}
+
+// The same bytes `n` times.
+fn put_times(out: &mut [u8], at: usize, s: &[u8], n: usize) -> usize
+    ensures { λ r. ⌜ Put (now (out .entry)) at (times n (now (s .entry))) (now (out .exit)) r ⌝ }
+{
+    let mut left = n;
+    let mut to = at;
+    while 0 < left {
+        to = lines::put_bytes(out, to, s);
+        left -= 1;
+    }
+    to
+}
+
+// A number and its unit, in the plural but for 1.
+pub fn put_count(out: &mut [u8], at: usize, n: u64, unit: &[u8]) -> usize {
+    let number = lines::put_number(out, at, n);
+    let space = lines::put_bytes(out, number, b" ");
+    let to = lines::put_bytes(out, space, unit);
+    if n == 1 {
+        return to;
+    }
+    lines::put_bytes(out, to, b"s")
+}
+
+// The count of nodes in a sheet, of which there are at most 2,001.
+pub fn node_count(words: &[u64]) -> u16 {
+    let n = word_at(words, 0);
+    if 2001 < n {
+        return 2001;
+    }
+    n as u16
+}
+
+// How many nodes hold node `i`: those before it whose subtree reaches beyond it.
+fn depth(words: &[u64], i: u16) -> usize
+    ensures { λ r. ⌜ r ≡ depthOf (now (words .entry)) i ⌝ }
+{
+    let mut n = 0;
+    let mut j = 0;
+    while j < i {
+        let count = word_at(words, 4 * (j as usize) + 7);
+        if ((i - j) as u64) < count {
+            n += 1;
+        }
+        j += 1;
+    }
+    n
+}
+
+// The line of a table with the number `k`, from 0 on.
+fn line_of(table: &[u8], k: u64) -> &[u8]
+    ensures { λ r. ⌜ now r ≡ lineOf k (now (table .entry)) ⌝ }
+{
+    let mut unread = table;
+    let mut left = k;
+    while 0 < left {
+        let next = lines::rest(unread, b'\n');
+        unread = next;
+        left -= 1;
+    }
+    lines::field(unread, b'\n')
+}
+
+// What stands before a node's numbers or its name, by its kind.
+fn put_kind(out: &mut [u8], at: usize, kind: u64) -> usize {
+    let table = b"char\nshort\nint\nlong\nlong long\n\
+        unsigned char\nunsigned short\nunsigned int\nunsigned long\nunsigned long long\n\
+        float\ndouble\nlong double\ncomplex float\ncomplex double\ncomplex long double\n\
+        bool\nvoid\nC string\nobject\nblock\nclass\nselector\nunknown\n\
+        bitfield of \nbitfield at offset \npointer\natomic\narray of \nstruct \nunion \nnothing";
+    lines::put_bytes(out, at, line_of(table, kind))
+}
+
+// A node's numbers or its name.
+fn put_values(
+    out: &mut [u8],
+    at: usize,
+    names: &[u8],
+    kind: u64,
+    first: u64,
+    second: u64,
+) -> usize {
+    match kind {
+        24 => put_count(out, at, second, b"bit"),
+        25 => {
+            let offset = lines::put_number(out, at, first);
+            let of = lines::put_bytes(out, offset, b" of ");
+            put_count(out, of, second, b"bit")
+        }
+        28 => lines::put_number(out, at, first),
+        29 | 30 => lines::put_bytes(out, at, part(names, first as usize, second as usize)),
+        _ => at,
+    }
+}
+
+// A number in a column that is as wide as `widest`.
+fn put_right(out: &mut [u8], at: usize, n: u64, widest: u64) -> usize {
+    let width = static_str::static_int_str_len(widest);
+    let digits = static_str::static_int_str_len(n);
+    if digits < width {
+        let to = put_times(out, at, b" ", width - digits);
+        return lines::put_number(out, to, n);
+    }
+    lines::put_number(out, at, n)
+}
+
+// The line of a node: its number, in a column for the last one's, and its kind, two columns deeper than its parent's.
+pub fn put_node(out: &mut [u8], words: &[u64], names: &[u8], i: u16, last: u16) -> usize {
+    let number = put_right(out, 0, i as u64, last as u64);
+    let space = lines::put_bytes(out, number, b" ");
+    let to = put_times(out, space, b"  ", depth(words, i));
+    let at = 4 * (i as usize);
+    let kind = word_at(words, at + 4);
+    let first = word_at(words, at + 5);
+    let second = word_at(words, at + 6);
+    let values = put_kind(out, to, kind);
+    put_values(out, values, names, kind, first, second)
+}
+
+// The byte that a refusal names: itself, or its number where it does not show.
+fn put_byte(out: &mut [u8], at: usize, byte: u64) -> usize {
+    if 32 < byte && byte < 127 {
+        return lines::put_bytes(out, at, &[byte as u8]);
+    }
+    let to = lines::put_bytes(out, at, b"byte ");
+    lines::put_number(out, to, byte)
+}
+
+fn put_container(out: &mut [u8], at: usize, kind: u64) -> usize {
+    if kind == 30 {
+        return lines::put_bytes(out, at, b"union");
+    }
+    lines::put_bytes(out, at, b"struct")
+}
+
+// A text of more than 2,000 bytes shows its first 60.
+fn put_text(out: &mut [u8], at: usize, text: &[u8]) -> usize {
+    if text.len() <= 2000 {
+        return put_shown(out, at, text);
+    }
+    let to = put_shown(out, at, lines::front(text, 60));
+    lines::put_bytes(out, to, b"...")
+}
+
+// A line with a mark under the place; a refusal up to 6 has no place.
+fn put_mark(out: &mut [u8], at: usize, number: u64, place: u64) -> usize {
+    if number < 7 {
+        return at;
+    }
+    let line = lines::put_bytes(out, at, b"\n");
+    let to = put_times(out, line, b" ", place as usize);
+    lines::put_bytes(out, to, b"^")
+}
+
+// Why an input was turned away, by document 01's number, up to the byte or container that the refusal names.
+fn put_reason(out: &mut [u8], at: usize, number: u64) -> usize {
+    let table = b"\n\
+        the text has more than 2,000 bytes\n\
+        the lists are too short for the tree\n\
+        the lists hold no tree\n\
+        a name is neither ? nor letters, digits and underscores\n\
+        the output is too short for the text\n\
+        the size is above 2^64 - 1 bytes\n\
+        the text ends where another byte must stand\n\
+        no type starts with \n\
+        f, d or D must follow j, not \n\
+        a digit must stand here\n\
+        a number is above 2^64 - 1, or a bitfield's size above 255\n\
+        no ] follows the array's item\n\
+        the text ends inside the \n\
+        neither ? nor letters, digits and underscores name the \n\
+        bytes remain after the type";
+    lines::put_bytes(out, at, line_of(table, number))
+}
+
+// The byte or the container that a refusal names.
+fn put_named(out: &mut [u8], at: usize, number: u64, byte: u64, container: u64) -> usize {
+    match number {
+        8 | 9 => put_byte(out, at, byte),
+        13 | 14 => put_container(out, at, container),
+        _ => at,
+    }
+}
+
+// The text, a mark under the refusal's place if it has one, and the reason.
+pub fn put_refused(out: &mut [u8], text: &[u8], why: &[u64; 4]) -> usize {
+    let shown = put_text(out, 0, text);
+    let mark = put_mark(out, shown, why[0], why[1]);
+    let to = lines::put_bytes(out, mark, b"\nrefused (");
+    let number = lines::put_number(out, to, why[0]);
+    let reason = lines::put_bytes(out, number, b"): ");
+    let named = put_reason(out, reason, why[0]);
+    put_named(out, named, why[0], why[2], why[3])
+}
