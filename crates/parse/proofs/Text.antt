@@ -5,7 +5,9 @@ use mathlib.Core.List.{List, _++_}
 use mathlib.Core.Bool.{Bool, true, false, _||_}
 use native.Mathlib.Omega.{arith}
 use lib.ListN.{length, drop, getD, replicate, length-drop, length-append, length-replicate}
+use lib.Seq.{take-all}
 use borrow.Author.Tests.{eq-eqb, ne-eqb}
+use borrow.Rule.Slice.PartMut.{midOf}
 use Rattle.kinds.specs.Byte.{among}
 use Rattle.kinds.specs.Parse.{isQualifier, stripLeadingQualifiers}
 use Rattle.parse.specs.Out.{cleared}
@@ -41,3 +43,7 @@ cleared-length n w h =
     let e : length (z ++ drop n w) ≡ length z + length (drop n w) = length-append z (drop n w) in
     let f : length z ≡ n = length-replicate n 0 in
     omega (arith, length-drop n w)
+
+-- A text handed on as its part from the start on.
+pub handed-on : (s : List ℕ) → midOf 0 (length s - 0) s ≡ s
+handed-on s = take-all (length s - 0) s (omega arith)
