@@ -32,7 +32,8 @@ use Rattle.parse.proofs.Cycle.{reads-simple, kept-frame, nodes-length, 
 use Rattle.kinds.proofs.ListLaws.{unread-end}
 use Rattle.parse.proofs.Sheets.{slack-le, simple-code}
 use Rattle.parse.proofs.Stores.{sets-append, sets-front-append, sets-part}
-use Rattle.parse.proofs.Text.{cleared-length, strip-stop}
+use Rattle.parser.proofs.TextLaws.{strip-stop}
+use Rattle.parse.proofs.Text.{cleared-length}
 
 -- ---- A list lent from a place on.
 

@@ -1,5 +1,6 @@
 // Reading text: parse.rs, and the two readings of encoding_box.rs. A tree is written into lent lists in one pass.
 // Below the entry points `words` is the words from the first node on: node n is at 4 * n.
+// `&text[0..]` is handed on where `text` would be copied to memory and read back at once.
 ghost use mathlib.Core.Path.{_≡_};
 ghost use Prim.Native.Nat.{_+_, _*_, _-_, _≤_, _<_};
 ghost use lib.ListN.{length, drop};
@@ -631,12 +632,12 @@ fn parse_inner(
         b'[' => match parse_number(text, to + 1, 18446744073709551615) {
             Number::Refused(why, end) => Parsed::Refused(why, end),
             Number::Value(len, item) => {
-                let p = parse_inner(text, item, words, k + 1, names, m);
+                let p = parse_inner(&text[0..], item, words, k + 1, names, m);
                 put_array(p, text, item, len, words, k, m)
             }
         },
-        b'{' => parse_container(text, to, ContainerKind::Struct, words, k, names, m),
-        b'(' => parse_container(text, to, ContainerKind::Union, words, k, names, m),
+        b'{' => parse_container(&text[0..], to, ContainerKind::Struct, words, k, names, m),
+        b'(' => parse_container(&text[0..], to, ContainerKind::Union, words, k, names, m),
         _ => parse_simple(text, to, words, k, m),
     };
     put_indirections(p, text, at, to, words, n, m)
@@ -682,7 +683,7 @@ fn parse_container(
                 let past = put_codes(text, to, words, k);
                 k += past - to;
                 to = past;
-                let p = parse_inner(text, to, words, k, names, l);
+                let p = parse_inner(&text[0..], to, words, k, names, l);
                 match p {
                     Parsed::Encoding(to2, k2, l2) => {
                         to = to2;
@@ -834,14 +835,14 @@ fn skip_inner(text: &[u8], at: usize) -> Skipped
     }
     let b = text[at];
     match b {
-        b'^' => skip_held(skip_inner(text, at + 1), at + 1),
-        b'A' => skip_held(skip_inner(text, at + 1), at + 1),
+        b'^' => skip_held(skip_inner(&text[0..], at + 1), at + 1),
+        b'A' => skip_held(skip_inner(&text[0..], at + 1), at + 1),
         b'[' => match parse_number(text, at + 1, 18446744073709551615) {
             Number::Refused(why, to) => Skipped::Refused(why, to),
-            Number::Value(_, item) => skip_item(skip_inner(text, item), text, item),
+            Number::Value(_, item) => skip_item(skip_inner(&text[0..], item), text, item),
         },
-        b'{' => skip_container(text, at, ContainerKind::Struct),
-        b'(' => skip_container(text, at, ContainerKind::Union),
+        b'{' => skip_container(&text[0..], at, ContainerKind::Struct),
+        b'(' => skip_container(&text[0..], at, ContainerKind::Union),
         _ => skip_simple(text, at),
     }
 }
@@ -853,7 +854,7 @@ fn skip_container(text: &[u8], at: usize, kind: ContainerKind) -> Skipped
 {
     match parse_name(text, at + 1, kind) {
         Name::Refused(why, to) => Skipped::Refused(why, to),
-        Name::Is(_, start) => skip_contained(skip_items(text, start, kind)),
+        Name::Is(_, start) => skip_contained(skip_items(&text[0..], start, kind)),
     }
 }
 
@@ -864,7 +865,7 @@ fn skip_items(text: &[u8], at: usize, kind: ContainerKind) -> SkippedItems
 {
     let mut to = at;
     loop {
-        let s = skip_inner(text, to);
+        let s = skip_inner(&text[0..], to);
         match s {
             Skipped::Encoding(to2) => {
                 to = to2;
@@ -886,7 +887,7 @@ pub enum SkippedFields {
 pub fn skip_fields(text: &[u8], kind: ContainerKind) -> SkippedFields
     ensures { λ r. ⌜ SkippedFieldsIs (now (text .entry)) r (skipItems kind (now (text .entry))) ⌝ }
 {
-    match skip_items(text, 0, kind) {
+    match skip_items(&text[0..], 0, kind) {
         SkippedItems::Read(to) => SkippedFields::To(to),
         SkippedItems::Refused(_, _) => SkippedFields::Refused,
     }
@@ -1015,7 +1016,7 @@ fn parse_encoding_or_none(text: &[u8], words: &mut [u64], names: &mut [u8]) -> E
     }
     clear_sheet(n, words, names);
     let at = strip_leading_qualifiers(text);
-    let p = parse_inner(text, at, &mut words[4..], 0, names, 0);
+    let p = parse_inner(&text[0..], at, &mut words[4..], 0, names, 0);
     encoding_or_none(p, n, words, names)
 }
 

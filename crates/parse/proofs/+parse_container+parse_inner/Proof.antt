@@ -16,6 +16,7 @@ use lib.ListN.{length}
 use Rattle.parse.specs.declared.Items.{Items}
 use Rattle.parse.proofs.Sheets.{starts}
 use Rattle.parse.proofs.Cycle.{reads-end, reads-simple, reads-item, reads-no-number, reads-no-name, reads-contained, items-end, items-more, ready-part, room-two, after-parsed, after-items, ready-fields, ready-more, opens-closes, NotFound}
+use Rattle.parse.proofs.Text.{handed-on}
 use Rattle.parse.proofs.Runs.{ready-codes, ready-run, run-room, after-bound, not-indirection}
 use borrow.Fn.Kinds.{In}
 use borrow.Fn.PlainCycle.{Measures, is, falls, and}
@@ -122,32 +123,41 @@ parse-container-sub-k t c = omega (arith, c .before .before .put-codes .ensures 
 parse-container-add-k-2 : (t : ℕ) → parse-container-lts.Need-add-k-2 (parse-container-claims t) (parse-container-at t) parse-container.Post parse-container-Inv-loop parse-container-μ-loop
 parse-container-add-k-2 t c = omega (arith, c .before .before .before .before .loop .inv .0 .words-room, c .before .before .put-codes .ensures .room, c .before .before .before .before .loop .inv .1 .1 .0 .0)
 
+parse-container-sub-parse-inner : (t : ℕ) → parse-container-lts.Need-sub-parse-inner (parse-container-claims t) (parse-container-at t) parse-container.Post parse-container-Inv-loop parse-container-μ-loop
+parse-container-sub-parse-inner t c = search needs
+
+parse-container-part-parse-inner-start : (t : ℕ) → parse-container-lts.Need-part-parse-inner-start (parse-container-claims t) (parse-container-at t) parse-container.Post parse-container-Inv-loop parse-container-μ-loop
+parse-container-part-parse-inner-start t c = search needs
+
+parse-container-part-parse-inner-end : (t : ℕ) → parse-container-lts.Need-part-parse-inner-end (parse-container-claims t) (parse-container-at t) parse-container.Post parse-container-Inv-loop parse-container-μ-loop
+parse-container-part-parse-inner-end t c = search needs
+
 parse-container-parse-inner-requires : (t : ℕ) → parse-container-lts.Need-parse-inner-requires (parse-container-claims t) (parse-container-at t) parse-container.Post parse-container-Inv-loop parse-container-μ-loop
 parse-container-parse-inner-requires t c κs =
-    let T : List ℕ = c .before .before .before .before .before .before .before .before .before .before .before .before .before .before .before .before .before .args .text .now in
-    let B : Lists = lists (c .before .before .before .before .before .before .before .before .before .before .before .before .before .before .before .before .before .args .words .now) (c .before .before .before .before .before .before .before .before .before .before .before .before .before .before .before .before .before .args .names .now) in
-    let q = rw (c .before .before .before .before .before .before .before .before .start .given .1) at (c .before .before .before .before .before .before .before .before .before .before .before .before .put-name .ensures) in
-    (omega (arith, c .before .before .before .before .before .before .before .before .before .before .before .before .before .before .before .before .before .pre .0, c .before .before .before .before .before .before .loop .inv .1 .0, c .before .before .before .before .put-codes .ensures .onward, c .before .before .before .before .put-codes .ensures .within, q .onward), (ready-codes T (c .before .before .before .before .before .before .loop .to) (c .before .before .before .before .before .before .loop .k) (c .before .before .before .before .before .before .loop .l) (c .before .before .before .before .put-codes .result) (c .before .before .before .before .before .before .loop .words) (c .before .before .before .before .put-codes .last .1 .1 .0) (c .before .before .before .before .before .before .loop .names) (c .before .before .before .before .before .before .loop .inv .0) (c .before .before .before .before .put-codes .ensures) (c .before .before .before .before .put-codes .kept .1 .1 .0)))
+    let T : List ℕ = c .before .before .before .before .before .before .before .before .before .before .before .before .before .before .before .before .before .before .args .text .now in
+    let B : Lists = lists (c .before .before .before .before .before .before .before .before .before .before .before .before .before .before .before .before .before .before .args .words .now) (c .before .before .before .before .before .before .before .before .before .before .before .before .before .before .before .before .before .before .args .names .now) in
+    let q = rw (c .before .before .before .before .before .before .before .before .before .start .given .1) at (c .before .before .before .before .before .before .before .before .before .before .before .before .before .put-name .ensures) in
+    rw (handed-on (c .before .before .before .before .before .before .before .before .before .before .before .before .before .before .before .before .before .before .args .text .now)) (omega (arith, c .before .before .before .before .before .before .before .before .before .before .before .before .before .before .before .before .before .before .pre .0, c .before .before .before .before .before .before .before .loop .inv .1 .0, c .before .before .before .before .before .put-codes .ensures .onward, c .before .before .before .before .before .put-codes .ensures .within, q .onward), (ready-codes T (c .before .before .before .before .before .before .before .loop .to) (c .before .before .before .before .before .before .before .loop .k) (c .before .before .before .before .before .before .before .loop .l) (c .before .before .before .before .before .put-codes .result) (c .before .before .before .before .before .before .before .loop .words) (c .before .before .before .before .before .put-codes .last .1 .1 .0) (c .before .before .before .before .before .before .before .loop .names) (c .before .before .before .before .before .before .before .loop .inv .0) (c .before .before .before .before .before .put-codes .ensures) (c .before .before .before .before .before .put-codes .kept .1 .1 .0)))
 
 parse-container-enum-known-p : (t : ℕ) → parse-container-lts.Need-enum-known-p (parse-container-claims t) (parse-container-at t) parse-container.Post parse-container-Inv-loop parse-container-μ-loop
 parse-container-enum-known-p t c = search needs
 
 parse-container-loop-less : (t : ℕ) → parse-container-lts.Need-loop-less (parse-container-claims t) (parse-container-at t) parse-container.Post parse-container-Inv-loop parse-container-μ-loop
-parse-container-loop-less t c = let r = rw (c .before .p .given .1) at (c .before .before .before .before .before .before .before .parse-inner .ensures) in omega (arith, c .before .before .before .before .before .before .before .before .before .before .before .before .put-codes .ensures .onward, r .bound .onward, r .bound .within)
+parse-container-loop-less t c = let r = rw (handed-on (c .before .before .before .before .before .before .before .before .before .before .before .before .before .before .before .before .before .before .before .before .before .before .before .before .before .before .args .text .now)) at (rw (c .before .p .given .1) at (c .before .before .before .before .before .before .before .parse-inner .ensures)) in omega (arith, c .before .before .before .before .before .before .before .before .before .before .before .before .before .put-codes .ensures .onward, r .bound .onward, r .bound .within)
 
 parse-container-loop-again : (t : ℕ) → parse-container-lts.Need-loop-again (parse-container-claims t) (parse-container-at t) parse-container.Post parse-container-Inv-loop parse-container-μ-loop
 parse-container-loop-again t c =
-    let T : List ℕ = c .before .before .before .before .before .before .before .before .before .before .before .before .before .before .before .before .before .before .before .before .before .before .before .before .before .args .text .now in
-    let B : Lists = lists (c .before .before .before .before .before .before .before .before .before .before .before .before .before .before .before .before .before .before .before .before .before .before .before .before .before .args .words .now) (c .before .before .before .before .before .before .before .before .before .before .before .before .before .before .before .before .before .before .before .before .before .before .before .before .before .args .names .now) in
-    let b : Lists = lists (c .before .before .before .before .before .before .before .before .before .before .before .before .put-codes .last .1 .1 .0) (c .before .before .before .before .before .before .before .before .before .before .before .before .before .before .loop .names) in
+    let T : List ℕ = c .before .before .before .before .before .before .before .before .before .before .before .before .before .before .before .before .before .before .before .before .before .before .before .before .before .before .args .text .now in
+    let B : Lists = lists (c .before .before .before .before .before .before .before .before .before .before .before .before .before .before .before .before .before .before .before .before .before .before .before .before .before .before .args .words .now) (c .before .before .before .before .before .before .before .before .before .before .before .before .before .before .before .before .before .before .before .before .before .before .before .before .before .before .args .names .now) in
+    let b : Lists = lists (c .before .before .before .before .before .before .before .before .before .before .before .before .before .put-codes .last .1 .1 .0) (c .before .before .before .before .before .before .before .before .before .before .before .before .before .before .before .loop .names) in
     let A : Lists = lists (c .before .before .before .before .before .before .before .parse-inner .last .1 .1 .0) (c .before .before .before .before .before .before .before .parse-inner .last .1 .1 .1 .1 .0) in
-    let r = rw (c .before .p .given .1) at (c .before .before .before .before .before .before .before .parse-inner .ensures) in (
-      ready-more T (c .before .before .before .before .before .before .before .before .before .before .before .before .put-codes .result) (c .before .before .before .before .before .before .before .before .before .before .before .before .before .before .loop .k + (c .before .before .before .before .before .before .before .before .before .before .before .before .put-codes .result - c .before .before .before .before .before .before .before .before .before .before .before .before .before .before .loop .to)) (c .before .before .before .before .before .before .before .before .before .before .before .before .before .before .loop .l) b A _ _ _ (ready-codes T (c .before .before .before .before .before .before .before .before .before .before .before .before .before .before .loop .to) (c .before .before .before .before .before .before .before .before .before .before .before .before .before .before .loop .k) (c .before .before .before .before .before .before .before .before .before .before .before .before .before .before .loop .l) (c .before .before .before .before .before .before .before .before .before .before .before .before .put-codes .result) (c .before .before .before .before .before .before .before .before .before .before .before .before .before .before .loop .words) (c .before .before .before .before .before .before .before .before .before .before .before .before .put-codes .last .1 .1 .0) (c .before .before .before .before .before .before .before .before .before .before .before .before .before .before .loop .names) (c .before .before .before .before .before .before .before .before .before .before .before .before .before .before .loop .inv .0) (c .before .before .before .before .before .before .before .before .before .before .before .before .put-codes .ensures) (c .before .before .before .before .before .before .before .before .before .before .before .before .put-codes .kept .1 .1 .0)) (c .before .before .before .before .before .before .before .parse-inner .kept .1 .1 .0) (c .before .before .before .before .before .before .before .parse-inner .kept .1 .1 .1 .1 .0) (r .bound),
+    let r = rw (handed-on (c .before .before .before .before .before .before .before .before .before .before .before .before .before .before .before .before .before .before .before .before .before .before .before .before .before .before .args .text .now)) at (rw (c .before .p .given .1) at (c .before .before .before .before .before .before .before .parse-inner .ensures)) in (
+      ready-more T (c .before .before .before .before .before .before .before .before .before .before .before .before .before .put-codes .result) (c .before .before .before .before .before .before .before .before .before .before .before .before .before .before .before .loop .k + (c .before .before .before .before .before .before .before .before .before .before .before .before .before .put-codes .result - c .before .before .before .before .before .before .before .before .before .before .before .before .before .before .before .loop .to)) (c .before .before .before .before .before .before .before .before .before .before .before .before .before .before .before .loop .l) b A _ _ _ (ready-codes T (c .before .before .before .before .before .before .before .before .before .before .before .before .before .before .before .loop .to) (c .before .before .before .before .before .before .before .before .before .before .before .before .before .before .before .loop .k) (c .before .before .before .before .before .before .before .before .before .before .before .before .before .before .before .loop .l) (c .before .before .before .before .before .before .before .before .before .before .before .before .before .put-codes .result) (c .before .before .before .before .before .before .before .before .before .before .before .before .before .before .before .loop .words) (c .before .before .before .before .before .before .before .before .before .before .before .before .before .put-codes .last .1 .1 .0) (c .before .before .before .before .before .before .before .before .before .before .before .before .before .before .before .loop .names) (c .before .before .before .before .before .before .before .before .before .before .before .before .before .before .before .loop .inv .0) (c .before .before .before .before .before .before .before .before .before .before .before .before .before .put-codes .ensures) (c .before .before .before .before .before .before .before .before .before .before .before .before .before .put-codes .kept .1 .1 .0)) (c .before .before .before .before .before .before .before .parse-inner .kept .1 .1 .0) (c .before .before .before .before .before .before .before .parse-inner .kept .1 .1 .1 .1 .0) (r .bound),
       (
-        omega (arith, c .before .before .before .before .before .before .before .before .before .before .before .before .before .before .loop .inv .1 .0, c .before .before .before .before .before .before .before .before .before .before .before .before .put-codes .ensures .onward, r .bound .onward),
+        omega (arith, c .before .before .before .before .before .before .before .before .before .before .before .before .before .before .before .loop .inv .1 .0, c .before .before .before .before .before .before .before .before .before .before .before .before .before .put-codes .ensures .onward, r .bound .onward),
         (
-          (c .before .before .before .before .before .before .before .parse-inner .kept .1 .1 .0 ∙ c .before .before .before .before .before .before .before .before .before .before .before .before .put-codes .kept .1 .1 .0 ∙ c .before .before .before .before .before .before .before .before .before .before .before .before .before .before .loop .inv .1 .1 .0 .0, c .before .before .before .before .before .before .before .parse-inner .kept .1 .1 .1 .1 .0 ∙ c .before .before .before .before .before .before .before .before .before .before .before .before .before .before .loop .inv .1 .1 .0 .1),
-          λ z i x. c .before .before .before .before .before .before .before .before .before .before .before .before .before .before .loop .inv .1 .1 .1 z i (c .before .before .before .before .before .before .before .before .before .before .before .before .put-codes .ensures .reads (c .before .before .before .before .before .before .before .before .before .before .before .before .before .before .before .before .before .before .before .before .before .before .before .before .before .args .kind) (c .before .before .before .before .before .before .before .before .before .before .before .before .before .before .loop .l) (c .before .before .before .before .before .before .before .before .before .before .before .before .before .before .loop .names) z i (items-more T (c .before .before .before .before .before .before .before .before .before .before .before .before .put-codes .result) (c .before .before .before .before .before .before .before .before .before .before .before .before .before .before .before .before .before .before .before .before .before .before .before .before .before .args .kind) (c .before .before .before .before .before .before .before .before .before .before .before .before .before .before .loop .k + (c .before .before .before .before .before .before .before .before .before .before .before .before .put-codes .result - c .before .before .before .before .before .before .before .before .before .before .before .before .before .before .loop .to)) (c .before .before .before .before .before .before .before .before .before .before .before .before .before .before .loop .l) b A _ _ _ z i r x)),
+          (c .before .before .before .before .before .before .before .parse-inner .kept .1 .1 .0 ∙ c .before .before .before .before .before .before .before .before .before .before .before .before .before .put-codes .kept .1 .1 .0 ∙ c .before .before .before .before .before .before .before .before .before .before .before .before .before .before .before .loop .inv .1 .1 .0 .0, c .before .before .before .before .before .before .before .parse-inner .kept .1 .1 .1 .1 .0 ∙ c .before .before .before .before .before .before .before .before .before .before .before .before .before .before .before .loop .inv .1 .1 .0 .1),
+          λ z i x. c .before .before .before .before .before .before .before .before .before .before .before .before .before .before .before .loop .inv .1 .1 .1 z i (c .before .before .before .before .before .before .before .before .before .before .before .before .before .put-codes .ensures .reads (c .before .before .before .before .before .before .before .before .before .before .before .before .before .before .before .before .before .before .before .before .before .before .before .before .before .before .args .kind) (c .before .before .before .before .before .before .before .before .before .before .before .before .before .before .before .loop .l) (c .before .before .before .before .before .before .before .before .before .before .before .before .before .before .before .loop .names) z i (items-more T (c .before .before .before .before .before .before .before .before .before .before .before .before .before .put-codes .result) (c .before .before .before .before .before .before .before .before .before .before .before .before .before .before .before .before .before .before .before .before .before .before .before .before .before .before .args .kind) (c .before .before .before .before .before .before .before .before .before .before .before .before .before .before .before .loop .k + (c .before .before .before .before .before .before .before .before .before .before .before .before .before .put-codes .result - c .before .before .before .before .before .before .before .before .before .before .before .before .before .before .before .loop .to)) (c .before .before .before .before .before .before .before .before .before .before .before .before .before .before .before .loop .l) b A _ _ _ z i r x)),
         ),
       ),
     )
@@ -157,14 +167,14 @@ parse-container-end-items-requires t c κs = search needs
 
 parse-container-put-container-requires : (t : ℕ) → parse-container-lts.Need-put-container-requires (parse-container-claims t) (parse-container-at t) parse-container.Post parse-container-Inv-loop parse-container-μ-loop
 parse-container-put-container-requires t c κs =
-    let T : List ℕ = c .before .before .before .before .before .before .before .before .before .before .before .before .before .before .before .before .before .before .before .before .before .before .before .before .before .args .text .now in
-    let B : Lists = lists (c .before .before .before .before .before .before .before .before .before .before .before .before .before .before .before .before .before .before .before .before .before .before .before .before .before .args .words .now) (c .before .before .before .before .before .before .before .before .before .before .before .before .before .before .before .before .before .before .before .before .before .before .before .before .before .args .names .now) in
-    let q = rw (c .before .before .before .before .before .before .before .before .before .before .before .before .before .before .before .before .start .given .1) at (c .before .before .before .before .before .before .before .before .before .before .before .before .before .before .before .before .before .before .before .before .put-name .ensures) in
-    let b : Lists = lists (c .before .before .before .before .before .before .before .before .before .before .before .before .put-codes .last .1 .1 .0) (c .before .before .before .before .before .before .before .before .before .before .before .before .before .before .loop .names) in
+    let T : List ℕ = c .before .before .before .before .before .before .before .before .before .before .before .before .before .before .before .before .before .before .before .before .before .before .before .before .before .before .args .text .now in
+    let B : Lists = lists (c .before .before .before .before .before .before .before .before .before .before .before .before .before .before .before .before .before .before .before .before .before .before .before .before .before .before .args .words .now) (c .before .before .before .before .before .before .before .before .before .before .before .before .before .before .before .before .before .before .before .before .before .before .before .before .before .before .args .names .now) in
+    let q = rw (c .before .before .before .before .before .before .before .before .before .before .before .before .before .before .before .before .before .start .given .1) at (c .before .before .before .before .before .before .before .before .before .before .before .before .before .before .before .before .before .before .before .before .before .put-name .ensures) in
+    let b : Lists = lists (c .before .before .before .before .before .before .before .before .before .before .before .before .before .put-codes .last .1 .1 .0) (c .before .before .before .before .before .before .before .before .before .before .before .before .before .before .before .loop .names) in
     let A : Lists = lists (c .before .before .before .before .before .before .before .parse-inner .last .1 .1 .0) (c .before .before .before .before .before .before .before .parse-inner .last .1 .1 .1 .1 .0) in
-    let e : ItemsReads T (c .before .before .before .before .before .before .before .before .before .before .before .before .put-codes .result) (c .before .before .before .before .before .before .before .before .before .before .before .before .before .before .before .before .before .before .before .before .before .before .before .before .before .args .kind) (c .before .before .before .before .before .before .before .before .before .before .before .before .before .before .loop .k + (c .before .before .before .before .before .before .before .before .before .before .before .before .put-codes .result - c .before .before .before .before .before .before .before .before .before .before .before .before .before .before .loop .to)) (c .before .before .before .before .before .before .before .before .before .before .before .before .before .before .loop .l) b A (c .before .end-items .result) = rw (c .before .end-items .ensures) (items-end T (c .before .before .before .before .before .before .before .before .before .before .before .before .put-codes .result) (c .before .before .before .before .before .before .before .before .before .before .before .before .before .before .before .before .before .before .before .before .before .before .before .before .before .args .kind) (c .before .before .before .before .before .before .before .before .before .before .before .before .before .before .loop .k + (c .before .before .before .before .before .before .before .before .before .before .before .before .put-codes .result - c .before .before .before .before .before .before .before .before .before .before .before .before .before .before .loop .to)) (c .before .before .before .before .before .before .before .before .before .before .before .before .before .before .loop .l) b A (c .before .before .before .before .before .before .before .parse-inner .result) (not-found (c .before .before .before .before .before .before .before .parse-inner .result) (c .before .before .match2 .keys2)) (c .before .before .before .before .before .before .before .parse-inner .ensures)) in
-    let f = c .before .before .before .before .before .before .before .before .before .before .before .before .before .before .loop .inv .1 .1 .1 A (c .before .end-items .result) (c .before .before .before .before .before .before .before .before .before .before .before .before .put-codes .ensures .reads (c .before .before .before .before .before .before .before .before .before .before .before .before .before .before .before .before .before .before .before .before .before .before .before .before .before .args .kind) (c .before .before .before .before .before .before .before .before .before .before .before .before .before .before .loop .l) (c .before .before .before .before .before .before .before .before .before .before .before .before .before .before .loop .names) A (c .before .end-items .result) e) in
-    ((omega (arith, room-two T (c .before .before .before .before .before .before .before .before .before .before .before .before .before .before .before .before .before .before .before .before .before .before .before .before .before .args .at) (c .before .before .before .before .before .before .before .before .before .before .before .before .before .before .before .before .before .before .before .before .before .before .before .before .before .args .n) (c .before .before .before .before .before .before .before .before .before .before .before .before .before .before .before .before .before .before .before .before .before .before .before .before .before .args .m) B (c .before .before .before .before .before .before .before .before .before .before .before .before .before .before .before .before .before .before .before .before .before .before .before .before .before .pre .1 .ready) (c .before .before .before .before .before .before .before .before .before .before .before .before .before .before .before .before .before .before .before .before .before .before .before .before .before .pre .1 .at-byte) (opens-closes _ _ (c .before .before .before .before .before .before .before .before .before .before .before .before .before .before .before .before .before .before .before .before .before .before .before .before .before .pre .1 .opens)), c .before .before .before .before .before .before .before .parse-inner .kept .1 .1 .0, c .before .before .before .before .before .before .before .before .before .before .before .before .put-codes .kept .1 .1 .0, c .before .before .before .before .before .before .before .before .before .before .before .before .before .before .loop .inv .1 .1 .0 .0), omega (arith, q .names-is)), after-items _ _ _ _ _ _ (c .before .end-items .result) (f .bound))
+    let e : ItemsReads T (c .before .before .before .before .before .before .before .before .before .before .before .before .before .put-codes .result) (c .before .before .before .before .before .before .before .before .before .before .before .before .before .before .before .before .before .before .before .before .before .before .before .before .before .before .args .kind) (c .before .before .before .before .before .before .before .before .before .before .before .before .before .before .before .loop .k + (c .before .before .before .before .before .before .before .before .before .before .before .before .before .put-codes .result - c .before .before .before .before .before .before .before .before .before .before .before .before .before .before .before .loop .to)) (c .before .before .before .before .before .before .before .before .before .before .before .before .before .before .before .loop .l) b A (c .before .end-items .result) = rw (c .before .end-items .ensures) (items-end T (c .before .before .before .before .before .before .before .before .before .before .before .before .before .put-codes .result) (c .before .before .before .before .before .before .before .before .before .before .before .before .before .before .before .before .before .before .before .before .before .before .before .before .before .before .args .kind) (c .before .before .before .before .before .before .before .before .before .before .before .before .before .before .before .loop .k + (c .before .before .before .before .before .before .before .before .before .before .before .before .before .put-codes .result - c .before .before .before .before .before .before .before .before .before .before .before .before .before .before .before .loop .to)) (c .before .before .before .before .before .before .before .before .before .before .before .before .before .before .before .loop .l) b A (c .before .before .before .before .before .before .before .parse-inner .result) (not-found (c .before .before .before .before .before .before .before .parse-inner .result) (c .before .before .match2 .keys2)) (rw (handed-on (c .before .before .before .before .before .before .before .before .before .before .before .before .before .before .before .before .before .before .before .before .before .before .before .before .before .before .args .text .now)) at (c .before .before .before .before .before .before .before .parse-inner .ensures))) in
+    let f = c .before .before .before .before .before .before .before .before .before .before .before .before .before .before .before .loop .inv .1 .1 .1 A (c .before .end-items .result) (c .before .before .before .before .before .before .before .before .before .before .before .before .before .put-codes .ensures .reads (c .before .before .before .before .before .before .before .before .before .before .before .before .before .before .before .before .before .before .before .before .before .before .before .before .before .before .args .kind) (c .before .before .before .before .before .before .before .before .before .before .before .before .before .before .before .loop .l) (c .before .before .before .before .before .before .before .before .before .before .before .before .before .before .before .loop .names) A (c .before .end-items .result) e) in
+    ((omega (arith, room-two T (c .before .before .before .before .before .before .before .before .before .before .before .before .before .before .before .before .before .before .before .before .before .before .before .before .before .before .args .at) (c .before .before .before .before .before .before .before .before .before .before .before .before .before .before .before .before .before .before .before .before .before .before .before .before .before .before .args .n) (c .before .before .before .before .before .before .before .before .before .before .before .before .before .before .before .before .before .before .before .before .before .before .before .before .before .before .args .m) B (c .before .before .before .before .before .before .before .before .before .before .before .before .before .before .before .before .before .before .before .before .before .before .before .before .before .before .pre .1 .ready) (c .before .before .before .before .before .before .before .before .before .before .before .before .before .before .before .before .before .before .before .before .before .before .before .before .before .before .pre .1 .at-byte) (opens-closes _ _ (c .before .before .before .before .before .before .before .before .before .before .before .before .before .before .before .before .before .before .before .before .before .before .before .before .before .before .pre .1 .opens)), c .before .before .before .before .before .before .before .parse-inner .kept .1 .1 .0, c .before .before .before .before .before .before .before .before .before .before .before .before .before .put-codes .kept .1 .1 .0, c .before .before .before .before .before .before .before .before .before .before .before .before .before .before .before .loop .inv .1 .1 .0 .0), omega (arith, q .names-is)), after-items _ _ _ _ _ _ (c .before .end-items .result) (f .bound))
 
 parse-container-same-length : (t : ℕ) → parse-container-lts.Need-same-length (parse-container-claims t) (parse-container-at t) parse-container.Post parse-container-Inv-loop parse-container-μ-loop
 parse-container-same-length t c = search needs
@@ -174,14 +184,14 @@ parse-container-same-length-2 t c = search needs
 
 parse-container-returns : (t : ℕ) → parse-container-lts.Need-returns (parse-container-claims t) (parse-container-at t) parse-container.Post parse-container-Inv-loop parse-container-μ-loop
 parse-container-returns t c =
-    let T : List ℕ = c .before .before .before .before .before .before .before .before .before .before .before .before .before .before .before .before .before .before .before .before .before .before .before .before .before .before .before .before .args .text .now in
-    let B : Lists = lists (c .before .before .before .before .before .before .before .before .before .before .before .before .before .before .before .before .before .before .before .before .before .before .before .before .before .before .before .before .args .words .now) (c .before .before .before .before .before .before .before .before .before .before .before .before .before .before .before .before .before .before .before .before .before .before .before .before .before .before .before .before .args .names .now) in
-    let q = rw (c .before .before .before .before .before .before .before .before .before .before .before .before .before .before .before .before .before .before .before .start .given .1) at (c .before .before .before .before .before .before .before .before .before .before .before .before .before .before .before .before .before .before .before .before .before .before .before .put-name .ensures) in
-    let b : Lists = lists (c .before .before .before .before .before .before .before .before .before .before .before .before .before .before .before .put-codes .last .1 .1 .0) (c .before .before .before .before .before .before .before .before .before .before .before .before .before .before .before .before .before .loop .names) in
+    let T : List ℕ = c .before .before .before .before .before .before .before .before .before .before .before .before .before .before .before .before .before .before .before .before .before .before .before .before .before .before .before .before .before .args .text .now in
+    let B : Lists = lists (c .before .before .before .before .before .before .before .before .before .before .before .before .before .before .before .before .before .before .before .before .before .before .before .before .before .before .before .before .before .args .words .now) (c .before .before .before .before .before .before .before .before .before .before .before .before .before .before .before .before .before .before .before .before .before .before .before .before .before .before .before .before .before .args .names .now) in
+    let q = rw (c .before .before .before .before .before .before .before .before .before .before .before .before .before .before .before .before .before .before .before .before .start .given .1) at (c .before .before .before .before .before .before .before .before .before .before .before .before .before .before .before .before .before .before .before .before .before .before .before .before .put-name .ensures) in
+    let b : Lists = lists (c .before .before .before .before .before .before .before .before .before .before .before .before .before .before .before .before .put-codes .last .1 .1 .0) (c .before .before .before .before .before .before .before .before .before .before .before .before .before .before .before .before .before .before .loop .names) in
     let A : Lists = lists (c .before .before .before .before .before .before .before .before .before .before .parse-inner .last .1 .1 .0) (c .before .before .before .before .before .before .before .before .before .before .parse-inner .last .1 .1 .1 .1 .0) in
-    let e : ItemsReads T (c .before .before .before .before .before .before .before .before .before .before .before .before .before .before .before .put-codes .result) (c .before .before .before .before .before .before .before .before .before .before .before .before .before .before .before .before .before .before .before .before .before .before .before .before .before .before .before .before .args .kind) (c .before .before .before .before .before .before .before .before .before .before .before .before .before .before .before .before .before .loop .k + (c .before .before .before .before .before .before .before .before .before .before .before .before .before .before .before .put-codes .result - c .before .before .before .before .before .before .before .before .before .before .before .before .before .before .before .before .before .loop .to)) (c .before .before .before .before .before .before .before .before .before .before .before .before .before .before .before .before .before .loop .l) b A (c .before .before .before .before .end-items .result) = rw (c .before .before .before .before .end-items .ensures) (items-end T (c .before .before .before .before .before .before .before .before .before .before .before .before .before .before .before .put-codes .result) (c .before .before .before .before .before .before .before .before .before .before .before .before .before .before .before .before .before .before .before .before .before .before .before .before .before .before .before .before .args .kind) (c .before .before .before .before .before .before .before .before .before .before .before .before .before .before .before .before .before .loop .k + (c .before .before .before .before .before .before .before .before .before .before .before .before .before .before .before .put-codes .result - c .before .before .before .before .before .before .before .before .before .before .before .before .before .before .before .before .before .loop .to)) (c .before .before .before .before .before .before .before .before .before .before .before .before .before .before .before .before .before .loop .l) b A (c .before .before .before .before .before .before .before .before .before .before .parse-inner .result) (not-found (c .before .before .before .before .before .before .before .before .before .before .parse-inner .result) (c .before .before .before .before .before .match2 .keys2)) (c .before .before .before .before .before .before .before .before .before .before .parse-inner .ensures)) in
-    let f = c .before .before .before .before .before .before .before .before .before .before .before .before .before .before .before .before .before .loop .inv .1 .1 .1 A (c .before .before .before .before .end-items .result) (c .before .before .before .before .before .before .before .before .before .before .before .before .before .before .before .put-codes .ensures .reads (c .before .before .before .before .before .before .before .before .before .before .before .before .before .before .before .before .before .before .before .before .before .before .before .before .before .before .before .before .args .kind) (c .before .before .before .before .before .before .before .before .before .before .before .before .before .before .before .before .before .loop .l) (c .before .before .before .before .before .before .before .before .before .before .before .before .before .before .before .before .before .loop .names) A (c .before .before .before .before .end-items .result) e) in
-    rw (c .before .before .put-container .ensures .0, c .before .before .put-container .ensures .1) (reads-contained T (c .before .before .before .before .before .before .before .before .before .before .before .before .before .before .before .before .before .before .before .before .before .before .before .before .before .before .before .before .args .at) (c .before .before .before .before .before .before .before .before .before .before .before .before .before .before .before .before .before .before .before .before .before .before .before .before .before .before .before .before .args .kind) (c .before .before .before .before .before .before .before .before .before .before .before .before .before .before .before .before .before .before .before .before .before .before .before .before .before .before .before .before .args .n) (c .before .before .before .before .before .before .before .before .before .before .before .before .before .before .before .before .before .before .before .before .before .before .before .before .before .before .before .before .args .m) (c .before .before .before .before .before .before .before .before .before .before .before .before .before .before .before .before .before .before .before .before .before .before .before .before .before .before .before .before .pre .1 .at-byte) (c .before .before .before .before .before .before .before .before .before .before .before .before .before .before .before .before .before .before .before .before .before .before .before .before .before .before .before .before .pre .1 .opens) B (c .before .before .before .before .before .before .before .before .before .before .before .before .before .before .before .before .before .before .before .before .before .before .before .put-name .last .1 .1 .1 .0) _ _ q A (c .before .before .before .before .end-items .result) f)
+    let e : ItemsReads T (c .before .before .before .before .before .before .before .before .before .before .before .before .before .before .before .before .put-codes .result) (c .before .before .before .before .before .before .before .before .before .before .before .before .before .before .before .before .before .before .before .before .before .before .before .before .before .before .before .before .before .args .kind) (c .before .before .before .before .before .before .before .before .before .before .before .before .before .before .before .before .before .before .loop .k + (c .before .before .before .before .before .before .before .before .before .before .before .before .before .before .before .before .put-codes .result - c .before .before .before .before .before .before .before .before .before .before .before .before .before .before .before .before .before .before .loop .to)) (c .before .before .before .before .before .before .before .before .before .before .before .before .before .before .before .before .before .before .loop .l) b A (c .before .before .before .before .end-items .result) = rw (c .before .before .before .before .end-items .ensures) (items-end T (c .before .before .before .before .before .before .before .before .before .before .before .before .before .before .before .before .put-codes .result) (c .before .before .before .before .before .before .before .before .before .before .before .before .before .before .before .before .before .before .before .before .before .before .before .before .before .before .before .before .before .args .kind) (c .before .before .before .before .before .before .before .before .before .before .before .before .before .before .before .before .before .before .loop .k + (c .before .before .before .before .before .before .before .before .before .before .before .before .before .before .before .before .put-codes .result - c .before .before .before .before .before .before .before .before .before .before .before .before .before .before .before .before .before .before .loop .to)) (c .before .before .before .before .before .before .before .before .before .before .before .before .before .before .before .before .before .before .loop .l) b A (c .before .before .before .before .before .before .before .before .before .before .parse-inner .result) (not-found (c .before .before .before .before .before .before .before .before .before .before .parse-inner .result) (c .before .before .before .before .before .match2 .keys2)) (rw (handed-on (c .before .before .before .before .before .before .before .before .before .before .before .before .before .before .before .before .before .before .before .before .before .before .before .before .before .before .before .before .before .args .text .now)) at (c .before .before .before .before .before .before .before .before .before .before .parse-inner .ensures))) in
+    let f = c .before .before .before .before .before .before .before .before .before .before .before .before .before .before .before .before .before .before .loop .inv .1 .1 .1 A (c .before .before .before .before .end-items .result) (c .before .before .before .before .before .before .before .before .before .before .before .before .before .before .before .before .put-codes .ensures .reads (c .before .before .before .before .before .before .before .before .before .before .before .before .before .before .before .before .before .before .before .before .before .before .before .before .before .before .before .before .before .args .kind) (c .before .before .before .before .before .before .before .before .before .before .before .before .before .before .before .before .before .before .loop .l) (c .before .before .before .before .before .before .before .before .before .before .before .before .before .before .before .before .before .before .loop .names) A (c .before .before .before .before .end-items .result) e) in
+    rw (c .before .before .put-container .ensures .0, c .before .before .put-container .ensures .1) (reads-contained T (c .before .before .before .before .before .before .before .before .before .before .before .before .before .before .before .before .before .before .before .before .before .before .before .before .before .before .before .before .before .args .at) (c .before .before .before .before .before .before .before .before .before .before .before .before .before .before .before .before .before .before .before .before .before .before .before .before .before .before .before .before .before .args .kind) (c .before .before .before .before .before .before .before .before .before .before .before .before .before .before .before .before .before .before .before .before .before .before .before .before .before .before .before .before .before .args .n) (c .before .before .before .before .before .before .before .before .before .before .before .before .before .before .before .before .before .before .before .before .before .before .before .before .before .before .before .before .before .args .m) (c .before .before .before .before .before .before .before .before .before .before .before .before .before .before .before .before .before .before .before .before .before .before .before .before .before .before .before .before .before .pre .1 .at-byte) (c .before .before .before .before .before .before .before .before .before .before .before .before .before .before .before .before .before .before .before .before .before .before .before .before .before .before .before .before .before .pre .1 .opens) B (c .before .before .before .before .before .before .before .before .before .before .before .before .before .before .before .before .before .before .before .before .before .before .before .before .put-name .last .1 .1 .1 .0) _ _ q A (c .before .before .before .before .end-items .result) f)
 
 parse-container-same-length-3 : (t : ℕ) → parse-container-lts.Need-same-length-3 (parse-container-claims t) (parse-container-at t) parse-container.Post parse-container-Inv-loop parse-container-μ-loop
 parse-container-same-length-3 t c = search needs
@@ -231,26 +241,53 @@ parse-inner-enum-known-why t c = search needs
 parse-inner-enum-known-len : (t : ℕ) → parse-inner-lts.Need-enum-known-len (parse-inner-claims t) (parse-inner-at t) parse-inner.Post
 parse-inner-enum-known-len t c = search needs
 
+parse-inner-sub-parse-inner : (t : ℕ) → parse-inner-lts.Need-sub-parse-inner (parse-inner-claims t) (parse-inner-at t) parse-inner.Post
+parse-inner-sub-parse-inner t c = search needs
+
+parse-inner-part-parse-inner-start : (t : ℕ) → parse-inner-lts.Need-part-parse-inner-start (parse-inner-claims t) (parse-inner-at t) parse-inner.Post
+parse-inner-part-parse-inner-start t c = search needs
+
+parse-inner-part-parse-inner-end : (t : ℕ) → parse-inner-lts.Need-part-parse-inner-end (parse-inner-claims t) (parse-inner-at t) parse-inner.Post
+parse-inner-part-parse-inner-end t c = search needs
+
 parse-inner-add-parse-inner : (t : ℕ) → parse-inner-lts.Need-add-parse-inner (parse-inner-claims t) (parse-inner-at t) parse-inner.Post
-parse-inner-add-parse-inner t c = omega (arith, (ready-run (c .before .before .before .before .before .before .before .before .before .before .before .before .args .text .now) (c .before .before .before .before .before .before .before .before .before .before .before .before .args .at) (c .before .before .before .before .before .before .before .before .before .before .before .before .args .n) (c .before .before .before .before .before .before .before .before .before .before .before .before .args .m) (c .before .before .before .before .before .before .before .before .indirections-end .result) (lists (c .before .before .before .before .before .before .before .before .before .before .before .before .args .words .now) (c .before .before .before .before .before .before .before .before .before .before .before .before .args .names .now)) (c .before .before .before .before .before .before .before .before .before .before .before .before .pre .1) (c .before .before .before .before .before .before .before .before .indirections-end .ensures)) .words-room)
+parse-inner-add-parse-inner t c = omega (arith, (ready-run (c .before .before .before .before .before .before .before .before .before .before .before .before .before .args .text .now) (c .before .before .before .before .before .before .before .before .before .before .before .before .before .args .at) (c .before .before .before .before .before .before .before .before .before .before .before .before .before .args .n) (c .before .before .before .before .before .before .before .before .before .before .before .before .before .args .m) (c .before .before .before .before .before .before .before .before .before .indirections-end .result) (lists (c .before .before .before .before .before .before .before .before .before .before .before .before .before .args .words .now) (c .before .before .before .before .before .before .before .before .before .before .before .before .before .args .names .now)) (c .before .before .before .before .before .before .before .before .before .before .before .before .before .pre .1) (c .before .before .before .before .before .before .before .before .before .indirections-end .ensures)) .words-room)
 
 parse-inner-parse-inner-requires : (t : ℕ) → parse-inner-lts.Need-parse-inner-requires (parse-inner-claims t) (parse-inner-at t) parse-inner.Post
 unfolding start inSingles singles inOthers others closes
 parse-inner-parse-inner-requires t c κs =
-    let q = rw (c .before .before .before .len .given .1) at (c .before .before .before .before .before .parse-number .ensures) in
-    (omega (arith, c .before .before .before .before .before .before .before .before .before .before .before .before .before .pre .0, c .before .before .before .before .before .before .before .before .if1 .left, q .1, c .before .before .before .before .before .before .before .before .before .indirections-end .ensures .onward), ready-part (c .before .before .before .before .before .before .before .before .before .before .before .before .before .args .text .now) (c .before .before .before .before .before .before .before .before .before .indirections-end .result) (c .before .before .before .before .before .before .before .before .before .before .before .before .before .args .n + (c .before .before .before .before .before .before .before .before .before .indirections-end .result - c .before .before .before .before .before .before .before .before .before .before .before .before .before .args .at)) (c .before .before .before .before .before .before .before .before .before .before .before .before .before .args .m) (lists (c .before .before .before .before .before .before .before .before .before .before .before .before .before .args .words .now) (c .before .before .before .before .before .before .before .before .before .before .before .before .before .args .names .now)) (c .before .before .before .len .given .0 .1 .0) (ready-run (c .before .before .before .before .before .before .before .before .before .before .before .before .before .args .text .now) (c .before .before .before .before .before .before .before .before .before .before .before .before .before .args .at) (c .before .before .before .before .before .before .before .before .before .before .before .before .before .args .n) (c .before .before .before .before .before .before .before .before .before .before .before .before .before .args .m) (c .before .before .before .before .before .before .before .before .before .indirections-end .result) (lists (c .before .before .before .before .before .before .before .before .before .before .before .before .before .args .words .now) (c .before .before .before .before .before .before .before .before .before .before .before .before .before .args .names .now)) (c .before .before .before .before .before .before .before .before .before .before .before .before .before .pre .1) (c .before .before .before .before .before .before .before .before .before .indirections-end .ensures)) (c .before .before .before .before .before .before .before .before .if1 .left) (ap (λ (b : ℕ). closes (start b)) (c .before .before .before .before .before .before .match .keys1)) (q .1 .0) (q .1 .1))
+    let q = rw (c .before .before .before .before .len .given .1) at (c .before .before .before .before .before .before .parse-number .ensures) in
+    rw (handed-on (c .before .before .before .before .before .before .before .before .before .before .before .before .before .before .args .text .now)) (omega (arith, c .before .before .before .before .before .before .before .before .before .before .before .before .before .before .pre .0, c .before .before .before .before .before .before .before .before .before .if1 .left, q .1, c .before .before .before .before .before .before .before .before .before .before .indirections-end .ensures .onward), ready-part (c .before .before .before .before .before .before .before .before .before .before .before .before .before .before .args .text .now) (c .before .before .before .before .before .before .before .before .before .before .indirections-end .result) (c .before .before .before .before .before .before .before .before .before .before .before .before .before .before .args .n + (c .before .before .before .before .before .before .before .before .before .before .indirections-end .result - c .before .before .before .before .before .before .before .before .before .before .before .before .before .before .args .at)) (c .before .before .before .before .before .before .before .before .before .before .before .before .before .before .args .m) (lists (c .before .before .before .before .before .before .before .before .before .before .before .before .before .before .args .words .now) (c .before .before .before .before .before .before .before .before .before .before .before .before .before .before .args .names .now)) (c .before .before .before .before .len .given .0 .1 .0) (ready-run (c .before .before .before .before .before .before .before .before .before .before .before .before .before .before .args .text .now) (c .before .before .before .before .before .before .before .before .before .before .before .before .before .before .args .at) (c .before .before .before .before .before .before .before .before .before .before .before .before .before .before .args .n) (c .before .before .before .before .before .before .before .before .before .before .before .before .before .before .args .m) (c .before .before .before .before .before .before .before .before .before .before .indirections-end .result) (lists (c .before .before .before .before .before .before .before .before .before .before .before .before .before .before .args .words .now) (c .before .before .before .before .before .before .before .before .before .before .before .before .before .before .args .names .now)) (c .before .before .before .before .before .before .before .before .before .before .before .before .before .before .pre .1) (c .before .before .before .before .before .before .before .before .before .before .indirections-end .ensures)) (c .before .before .before .before .before .before .before .before .before .if1 .left) (ap (λ (b : ℕ). closes (start b)) (c .before .before .before .before .before .before .before .match .keys1)) (q .1 .0) (q .1 .1))
 
 parse-inner-put-array-requires : (t : ℕ) → parse-inner-lts.Need-put-array-requires (parse-inner-claims t) (parse-inner-at t) parse-inner.Post
 unfolding start inSingles singles inOthers others closes
-parse-inner-put-array-requires t c κs = (omega (arith, room-two (c .before .before .before .before .before .before .before .before .before .before .before .before .before .before .before .before .before .before .before .args .text .now) (c .before .before .before .before .before .before .before .before .before .before .before .before .before .before .before .indirections-end .result) (c .before .before .before .before .before .before .before .before .before .before .before .before .before .before .before .before .before .before .before .args .n + (c .before .before .before .before .before .before .before .before .before .before .before .before .before .before .before .indirections-end .result - c .before .before .before .before .before .before .before .before .before .before .before .before .before .before .before .before .before .before .before .args .at)) (c .before .before .before .before .before .before .before .before .before .before .before .before .before .before .before .before .before .before .before .args .m) (lists (c .before .before .before .before .before .before .before .before .before .before .before .before .before .before .before .before .before .before .before .args .words .now) (c .before .before .before .before .before .before .before .before .before .before .before .before .before .before .before .before .before .before .before .args .names .now)) (ready-run (c .before .before .before .before .before .before .before .before .before .before .before .before .before .before .before .before .before .before .before .args .text .now) (c .before .before .before .before .before .before .before .before .before .before .before .before .before .before .before .before .before .before .before .args .at) (c .before .before .before .before .before .before .before .before .before .before .before .before .before .before .before .before .before .before .before .args .n) (c .before .before .before .before .before .before .before .before .before .before .before .before .before .before .before .before .before .before .before .args .m) (c .before .before .before .before .before .before .before .before .before .before .before .before .before .before .before .indirections-end .result) (lists (c .before .before .before .before .before .before .before .before .before .before .before .before .before .before .before .before .before .before .before .args .words .now) (c .before .before .before .before .before .before .before .before .before .before .before .before .before .before .before .before .before .before .before .args .names .now)) (c .before .before .before .before .before .before .before .before .before .before .before .before .before .before .before .before .before .before .before .pre .1) (c .before .before .before .before .before .before .before .before .before .before .before .before .before .before .before .indirections-end .ensures)) (c .before .before .before .before .before .before .before .before .before .before .before .before .before .before .if1 .left) (ap (λ (b : ℕ). closes (start b)) (c .before .before .before .before .before .before .before .before .before .before .before .before .match .keys1)), c .before .before .before .before .before .parse-inner .kept .1 .1 .0), after-parsed _ _ _ _ _ _ (c .before .before .before .before .before .parse-inner .result) (c .before .before .before .before .before .parse-inner .ensures .bound))
+parse-inner-put-array-requires t c κs = (omega (arith, room-two (c .before .before .before .before .before .before .before .before .before .before .before .before .before .before .before .before .before .before .before .before .args .text .now) (c .before .before .before .before .before .before .before .before .before .before .before .before .before .before .before .before .indirections-end .result) (c .before .before .before .before .before .before .before .before .before .before .before .before .before .before .before .before .before .before .before .before .args .n + (c .before .before .before .before .before .before .before .before .before .before .before .before .before .before .before .before .indirections-end .result - c .before .before .before .before .before .before .before .before .before .before .before .before .before .before .before .before .before .before .before .before .args .at)) (c .before .before .before .before .before .before .before .before .before .before .before .before .before .before .before .before .before .before .before .before .args .m) (lists (c .before .before .before .before .before .before .before .before .before .before .before .before .before .before .before .before .before .before .before .before .args .words .now) (c .before .before .before .before .before .before .before .before .before .before .before .before .before .before .before .before .before .before .before .before .args .names .now)) (ready-run (c .before .before .before .before .before .before .before .before .before .before .before .before .before .before .before .before .before .before .before .before .args .text .now) (c .before .before .before .before .before .before .before .before .before .before .before .before .before .before .before .before .before .before .before .before .args .at) (c .before .before .before .before .before .before .before .before .before .before .before .before .before .before .before .before .before .before .before .before .args .n) (c .before .before .before .before .before .before .before .before .before .before .before .before .before .before .before .before .before .before .before .before .args .m) (c .before .before .before .before .before .before .before .before .before .before .before .before .before .before .before .before .indirections-end .result) (lists (c .before .before .before .before .before .before .before .before .before .before .before .before .before .before .before .before .before .before .before .before .args .words .now) (c .before .before .before .before .before .before .before .before .before .before .before .before .before .before .before .before .before .before .before .before .args .names .now)) (c .before .before .before .before .before .before .before .before .before .before .before .before .before .before .before .before .before .before .before .before .pre .1) (c .before .before .before .before .before .before .before .before .before .before .before .before .before .before .before .before .indirections-end .ensures)) (c .before .before .before .before .before .before .before .before .before .before .before .before .before .before .before .if1 .left) (ap (λ (b : ℕ). closes (start b)) (c .before .before .before .before .before .before .before .before .before .before .before .before .before .match .keys1)), c .before .before .before .before .before .parse-inner .kept .1 .1 .0), after-parsed _ _ _ _ _ _ (c .before .before .before .before .before .parse-inner .result) (c .before .before .before .before .before .parse-inner .ensures .bound))
+
+parse-inner-sub-parse-container : (t : ℕ) → parse-inner-lts.Need-sub-parse-container (parse-inner-claims t) (parse-inner-at t) parse-inner.Post
+parse-inner-sub-parse-container t c = search needs
+
+parse-inner-part-parse-container-start : (t : ℕ) → parse-inner-lts.Need-part-parse-container-start (parse-inner-claims t) (parse-inner-at t) parse-inner.Post
+parse-inner-part-parse-container-start t c = search needs
+
+parse-inner-part-parse-container-end : (t : ℕ) → parse-inner-lts.Need-part-parse-container-end (parse-inner-claims t) (parse-inner-at t) parse-inner.Post
+parse-inner-part-parse-container-end t c = search needs
 
 parse-inner-parse-container-requires : (t : ℕ) → parse-inner-lts.Need-parse-container-requires (parse-inner-claims t) (parse-inner-at t) parse-inner.Post
 unfolding start inSingles singles inOthers others closes
-parse-inner-parse-container-requires t c κs = (omega (arith, c .before .before .before .before .before .before .before .before .before .pre .0, c .before .before .before .before .before .indirections-end .ensures .onward), record { ready = (ready-run (c .before .before .before .before .before .before .before .before .before .args .text .now) (c .before .before .before .before .before .before .before .before .before .args .at) (c .before .before .before .before .before .before .before .before .before .args .n) (c .before .before .before .before .before .before .before .before .before .args .m) (c .before .before .before .before .before .indirections-end .result) (lists (c .before .before .before .before .before .before .before .before .before .args .words .now) (c .before .before .before .before .before .before .before .before .before .args .names .now)) (c .before .before .before .before .before .before .before .before .before .pre .1) (c .before .before .before .before .before .indirections-end .ensures)); at-byte = c .before .before .before .before .if1 .left; opens = starts _ 123 (c .before .before .match .keys2) refl })
+parse-inner-parse-container-requires t c κs = rw (handed-on (c .before .before .before .before .before .before .before .before .before .before .args .text .now)) (omega (arith, c .before .before .before .before .before .before .before .before .before .before .pre .0, c .before .before .before .before .before .before .indirections-end .ensures .onward), record { ready = (ready-run (c .before .before .before .before .before .before .before .before .before .before .args .text .now) (c .before .before .before .before .before .before .before .before .before .before .args .at) (c .before .before .before .before .before .before .before .before .before .before .args .n) (c .before .before .before .before .before .before .before .before .before .before .args .m) (c .before .before .before .before .before .before .indirections-end .result) (lists (c .before .before .before .before .before .before .before .before .before .before .args .words .now) (c .before .before .before .before .before .before .before .before .before .before .args .names .now)) (c .before .before .before .before .before .before .before .before .before .before .pre .1) (c .before .before .before .before .before .before .indirections-end .ensures)); at-byte = c .before .before .before .before .before .if1 .left; opens = starts _ 123 (c .before .before .before .match .keys2) refl })
+
+parse-inner-sub-parse-container-2 : (t : ℕ) → parse-inner-lts.Need-sub-parse-container-2 (parse-inner-claims t) (parse-inner-at t) parse-inner.Post
+parse-inner-sub-parse-container-2 t c = search needs
+
+parse-inner-part-parse-container-start-2 : (t : ℕ) → parse-inner-lts.Need-part-parse-container-start-2 (parse-inner-claims t) (parse-inner-at t) parse-inner.Post
+parse-inner-part-parse-container-start-2 t c = search needs
+
+parse-inner-part-parse-container-end-2 : (t : ℕ) → parse-inner-lts.Need-part-parse-container-end-2 (parse-inner-claims t) (parse-inner-at t) parse-inner.Post
+parse-inner-part-parse-container-end-2 t c = search needs
 
 parse-inner-parse-container-requires-2 : (t : ℕ) → parse-inner-lts.Need-parse-container-requires-2 (parse-inner-claims t) (parse-inner-at t) parse-inner.Post
 unfolding start inSingles singles inOthers others closes
-parse-inner-parse-container-requires-2 t c κs = (omega (arith, c .before .before .before .before .before .before .before .before .before .pre .0, c .before .before .before .before .before .indirections-end .ensures .onward), record { ready = (ready-run (c .before .before .before .before .before .before .before .before .before .args .text .now) (c .before .before .before .before .before .before .before .before .before .args .at) (c .before .before .before .before .before .before .before .before .before .args .n) (c .before .before .before .before .before .before .before .before .before .args .m) (c .before .before .before .before .before .indirections-end .result) (lists (c .before .before .before .before .before .before .before .before .before .args .words .now) (c .before .before .before .before .before .before .before .before .before .args .names .now)) (c .before .before .before .before .before .before .before .before .before .pre .1) (c .before .before .before .before .before .indirections-end .ensures)); at-byte = c .before .before .before .before .if1 .left; opens = starts _ 40 (c .before .before .match .keys3) refl })
+parse-inner-parse-container-requires-2 t c κs = rw (handed-on (c .before .before .before .before .before .before .before .before .before .before .args .text .now)) (omega (arith, c .before .before .before .before .before .before .before .before .before .before .pre .0, c .before .before .before .before .before .before .indirections-end .ensures .onward), record { ready = (ready-run (c .before .before .before .before .before .before .before .before .before .before .args .text .now) (c .before .before .before .before .before .before .before .before .before .before .args .at) (c .before .before .before .before .before .before .before .before .before .before .args .n) (c .before .before .before .before .before .before .before .before .before .before .args .m) (c .before .before .before .before .before .before .indirections-end .result) (lists (c .before .before .before .before .before .before .before .before .before .before .args .words .now) (c .before .before .before .before .before .before .before .before .before .before .args .names .now)) (c .before .before .before .before .before .before .before .before .before .before .pre .1) (c .before .before .before .before .before .before .indirections-end .ensures)); at-byte = c .before .before .before .before .before .if1 .left; opens = starts _ 40 (c .before .before .before .match .keys3) refl })
 
 parse-inner-parse-simple-requires : (t : ℕ) → parse-inner-lts.Need-parse-simple-requires (parse-inner-claims t) (parse-inner-at t) parse-inner.Post
 parse-inner-parse-simple-requires t c κs =
@@ -273,11 +310,11 @@ parse-inner-child t c =
     let q = rw (w .3 .given .1) at (w .1 .ensures) in
     rw (w .5, w .6, w .7) (refl, (refl, reads-no-number (a .text .now) _ k (a .m) b _ _ h (starts _ 91 (w .0 .keys1) refl) (q .0) (q .1 .1))))
     (λ x. ⊎-elim (λ w.
-    let z : Lists = lists (w .7 .last .1 .1 .0) (w .7 .last .1 .1 .1 .1 .0) in
+    let z : Lists = lists (w .8 .last .1 .1 .0) (w .8 .last .1 .1 .1 .1 .0) in
     let q = rw (w .3 .given .1) at (w .1 .ensures) in
-    rw (w .16, w .17, w .18) (w .13 .kept .1 .1 .1 .1 .0 ∙ w .7 .kept .1 .1 .0, (w .7 .kept .1 .1 .1 .1 .0, rw (w .13 .ensures .0, w .13 .ensures .1) (reads-item (a .text .now) _ k (a .m) _ _ h (starts _ 91 (w .0 .keys1) refl) (q .0) (q .1 .0) (q .1 .1) b z (w .7 .result) (w .7 .ensures)))))
-    (λ y. ⊎-elim (λ w. rw (w .8, w .9, w .10) (w .3 .kept .1 .1 .1 .0, (w .3 .kept .1 .1 .1 .1 .1 .0, w .3 .ensures)))
-    (λ z. ⊎-elim (λ w. rw (w .8, w .9, w .10) (w .3 .kept .1 .1 .1 .0, (w .3 .kept .1 .1 .1 .1 .1 .0, w .3 .ensures)))
+    rw (w .17, w .18, w .19) (w .14 .kept .1 .1 .1 .1 .0 ∙ w .8 .kept .1 .1 .0, (w .8 .kept .1 .1 .1 .1 .0, rw (w .14 .ensures .0, w .14 .ensures .1) (reads-item (a .text .now) _ k (a .m) _ _ h (starts _ 91 (w .0 .keys1) refl) (q .0) (q .1 .0) (q .1 .1) b z (w .8 .result) (rw (handed-on (a .text .now)) at (w .8 .ensures))))))
+    (λ y. ⊎-elim (λ w. rw (w .9, w .10, w .11) (w .4 .kept .1 .1 .1 .0, (w .4 .kept .1 .1 .1 .1 .1 .0, rw (handed-on (a .text .now)) at (w .4 .ensures))))
+    (λ z. ⊎-elim (λ w. rw (w .9, w .10, w .11) (w .4 .kept .1 .1 .1 .0, (w .4 .kept .1 .1 .1 .1 .1 .0, rw (handed-on (a .text .now)) at (w .4 .ensures))))
     (λ w. rw (w .5, w .6, w .7) (w .2 .kept .1 .1 .0, (refl, reads-simple _ _ _ _ _ _ _ _ h (w .2 .ensures)))) z) y) x) (c .match .came)
 
 parse-inner-put-indirections-requires-2 : (t : ℕ) → parse-inner-lts.Need-put-indirections-requires-2 (parse-inner-claims t) (parse-inner-at t) parse-inner.Post
@@ -314,6 +351,9 @@ pub +parse-container+parse-inner-spec : {M : Type 1} → statement M
     (parse-container-put-codes-requires t)
     (parse-container-sub-k t)
     (parse-container-add-k-2 t)
+    (parse-container-sub-parse-inner t)
+    (parse-container-part-parse-inner-start t)
+    (parse-container-part-parse-inner-end t)
     (parse-container-parse-inner-requires t)
     (parse-container-enum-known-p t)
     (parse-container-loop-less t)
@@ -339,10 +379,19 @@ pub +parse-container+parse-inner-spec : {M : Type 1} → statement M
     (parse-inner-parse-number-requires t)
     (parse-inner-enum-known-why t)
     (parse-inner-enum-known-len t)
+    (parse-inner-sub-parse-inner t)
+    (parse-inner-part-parse-inner-start t)
+    (parse-inner-part-parse-inner-end t)
     (parse-inner-add-parse-inner t)
     (parse-inner-parse-inner-requires t)
     (parse-inner-put-array-requires t)
+    (parse-inner-sub-parse-container t)
+    (parse-inner-part-parse-container-start t)
+    (parse-inner-part-parse-container-end t)
     (parse-inner-parse-container-requires t)
+    (parse-inner-sub-parse-container-2 t)
+    (parse-inner-part-parse-container-start-2 t)
+    (parse-inner-part-parse-container-end-2 t)
     (parse-inner-parse-container-requires-2 t)
     (parse-inner-parse-simple-requires t)
     (parse-inner-put-indirections-requires-2 t)
