@@ -18,6 +18,7 @@ use kinds::Fields;
 use kinds::IndirectionKind;
 use kinds::NestingLevel;
 use kinds::Refusal;
+use kinds::is_container;
 use kinds::primitive_code;
 use sheet::Checked;
 use sheet::check;
@@ -118,15 +119,6 @@ pub fn static_int_str_array(n: u64, out: &mut [u8]) -> Printed
     }
     put_number(out, 0, n);
     Printed::Bytes(len)
-}
-
-fn is_container(kind: u64) -> bool
-    ensures { λ r. ⌜ r ≡ isContainerKind kind ⌝ }
-{
-    if kind == 29 {
-        return true;
-    }
-    kind == 30
 }
 
 fn container_of(kind: u64) -> ContainerKind
@@ -256,7 +248,7 @@ fn children_len(nodes: &[u64], at: usize, below: Below) -> usize
     match below {
         Below::Same => 0,
         Below::Hidden => 0,
-        Below::Deeper(inner) => trees_len(nodes, at + 4, count - 1, inner),
+        Below::Deeper(inner) => trees_len(&nodes[0..], at + 4, count - 1, inner),
     }
 }
 
@@ -384,17 +376,50 @@ fn print_children(
     }
     match children_level(nodes[at], level) {
         Fields::Dropped => to,
-        Fields::Included(inner) => print_trees(nodes, names, at + 4, count - 1, inner, out, to),
+        Fields::Included(inner) => print_trees(
+            &nodes[0..],
+            &names[0..],
+            at + 4,
+            count - 1,
+            inner,
+            out,
+            to,
+        ),
     }
 }
 
-// Writes the text of the trees of the `n` nodes from `from` on; the next place.
+// Whether a node of this kind and count, the first of the `left` nodes, is a pointer or an atomic that no tree follows.
+fn points_last(kind: u64, count: usize, left: usize) -> bool
+    ensures { λ r. ⌜ (r ≡ true → (26 ≤ kind) × (kind ≤ 27) × (count ≡ left)) ⌝ }
+{
+    if kind < 26 {
+        return false;
+    }
+    if 27 < kind {
+        return false;
+    }
+    count == left
+}
+
+// The level of what a pointer or an atomic holds.
+fn held_level(kind: u64, level: NestingLevel) -> NestingLevel
+    requires { ⌜ (26 ≤ kind) × (kind ≤ 27) ⌝ }
+    ensures { λ r. ⌜ childrenLevel kind level ≡ Fields.Included r ⌝ }
+{
+    if kind == 26 {
+        return level.indirection(IndirectionKind::Pointer);
+    }
+    level.indirection(IndirectionKind::Atomic)
+}
+
+// Writes the text of the trees of the `n` nodes from `from` on; the next place. Nothing is written after what a pointer or an atomic
+// holds, so the last of them takes no call.
 fn print_trees(
     nodes: &[u64],
     names: &[u8],
     from: usize,
     n: usize,
-    level: NestingLevel,
+    mut level: NestingLevel,
     out: &mut [u8],
     start: usize,
 ) -> usize
@@ -408,10 +433,16 @@ fn print_trees(
     while 0 < left {
         let kind = nodes[at];
         let second = nodes[at + 2];
+        let count = nodes[at + 3] as usize;
         to = open_node(kind, nodes[at + 1], second, names, level, out, to);
+        if points_last(kind, count, left) {
+            level = held_level(kind, level);
+            at = at + 4;
+            left = left - 1;
+            continue;
+        }
         to = print_children(nodes, names, at, level, out, to);
         to = close_node(kind, second, out, to);
-        let count = nodes[at + 3] as usize;
         at = at + 4 * count;
         left = left - count;
     }
@@ -422,10 +453,14 @@ fn print_trees(
 pub fn static_encoding_str_len(words: &[u64], names: &[u8]) -> Printed
     ensures { λ r. ⌜ r ≡ encodingLen (now (words .entry)) (now (names .entry)) ⌝ }
 {
-    match check(words, names) {
+    match check(&words[0..], &names[0..]) {
         Checked::NotASheet => Printed::Refused(Refusal::NotASheet),
         Checked::BadName => Printed::Refused(Refusal::BadName),
         Checked::Good => {
+            let kind = words[4];
+            if kind < 24 {
+                return Printed::Bytes(code_len(kind));
+            }
             let n = words[0] as usize;
             Printed::Bytes(trees_len(&words[4..], 0, n, NestingLevel::new()))
         }
@@ -437,14 +472,19 @@ pub fn static_encoding_str_array(words: &[u64], names: &[u8], out: &mut [u8]) ->
     ensures answers { λ r. ⌜ r ≡ encodingArray (now (words .entry)) (now (names .entry)) (length (now (out .entry))) ⌝ }
     ensures writes { λ _. ⌜ now (out .exit) ≡ encodingOutput (now (words .entry)) (now (names .entry)) (now (out .entry)) ⌝ }
 {
-    match static_encoding_str_len(words, names) {
+    match static_encoding_str_len(&words[0..], &names[0..]) {
         Printed::Refused(refusal) => Printed::Refused(refusal),
         Printed::Bytes(len) => {
             if out.len() < len {
                 return Printed::Refused(Refusal::OutputTooShort);
             }
+            let kind = words[4];
+            if kind < 24 {
+                put_code(out, 0, kind);
+                return Printed::Bytes(len);
+            }
             let n = words[0] as usize;
-            print_trees(&words[4..], names, 0, n, NestingLevel::new(), out, 0);
+            print_trees(&words[4..], &names[0..], 0, n, NestingLevel::new(), out, 0);
             Printed::Bytes(len)
         }
     }

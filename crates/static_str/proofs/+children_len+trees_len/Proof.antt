@@ -3,6 +3,7 @@ use Prim.Native.Nat.{ℕ, _+_, _*_, _<_}
 use native.Mathlib.Omega.{arith}
 use borrow.Author.Needs.{needs}
 use Rattle.kinds.specs.Sheet.{countAt}
+use Rattle.kinds.proofs.ListLaws.{whole}
 use Rattle.static_str.proofs.PassLaws.{same-passed, hidden-passed, deeper-passed}
 use Rattle.static_str.proofs.TurnLaws.{children-there, here, node-within, node-here, node-named, Measuring, start-measuring, passed-some, passed-within, summed, measured}
 use borrow.Fn.Kinds.{In}
@@ -68,14 +69,23 @@ children-len-enum-told-2 t c = search needs
 children-len-enum-known-below : (t : ℕ) → children-len-lts.Need-enum-known-below (children-len-claims t) (children-len-at t) children-len.Post
 children-len-enum-known-below t c = search needs
 
-children-len-add-trees-len : (t : ℕ) → children-len-lts.Need-add-trees-len (children-len-claims t) (children-len-at t) children-len.Post
-children-len-add-trees-len t c = search needs
-
 children-len-sub-trees-len : (t : ℕ) → children-len-lts.Need-sub-trees-len (children-len-claims t) (children-len-at t) children-len.Post
 children-len-sub-trees-len t c = search needs
 
+children-len-part-trees-len-start : (t : ℕ) → children-len-lts.Need-part-trees-len-start (children-len-claims t) (children-len-at t) children-len.Post
+children-len-part-trees-len-start t c = search needs
+
+children-len-part-trees-len-end : (t : ℕ) → children-len-lts.Need-part-trees-len-end (children-len-claims t) (children-len-at t) children-len.Post
+children-len-part-trees-len-end t c = search needs
+
+children-len-add-trees-len : (t : ℕ) → children-len-lts.Need-add-trees-len (children-len-claims t) (children-len-at t) children-len.Post
+children-len-add-trees-len t c = search needs
+
+children-len-sub-trees-len-2 : (t : ℕ) → children-len-lts.Need-sub-trees-len-2 (children-len-claims t) (children-len-at t) children-len.Post
+children-len-sub-trees-len-2 t c = search needs
+
 children-len-trees-len-requires : (t : ℕ) → children-len-lts.Need-trees-len-requires (children-len-claims t) (children-len-at t) children-len.Post
-children-len-trees-len-requires t c κs = let p = c .before .before .before .before .before .pre .1 .0 .0 .some-node in let i = children-there (c .before .before .before .before .before .pre .1 .0 .0) (c .before .before .before .before .before .pre .1 .1) in (omega arith, ((i .0, omega (arith, c .before .before .before .before .before .pre .1 .0 .1)), i .1))
+children-len-trees-len-requires t c κs = let p = c .before .before .before .before .before .before .pre .1 .0 .0 .some-node in let i = children-there (c .before .before .before .before .before .before .pre .1 .0 .0) (c .before .before .before .before .before .before .pre .1 .1) in rw whole (omega arith, ((i .0, omega (arith, c .before .before .before .before .before .before .pre .1 .0 .1)), i .1))
 
 children-len-returns : (t : ℕ) → children-len-lts.Need-returns (children-len-claims t) (children-len-at t) children-len.Post
 children-len-returns t c = same-passed (c .before .before .before .before .args .nodes .now) (c .before .before .before .before .args .at) (c .enum-told .given .1)
@@ -84,7 +94,7 @@ children-len-returns-2 : (t : ℕ) → children-len-lts.Need-returns-2 (children
 children-len-returns-2 t c = hidden-passed (c .before .before .before .before .args .nodes .now) (c .before .before .before .before .args .at) (c .enum-told2 .given .1) (c .before .before .before .before .pre .1 .0 .0 .some-node)
 
 children-len-returns-3 : (t : ℕ) → children-len-lts.Need-returns-3 (children-len-claims t) (children-len-at t) children-len.Post
-children-len-returns-3 t c = deeper-passed (c .before .before .before .before .before .before .args .nodes .now) (c .before .before .before .before .before .before .args .at) (c .before .before .below .given .1) (c .before .before .before .before .before .before .pre .1 .0 .0 .some-node) (c .trees-len .ensures)
+children-len-returns-3 t c = deeper-passed (c .before .before .before .before .before .before .before .args .nodes .now) (c .before .before .before .before .before .before .before .args .at) (c .before .before .before .below .given .1) (c .before .before .before .before .before .before .before .pre .1 .0 .0 .some-node) (rw whole at (c .trees-len .ensures))
 
 abbrev trees-len-Inv-loop : trees-len-lts.InvT-loop
 trees-len-Inv-loop nodes from n level at₀ left₀ len₀ at left len = Measuring nodes level from n at left len
@@ -165,7 +175,8 @@ trees-len-returns : (t : ℕ) → trees-len-lts.Need-returns (trees-len-claims t
 trees-len-returns t c = measured (c .before .loop .inv) (c .loop-test .left)
 
 pub +children-len+trees-len-spec : {M : Type 1} → statement M
-+children-len+trees-len-spec = close μ-children-len μ-trees-len (λ t. children-len-lts.spec (children-len-claims t)
++children-len+trees-len-spec =
+    close μ-children-len μ-trees-len (λ t. children-len-lts.spec (children-len-claims t)
     (children-len-at t)
     children-len.Post
     (children-len-add-count t)
@@ -174,8 +185,11 @@ pub +children-len+trees-len-spec : {M : Type 1} → statement M
     (children-len-enum-told t)
     (children-len-enum-told-2 t)
     (children-len-enum-known-below t)
-    (children-len-add-trees-len t)
     (children-len-sub-trees-len t)
+    (children-len-part-trees-len-start t)
+    (children-len-part-trees-len-end t)
+    (children-len-add-trees-len t)
+    (children-len-sub-trees-len-2 t)
     (children-len-trees-len-requires t)
     (children-len-returns t)
     (children-len-returns-2 t)

@@ -4,10 +4,12 @@ use mathlib.Core.Path.{ap, sym, _∙_}
 use native.Mathlib.Omega.{arith}
 use borrow.Author.Needs.{needs}
 use lib.ListN.{length}
-use Rattle.kinds.specs.Sheet.{countAt}
+use Rattle.kinds.specs.Print.{print}
+use Rattle.kinds.specs.Sheet.{countAt, trees}
+use Rattle.kinds.proofs.ListLaws.{whole}
 use Rattle.static_str.proofs.OutputLaws.{wrote-same, wrote-none}
 use Rattle.static_str.proofs.PrintLaws.{no-children, dropped-text, included-text}
-use Rattle.static_str.proofs.TurnLaws.{children-there, here, some-node, node-within, node-here, node-named, Printing, start-printing, room-to-open, room-to-fill, room-to-close, turned, printed}
+use Rattle.static_str.proofs.TurnLaws.{children-there, here, some-node, node-within, node-here, node-named, Printing, start-printing, room-to-open, room-to-fill, room-to-close, held-next, turned, printed}
 use borrow.Fn.Kinds.{In}
 use borrow.Fn.PlainCycle.{Measures, is, falls, and}
 use Rattle.static_str.proofs.print_children.Reads as print-children
@@ -18,6 +20,8 @@ use Rattle.static_str.proofs.print_trees.Kinds as print-trees-kinds
 use Rattle.static_str.proofs.+print_children+print_trees.Lts-print_trees as print-trees-lts
 use Rattle.static_str.proofs.children_level.Reads as children-level-reads
 use Rattle.static_str.proofs.close_node.Reads as close-node-reads
+use Rattle.static_str.proofs.held_level.Reads as held-level-reads
+use Rattle.static_str.proofs.points_last.Reads as points-last-reads
 use Rattle.static_str.proofs.open_node.Reads as open-node-reads
 use Rattle.static_str.proofs.+print_children+print_trees.{statement}
 use Rattle.static_str.proofs.+print_children+print_trees.Tie.{close}
@@ -56,7 +60,7 @@ abbrev print-children-claims : ℕ → print-children-lts.Claims
 print-children-claims t = (children-level-reads.Asked, children-level-reads.Learnt, print-trees-below t, print-trees.Post)
 
 abbrev print-trees-claims : ℕ → print-trees-lts.Claims
-print-trees-claims t = (open-node-reads.Asked, open-node-reads.Learnt, print-children-below t, print-children.Post, close-node-reads.Asked, close-node-reads.Learnt)
+print-trees-claims t = (open-node-reads.Asked, open-node-reads.Learnt, points-last-reads.Asked, points-last-reads.Learnt, held-level-reads.Asked, held-level-reads.Learnt, print-children-below t, print-children.Post, close-node-reads.Asked, close-node-reads.Learnt)
 
 print-children-add-count : (t : ℕ) → print-children-lts.Need-add-count (print-children-claims t) (print-children-at t) print-children.Post
 print-children-add-count t c = search needs
@@ -85,14 +89,32 @@ print-children-enum-told t c = search needs
 print-children-enum-known-inner : (t : ℕ) → print-children-lts.Need-enum-known-inner (print-children-claims t) (print-children-at t) print-children.Post
 print-children-enum-known-inner t c = search needs
 
-print-children-add-print-trees : (t : ℕ) → print-children-lts.Need-add-print-trees (print-children-claims t) (print-children-at t) print-children.Post
-print-children-add-print-trees t c = search needs
-
 print-children-sub-print-trees : (t : ℕ) → print-children-lts.Need-sub-print-trees (print-children-claims t) (print-children-at t) print-children.Post
 print-children-sub-print-trees t c = search needs
 
+print-children-part-print-trees-start : (t : ℕ) → print-children-lts.Need-part-print-trees-start (print-children-claims t) (print-children-at t) print-children.Post
+print-children-part-print-trees-start t c = search needs
+
+print-children-part-print-trees-end : (t : ℕ) → print-children-lts.Need-part-print-trees-end (print-children-claims t) (print-children-at t) print-children.Post
+print-children-part-print-trees-end t c = search needs
+
+print-children-sub-print-trees-2 : (t : ℕ) → print-children-lts.Need-sub-print-trees-2 (print-children-claims t) (print-children-at t) print-children.Post
+print-children-sub-print-trees-2 t c = search needs
+
+print-children-part-print-trees-start-2 : (t : ℕ) → print-children-lts.Need-part-print-trees-start-2 (print-children-claims t) (print-children-at t) print-children.Post
+print-children-part-print-trees-start-2 t c = search needs
+
+print-children-part-print-trees-end-2 : (t : ℕ) → print-children-lts.Need-part-print-trees-end-2 (print-children-claims t) (print-children-at t) print-children.Post
+print-children-part-print-trees-end-2 t c = search needs
+
+print-children-add-print-trees : (t : ℕ) → print-children-lts.Need-add-print-trees (print-children-claims t) (print-children-at t) print-children.Post
+print-children-add-print-trees t c = search needs
+
+print-children-sub-print-trees-3 : (t : ℕ) → print-children-lts.Need-sub-print-trees-3 (print-children-claims t) (print-children-at t) print-children.Post
+print-children-sub-print-trees-3 t c = search needs
+
 print-children-print-trees-requires : (t : ℕ) → print-children-lts.Need-print-trees-requires (print-children-claims t) (print-children-at t) print-children.Post
-print-children-print-trees-requires t c κs = let a = c .before .before .before .before .before .before .before .before .before .before .before .args in let p = c .before .before .before .before .before .before .before .before .before .before .before .pre .1 .0 .0 .some-node in (omega arith, (children-there (c .before .before .before .before .before .before .before .before .before .before .before .pre .1 .0 .0) (c .before .before .before .before .before .before .before .before .before .before .before .pre .1 .0 .1), omega (arith, ap length (included-text (a .names .now) (a .nodes .now) (a .level) (a .at) _ (sym (c .before .before .before .before .children-level .ensures) ∙ c .before .before .inner .given .1)), c .before .before .before .before .before .before .before .before .before .before .before .pre .1 .1)))
+print-children-print-trees-requires t c κs = let a = c .before .before .before .before .before .before .before .before .before .before .before .before .before .args in let p = c .before .before .before .before .before .before .before .before .before .before .before .before .before .pre .1 .0 .0 .some-node in rw (whole, whole) (omega arith, (children-there (c .before .before .before .before .before .before .before .before .before .before .before .before .before .pre .1 .0 .0) (c .before .before .before .before .before .before .before .before .before .before .before .before .before .pre .1 .0 .1), omega (arith, ap length (included-text (a .names .now) (a .nodes .now) (a .level) (a .at) _ (sym (c .before .before .before .before .before .before .children-level .ensures) ∙ c .before .before .before .before .inner .given .1)), c .before .before .before .before .before .before .before .before .before .before .before .before .before .pre .1 .1)))
 
 print-children-returns-2 : (t : ℕ) → print-children-lts.Need-returns-2 (print-children-claims t) (print-children-at t) print-children.Post
 print-children-returns-2 t c = let a = c .before .before .before .before .before .before .before .before .before .args in wrote-same (sym (dropped-text (a .names .now) (a .nodes .now) (a .level) (a .at) (sym (c .before .before .children-level .ensures) ∙ c .enum-told .given .1))) (wrote-none (a .out .now) (a .to))
@@ -101,13 +123,13 @@ print-children-same-length : (t : ℕ) → print-children-lts.Need-same-length (
 print-children-same-length t c = search needs
 
 print-children-returns-3 : (t : ℕ) → print-children-lts.Need-returns-3 (print-children-claims t) (print-children-at t) print-children.Post
-print-children-returns-3 t c = let a = c .before .before .before .before .before .before .before .before .before .before .before .before .before .before .args in wrote-same (sym (included-text (a .names .now) (a .nodes .now) (a .level) (a .at) _ (sym (c .before .before .before .before .before .before .before .children-level .ensures) ∙ c .before .before .before .before .before .inner .given .1))) (c .before .before .print-trees .ensures)
+print-children-returns-3 t c = let a = c .before .before .before .before .before .before .before .before .before .before .before .before .before .before .before .before .args in wrote-same (sym (included-text (a .names .now) (a .nodes .now) (a .level) (a .at) _ (sym (c .before .before .before .before .before .before .before .before .before .children-level .ensures) ∙ c .before .before .before .before .before .before .before .inner .given .1))) (rw (whole, whole) at (c .before .before .print-trees .ensures))
 
 abbrev print-trees-Inv-loop : print-trees-lts.InvT-loop
-print-trees-Inv-loop nodes names from n level out₀ start at₀ left₀ to₀ out at left to = Printing names nodes level out₀ start from n out at left to
+print-trees-Inv-loop nodes names from n level₀ out₀ start at₀ left₀ to₀ level out at left to = Printing names nodes level out₀ start from n (print level₀ (trees names nodes n from)) out at left to
 
 abbrev print-trees-μ-loop : print-trees-lts.MeasureT-loop
-print-trees-μ-loop nodes names from n level out₀ start at₀ left₀ to₀ out at left to = left
+print-trees-μ-loop nodes names from n level₀ out₀ start at₀ left₀ to₀ level out at left to = left
 
 print-trees-loop-holds : (t : ℕ) → print-trees-lts.Need-loop-holds (print-trees-claims t) (print-trees-at t) print-trees.Post print-trees-Inv-loop print-trees-μ-loop
 print-trees-loop-holds t c = start-printing _ _ _ _ _ _ _ (c .before .before .before .pre .1 .0 .0) (c .before .before .before .pre .1 .0 .1) (c .before .before .before .pre .1 .1)
@@ -127,47 +149,65 @@ print-trees-mul-second t c = let h = node-here (c .before .before .loop .inv .no
 print-trees-shared-slice-read-second : (t : ℕ) → print-trees-lts.Need-shared-slice-read-second (print-trees-claims t) (print-trees-at t) print-trees.Post print-trees-Inv-loop print-trees-μ-loop
 print-trees-shared-slice-read-second t c = let h = node-here (c .before .before .before .loop .inv .nodes) (c .before .before .loop-test .taken) in omega arith
 
-print-trees-add-open-node : (t : ℕ) → print-trees-lts.Need-add-open-node (print-trees-claims t) (print-trees-at t) print-trees.Post print-trees-Inv-loop print-trees-μ-loop
-print-trees-add-open-node t c = let h = node-here (c .before .before .before .loop .inv .nodes) (c .before .before .loop-test .taken) in omega arith
-
-print-trees-mul-open-node : (t : ℕ) → print-trees-lts.Need-mul-open-node (print-trees-claims t) (print-trees-at t) print-trees.Post print-trees-Inv-loop print-trees-μ-loop
-print-trees-mul-open-node t c = let h = node-here (c .before .before .before .loop .inv .nodes) (c .before .before .loop-test .taken) in omega arith
-
-print-trees-shared-slice-read-open-node : (t : ℕ) → print-trees-lts.Need-shared-slice-read-open-node (print-trees-claims t) (print-trees-at t) print-trees.Post print-trees-Inv-loop print-trees-μ-loop
-print-trees-shared-slice-read-open-node t c = let h = node-here (c .before .before .before .before .loop .inv .nodes) (c .before .before .before .loop-test .taken) in omega arith
-
-print-trees-open-node-requires : (t : ℕ) → print-trees-lts.Need-open-node-requires (print-trees-claims t) (print-trees-at t) print-trees.Post print-trees-Inv-loop print-trees-μ-loop
-print-trees-open-node-requires t c κs = (here (c .before .before .before .before .before .loop .inv .nodes) (c .before .before .before .before .loop-test .taken) .name, room-to-open (c .before .before .before .before .before .loop .inv) (c .before .before .before .before .loop-test .taken))
-
-print-trees-print-children-requires : (t : ℕ) → print-trees-lts.Need-print-children-requires (print-trees-claims t) (print-trees-at t) print-trees.Post print-trees-Inv-loop print-trees-μ-loop
-print-trees-print-children-requires t c κs = (omega (arith, node-within (c .before .before .before .before .before .before .before .before .before .loop .inv .nodes) (c .before .before .before .before .before .before .before .before .loop-test .taken), c .before .before .before .before .before .before .before .before .before .loop .inv .nodes .few), ((node-here (c .before .before .before .before .before .before .before .before .before .loop .inv .nodes) (c .before .before .before .before .before .before .before .before .loop-test .taken), node-named (c .before .before .before .before .before .before .before .before .before .loop .inv .nodes) (c .before .before .before .before .before .before .before .before .loop-test .taken)), room-to-fill (c .before .before .before .before .before .before .before .before .before .loop .inv) (c .before .before .before .before .before .before .before .before .loop-test .taken) (c .before .before .before .open-node .ensures)))
-
-print-trees-close-node-requires : (t : ℕ) → print-trees-lts.Need-close-node-requires (print-trees-claims t) (print-trees-at t) print-trees.Post print-trees-Inv-loop print-trees-μ-loop
-print-trees-close-node-requires t c κs = room-to-close (c .before .before .before .before .before .before .before .before .before .before .before .before .before .loop .inv) (c .before .before .before .before .before .before .before .before .before .before .before .before .loop-test .taken) (c .before .before .before .before .before .before .before .open-node .ensures) (c .before .before .before .print-children .ensures)
-
 print-trees-add-count : (t : ℕ) → print-trees-lts.Need-add-count (print-trees-claims t) (print-trees-at t) print-trees.Post print-trees-Inv-loop print-trees-μ-loop
-print-trees-add-count t c = let h = node-here (c .before .before .before .before .before .before .before .before .before .before .before .before .before .before .before .before .loop .inv .nodes) (c .before .before .before .before .before .before .before .before .before .before .before .before .before .before .before .loop-test .taken) in omega arith
+print-trees-add-count t c = let h = node-here (c .before .before .before .loop .inv .nodes) (c .before .before .loop-test .taken) in omega arith
 
 print-trees-mul-count : (t : ℕ) → print-trees-lts.Need-mul-count (print-trees-claims t) (print-trees-at t) print-trees.Post print-trees-Inv-loop print-trees-μ-loop
-print-trees-mul-count t c = let h = node-here (c .before .before .before .before .before .before .before .before .before .before .before .before .before .before .before .before .loop .inv .nodes) (c .before .before .before .before .before .before .before .before .before .before .before .before .before .before .before .loop-test .taken) in omega arith
+print-trees-mul-count t c = let h = node-here (c .before .before .before .loop .inv .nodes) (c .before .before .loop-test .taken) in omega arith
 
 print-trees-shared-slice-read-count : (t : ℕ) → print-trees-lts.Need-shared-slice-read-count (print-trees-claims t) (print-trees-at t) print-trees.Post print-trees-Inv-loop print-trees-μ-loop
-print-trees-shared-slice-read-count t c = let h = node-here (c .before .before .before .before .before .before .before .before .before .before .before .before .before .before .before .before .before .loop .inv .nodes) (c .before .before .before .before .before .before .before .before .before .before .before .before .before .before .before .before .loop-test .taken) in omega arith
+print-trees-shared-slice-read-count t c = let h = node-here (c .before .before .before .before .loop .inv .nodes) (c .before .before .before .loop-test .taken) in omega arith
 
-print-trees-mul-at : (t : ℕ) → print-trees-lts.Need-mul-at (print-trees-claims t) (print-trees-at t) print-trees.Post print-trees-Inv-loop print-trees-μ-loop
-print-trees-mul-at t c = let h = node-here (c .before .before .before .before .before .before .before .before .before .before .before .before .before .before .before .before .before .loop .inv .nodes) (c .before .before .before .before .before .before .before .before .before .before .before .before .before .before .before .before .loop-test .taken) in omega arith
+print-trees-add-open-node : (t : ℕ) → print-trees-lts.Need-add-open-node (print-trees-claims t) (print-trees-at t) print-trees.Post print-trees-Inv-loop print-trees-μ-loop
+print-trees-add-open-node t c = let h = node-here (c .before .before .before .before .loop .inv .nodes) (c .before .before .before .loop-test .taken) in omega arith
+
+print-trees-mul-open-node : (t : ℕ) → print-trees-lts.Need-mul-open-node (print-trees-claims t) (print-trees-at t) print-trees.Post print-trees-Inv-loop print-trees-μ-loop
+print-trees-mul-open-node t c = let h = node-here (c .before .before .before .before .loop .inv .nodes) (c .before .before .before .loop-test .taken) in omega arith
+
+print-trees-shared-slice-read-open-node : (t : ℕ) → print-trees-lts.Need-shared-slice-read-open-node (print-trees-claims t) (print-trees-at t) print-trees.Post print-trees-Inv-loop print-trees-μ-loop
+print-trees-shared-slice-read-open-node t c = let h = node-here (c .before .before .before .before .before .loop .inv .nodes) (c .before .before .before .before .loop-test .taken) in omega arith
+
+print-trees-open-node-requires : (t : ℕ) → print-trees-lts.Need-open-node-requires (print-trees-claims t) (print-trees-at t) print-trees.Post print-trees-Inv-loop print-trees-μ-loop
+print-trees-open-node-requires t c κs = (here (c .before .before .before .before .before .before .loop .inv .nodes) (c .before .before .before .before .before .loop-test .taken) .name, room-to-open (c .before .before .before .before .before .before .loop .inv) (c .before .before .before .before .before .loop-test .taken))
+
+print-trees-points-last-requires : (t : ℕ) → print-trees-lts.Need-points-last-requires (print-trees-claims t) (print-trees-at t) print-trees.Post print-trees-Inv-loop print-trees-μ-loop
+print-trees-points-last-requires t c κs = search needs
+
+print-trees-held-level-requires : (t : ℕ) → print-trees-lts.Need-held-level-requires (print-trees-claims t) (print-trees-at t) print-trees.Post print-trees-Inv-loop print-trees-μ-loop
+print-trees-held-level-requires t c κs = let k = c .before .points-last .ensures (c .if1 .taken) in (k .0, k .1)
 
 print-trees-add-at : (t : ℕ) → print-trees-lts.Need-add-at (print-trees-claims t) (print-trees-at t) print-trees.Post print-trees-Inv-loop print-trees-μ-loop
-print-trees-add-at t c = let h = node-here (c .before .before .before .before .before .before .before .before .before .before .before .before .before .before .before .before .before .loop .inv .nodes) (c .before .before .before .before .before .before .before .before .before .before .before .before .before .before .before .before .loop-test .taken) in omega arith
+print-trees-add-at t c = let h = node-here (c .before .before .before .before .before .before .before .before .before .before .before .before .loop .inv .nodes) (c .before .before .before .before .before .before .before .before .before .before .before .loop-test .taken) in omega arith
 
 print-trees-sub-left : (t : ℕ) → print-trees-lts.Need-sub-left (print-trees-claims t) (print-trees-at t) print-trees.Post print-trees-Inv-loop print-trees-μ-loop
-print-trees-sub-left t c = omega (arith, some-node (c .before .before .before .before .before .before .before .before .before .before .before .before .before .before .before .before .before .loop .inv .nodes) (c .before .before .before .before .before .before .before .before .before .before .before .before .before .before .before .before .loop-test .taken), node-within (c .before .before .before .before .before .before .before .before .before .before .before .before .before .before .before .before .before .loop .inv .nodes) (c .before .before .before .before .before .before .before .before .before .before .before .before .before .before .before .before .loop-test .taken))
+print-trees-sub-left t c = omega (arith, some-node (c .before .before .before .before .before .before .before .before .before .before .before .before .loop .inv .nodes) (c .before .before .before .before .before .before .before .before .before .before .before .loop-test .taken), node-within (c .before .before .before .before .before .before .before .before .before .before .before .before .loop .inv .nodes) (c .before .before .before .before .before .before .before .before .before .before .before .loop-test .taken))
 
 print-trees-loop-less : (t : ℕ) → print-trees-lts.Need-loop-less (print-trees-claims t) (print-trees-at t) print-trees.Post print-trees-Inv-loop print-trees-μ-loop
-print-trees-loop-less t c = omega (arith, some-node (c .before .before .before .before .before .before .before .before .before .before .before .before .before .before .before .before .before .loop .inv .nodes) (c .before .before .before .before .before .before .before .before .before .before .before .before .before .before .before .before .loop-test .taken), node-within (c .before .before .before .before .before .before .before .before .before .before .before .before .before .before .before .before .before .loop .inv .nodes) (c .before .before .before .before .before .before .before .before .before .before .before .before .before .before .before .before .loop-test .taken))
+print-trees-loop-less t c = omega (arith, some-node (c .before .before .before .before .before .before .before .before .before .before .before .before .loop .inv .nodes) (c .before .before .before .before .before .before .before .before .before .before .before .loop-test .taken), node-within (c .before .before .before .before .before .before .before .before .before .before .before .before .loop .inv .nodes) (c .before .before .before .before .before .before .before .before .before .before .before .loop-test .taken))
 
 print-trees-loop-again : (t : ℕ) → print-trees-lts.Need-loop-again (print-trees-claims t) (print-trees-at t) print-trees.Post print-trees-Inv-loop print-trees-μ-loop
-print-trees-loop-again t c = turned (c .before .before .before .before .before .before .before .before .before .before .before .before .before .before .before .before .before .loop .inv) (c .before .before .before .before .before .before .before .before .before .before .before .before .before .before .before .before .loop-test .taken) (c .before .before .before .before .before .before .before .before .before .before .before .open-node .ensures) (c .before .before .before .before .before .before .before .print-children .ensures) (c .before .before .before .close-node .ensures)
+print-trees-loop-again t c = let k = c .before .before .points-last .ensures (c .before .if1 .taken) in held-next (c .before .before .before .before .before .before .before .before .before .before .before .before .loop .inv) (c .before .before .before .before .before .before .before .before .before .before .before .loop-test .taken) (c .before .before .before .before .before .open-node .ensures) (k .0) (k .1) (k .2) _ (c .held-level .ensures)
+
+print-trees-print-children-requires : (t : ℕ) → print-trees-lts.Need-print-children-requires (print-trees-claims t) (print-trees-at t) print-trees.Post print-trees-Inv-loop print-trees-μ-loop
+print-trees-print-children-requires t c κs = (omega (arith, node-within (c .before .before .before .before .before .before .before .before .before .before .before .before .loop .inv .nodes) (c .before .before .before .before .before .before .before .before .before .before .before .loop-test .taken), c .before .before .before .before .before .before .before .before .before .before .before .before .loop .inv .nodes .few), ((node-here (c .before .before .before .before .before .before .before .before .before .before .before .before .loop .inv .nodes) (c .before .before .before .before .before .before .before .before .before .before .before .loop-test .taken), node-named (c .before .before .before .before .before .before .before .before .before .before .before .before .loop .inv .nodes) (c .before .before .before .before .before .before .before .before .before .before .before .loop-test .taken)), room-to-fill (c .before .before .before .before .before .before .before .before .before .before .before .before .loop .inv) (c .before .before .before .before .before .before .before .before .before .before .before .loop-test .taken) (c .before .before .before .before .before .open-node .ensures)))
+
+print-trees-close-node-requires : (t : ℕ) → print-trees-lts.Need-close-node-requires (print-trees-claims t) (print-trees-at t) print-trees.Post print-trees-Inv-loop print-trees-μ-loop
+print-trees-close-node-requires t c κs = room-to-close (c .before .before .before .before .before .before .before .before .before .before .before .before .before .before .before .before .loop .inv) (c .before .before .before .before .before .before .before .before .before .before .before .before .before .before .before .loop-test .taken) (c .before .before .before .before .before .before .before .before .before .open-node .ensures) (c .before .before .before .print-children .ensures)
+
+print-trees-mul-at : (t : ℕ) → print-trees-lts.Need-mul-at (print-trees-claims t) (print-trees-at t) print-trees.Post print-trees-Inv-loop print-trees-μ-loop
+print-trees-mul-at t c = let h = node-here (c .before .before .before .before .before .before .before .before .before .before .before .before .before .before .before .before .before .before .before .loop .inv .nodes) (c .before .before .before .before .before .before .before .before .before .before .before .before .before .before .before .before .before .before .loop-test .taken) in omega arith
+
+print-trees-add-at-2 : (t : ℕ) → print-trees-lts.Need-add-at-2 (print-trees-claims t) (print-trees-at t) print-trees.Post print-trees-Inv-loop print-trees-μ-loop
+print-trees-add-at-2 t c = let h = node-here (c .before .before .before .before .before .before .before .before .before .before .before .before .before .before .before .before .before .before .before .loop .inv .nodes) (c .before .before .before .before .before .before .before .before .before .before .before .before .before .before .before .before .before .before .loop-test .taken) in omega arith
+
+print-trees-sub-left-2 : (t : ℕ) → print-trees-lts.Need-sub-left-2 (print-trees-claims t) (print-trees-at t) print-trees.Post print-trees-Inv-loop print-trees-μ-loop
+print-trees-sub-left-2 t c = omega (arith, some-node (c .before .before .before .before .before .before .before .before .before .before .before .before .before .before .before .before .before .before .before .loop .inv .nodes) (c .before .before .before .before .before .before .before .before .before .before .before .before .before .before .before .before .before .before .loop-test .taken), node-within (c .before .before .before .before .before .before .before .before .before .before .before .before .before .before .before .before .before .before .before .loop .inv .nodes) (c .before .before .before .before .before .before .before .before .before .before .before .before .before .before .before .before .before .before .loop-test .taken))
+
+print-trees-loop-less-2 : (t : ℕ) → print-trees-lts.Need-loop-less-2 (print-trees-claims t) (print-trees-at t) print-trees.Post print-trees-Inv-loop print-trees-μ-loop
+print-trees-loop-less-2 t c = omega (arith, some-node (c .before .before .before .before .before .before .before .before .before .before .before .before .before .before .before .before .before .before .before .loop .inv .nodes) (c .before .before .before .before .before .before .before .before .before .before .before .before .before .before .before .before .before .before .loop-test .taken), node-within (c .before .before .before .before .before .before .before .before .before .before .before .before .before .before .before .before .before .before .before .loop .inv .nodes) (c .before .before .before .before .before .before .before .before .before .before .before .before .before .before .before .before .before .before .loop-test .taken))
+
+print-trees-loop-again-2 : (t : ℕ) → print-trees-lts.Need-loop-again-2 (print-trees-claims t) (print-trees-at t) print-trees.Post print-trees-Inv-loop print-trees-μ-loop
+print-trees-loop-again-2 t c = turned (c .before .before .before .before .before .before .before .before .before .before .before .before .before .before .before .before .before .before .before .loop .inv) (c .before .before .before .before .before .before .before .before .before .before .before .before .before .before .before .before .before .before .loop-test .taken) (c .before .before .before .before .before .before .before .before .before .before .before .before .open-node .ensures) (c .before .before .before .before .before .before .print-children .ensures) (c .before .before .close-node .ensures)
 
 print-trees-same-length : (t : ℕ) → print-trees-lts.Need-same-length (print-trees-claims t) (print-trees-at t) print-trees.Post print-trees-Inv-loop print-trees-μ-loop
 print-trees-same-length t c = c .before .loop .inv .room
@@ -189,8 +229,14 @@ pub +print-children+print-trees-spec : {M : Type 1} → statement M
     (print-children-children-level-requires t)
     (print-children-enum-told t)
     (print-children-enum-known-inner t)
-    (print-children-add-print-trees t)
     (print-children-sub-print-trees t)
+    (print-children-part-print-trees-start t)
+    (print-children-part-print-trees-end t)
+    (print-children-sub-print-trees-2 t)
+    (print-children-part-print-trees-start-2 t)
+    (print-children-part-print-trees-end-2 t)
+    (print-children-add-print-trees t)
+    (print-children-sub-print-trees-3 t)
     (print-children-print-trees-requires t)
     (print-children-returns-2 t)
     (print-children-same-length t)
@@ -206,19 +252,25 @@ pub +print-children+print-trees-spec : {M : Type 1} → statement M
     (print-trees-add-second t)
     (print-trees-mul-second t)
     (print-trees-shared-slice-read-second t)
+    (print-trees-add-count t)
+    (print-trees-mul-count t)
+    (print-trees-shared-slice-read-count t)
     (print-trees-add-open-node t)
     (print-trees-mul-open-node t)
     (print-trees-shared-slice-read-open-node t)
     (print-trees-open-node-requires t)
-    (print-trees-print-children-requires t)
-    (print-trees-close-node-requires t)
-    (print-trees-add-count t)
-    (print-trees-mul-count t)
-    (print-trees-shared-slice-read-count t)
-    (print-trees-mul-at t)
+    (print-trees-points-last-requires t)
+    (print-trees-held-level-requires t)
     (print-trees-add-at t)
     (print-trees-sub-left t)
     (print-trees-loop-less t)
     (print-trees-loop-again t)
+    (print-trees-print-children-requires t)
+    (print-trees-close-node-requires t)
+    (print-trees-mul-at t)
+    (print-trees-add-at-2 t)
+    (print-trees-sub-left-2 t)
+    (print-trees-loop-less-2 t)
+    (print-trees-loop-again-2 t)
     (print-trees-same-length t)
     (print-trees-returns t)
