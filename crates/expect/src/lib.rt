@@ -11,7 +11,7 @@ ghost use Rattle.kinds.specs.Primitive.{codeBytes};
 ghost use Rattle.kinds.specs.Sheet.{kindAt, countAt, isContainerKind, labelAt, trees};
 ghost use Rattle.kinds.specs.Tree.{isEnd};
 ghost use Rattle.kinds.specs.Walk.{NodeAt, TreesAt, KindAndName, KindsAndNames};
-ghost use Rattle.expect.specs.Agree.{ExpectedIs, containerOf, anyObject, expectLeaf, openingByte, opening, closing, afterName, InText, OpenedIs, indirectionOf, isIndirection, codeByte, ownByte, levelAfter, OpenedAt};
+ghost use Rattle.expect.specs.Agree.{ExpectedIs, containerOf, anyObject, expectLeaf, openingByte, opening, closing, afterName, InText, OpenedIs, isIndirection, codeByte, ownByte, levelAfter, OpenedAt};
 ghost use Rattle.expect.specs.Encoding.{compared};
 use kinds::Code;
 use kinds::ContainerKind;
@@ -332,24 +332,6 @@ fn open_container(
     open_named(kind, &names[from..to], level, count - 1, text, place)
 }
 
-fn indirection_kind(kind: u64) -> IndirectionKind
-    ensures { λ r. ⌜ r ≡ indirectionOf kind ⌝ }
-{
-    if kind == 26 {
-        return IndirectionKind::Pointer;
-    }
-    IndirectionKind::Atomic
-}
-
-fn is_indirection(kind: u64) -> bool
-    ensures { λ r. ⌜ r ≡ isIndirection kind ⌝ }
-{
-    if kind == 26 {
-        return true;
-    }
-    kind == 27
-}
-
 // The codes of one byte that no other primitive is compared as, by kind; 0 for the other primitives.
 const CODE_BYTES: [u8; 24] = *b"csilqCSILQfdD\x00\x00\x00Bv*\x00\x00\x00:?";
 
@@ -366,8 +348,11 @@ fn code_byte(kind: u64) -> u8
 fn own_byte(kind: u64) -> u8
     ensures { λ r. ⌜ r ≡ ownByte kind ⌝ }
 {
-    if is_indirection(kind) {
-        return indirection_kind(kind).prefix_byte();
+    if kind == 26 {
+        return IndirectionKind::Pointer.prefix_byte();
+    }
+    if kind == 27 {
+        return IndirectionKind::Atomic.prefix_byte();
     }
     code_byte(kind)
 }
@@ -376,8 +361,11 @@ fn own_byte(kind: u64) -> u8
 fn level_after(kind: u64, level: NestingLevel, here: NestingLevel) -> NestingLevel
     ensures { λ r. ⌜ r ≡ levelAfter kind level here ⌝ }
 {
-    if is_indirection(kind) {
-        return here.indirection(indirection_kind(kind));
+    if kind == 26 {
+        return here.indirection(IndirectionKind::Pointer);
+    }
+    if kind == 27 {
+        return here.indirection(IndirectionKind::Atomic);
     }
     level
 }

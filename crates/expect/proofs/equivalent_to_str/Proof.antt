@@ -102,7 +102,8 @@ expect-fields-requires c κs =
     let a = c .before .before .before .before .before .before .before .before .before .before .before .before .before .before .before .before .args in
     let good = sym (c .before .before .before .before .before .before .before .before .before .before .before .check .ensures) ∙ c .before .before .before .before .before .before .before .before .before .enum-told3 .given .1 in
     let h = sheet-trees (a .words .now) (a .names .now) good in
-    lent-walk (a .names .now) (nodeWords (a .words .now)) _ (a .text .now) _ _ _ (rest (a .words .now) 4) (h .0) (c .before .before .before .before .before .before .before .before .strip-leading-qualifiers .ensures .1) (h .1)
+    let start = c .before .before .before .before .before .before .before .before .strip-leading-qualifiers .ensures .1 in
+    lent-walk (a .names .now) (nodeWords (a .words .now)) _ (a .text .now) _ _ _ (rest (a .words .now) 4) (h .0) (omega arith) (h .1)
 
 decide-requires-2 : tie.Need-decide-requires-2
 decide-requires-2 c κs = search needs

@@ -1,32 +1,33 @@
-use mathlib.Core.Path.{ap, sym, _∙_}
+use borrow.Author.Tests.{eq-eqb, ne-eqb}
 use borrow.Author.Needs.{needs}
-use Rattle.kinds.specs.Level.{indirection}
-use Rattle.kinds.specs.declared.IndirectionKind.{IndirectionKind}
-use Rattle.expect.proofs.FieldLaws.{after-indirection, after-code}
+use Rattle.expect.specs.Agree.{levelAfter}
 use Rattle.expect.proofs.level_after.Statement.{statement}
 use Rattle.expect.proofs.level_after.Tie as tie
-
-is-indirection-requires : tie.Need-is-indirection-requires
-is-indirection-requires c κs = search needs
-
-indirection-kind-requires : tie.Need-indirection-kind-requires
-indirection-kind-requires c κs = search needs
 
 indirection-requires : tie.Need-indirection-requires
 indirection-requires c κs = search needs
 
 returns : tie.Need-returns
-returns c = c .indirection .ensures ∙ ap (λ (k : IndirectionKind). indirection k (c .before .before .before .before .args .here)) (c .before .indirection-kind .ensures) ∙ after-indirection _ _ _ (sym (c .before .before .before .is-indirection .ensures) ∙ c .before .before .if1 .taken)
+unfolding levelAfter
+returns c = rw (eq-eqb (c .before .before .args .kind) 26 (c .before .if1 .taken)) (c .indirection .ensures)
+
+indirection-requires-2 : tie.Need-indirection-requires-2
+indirection-requires-2 c κs = search needs
 
 returns-2 : tie.Need-returns-2
-returns-2 c = after-code _ _ _ (sym (c .before .is-indirection .ensures) ∙ c .if1 .left)
+unfolding levelAfter
+returns-2 c = rw (ne-eqb (c .before .before .before .args .kind) 26 (c .before .before .if1 .left), eq-eqb (c .before .before .before .args .kind) 27 (c .before .if2 .taken)) (c .indirection2 .ensures)
+
+returns-3 : tie.Need-returns-3
+unfolding levelAfter
+returns-3 c = rw (ne-eqb (c .before .before .args .kind) 26 (c .before .if1 .left), ne-eqb (c .before .before .args .kind) 27 (c .if2 .left))
 
 pub level-after-spec : {M : Type 1} → statement M
 level-after-spec =
     tie.close
     (tie.spec
-    is-indirection-requires
-    indirection-kind-requires
     indirection-requires
     returns
-    returns-2)
+    indirection-requires-2
+    returns-2
+    returns-3)

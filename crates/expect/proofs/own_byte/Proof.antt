@@ -1,35 +1,37 @@
-use mathlib.Core.Path.{ap, sym, _∙_}
+use borrow.Author.Tests.{eq-eqb, ne-eqb}
 use borrow.Author.Needs.{needs}
-use Rattle.kinds.specs.Container.{prefixByte}
-use Rattle.expect.proofs.FieldLaws.{own-prefix, own-code}
+use Rattle.expect.specs.Agree.{ownByte}
 use Rattle.expect.proofs.own_byte.Statement.{statement}
 use Rattle.expect.proofs.own_byte.Tie as tie
-
-is-indirection-requires : tie.Need-is-indirection-requires
-is-indirection-requires c κs = search needs
-
-indirection-kind-requires : tie.Need-indirection-kind-requires
-indirection-kind-requires c κs = search needs
 
 prefix-byte-requires : tie.Need-prefix-byte-requires
 prefix-byte-requires c κs = search needs
 
 returns : tie.Need-returns
-returns c = c .prefix-byte .ensures ∙ ap prefixByte (c .before .indirection-kind .ensures) ∙ own-prefix _ (sym (c .before .before .before .is-indirection .ensures) ∙ c .before .before .if1 .taken)
+unfolding ownByte
+returns c = rw (eq-eqb (c .before .before .args .kind) 26 (c .before .if1 .taken)) (c .prefix-byte .ensures)
+
+prefix-byte-requires-2 : tie.Need-prefix-byte-requires-2
+prefix-byte-requires-2 c κs = search needs
+
+returns-2 : tie.Need-returns-2
+unfolding ownByte
+returns-2 c = rw (ne-eqb (c .before .before .before .args .kind) 26 (c .before .before .if1 .left), eq-eqb (c .before .before .before .args .kind) 27 (c .before .if2 .taken)) (c .prefix-byte2 .ensures)
 
 code-byte-requires : tie.Need-code-byte-requires
 code-byte-requires c κs = search needs
 
-returns-2 : tie.Need-returns-2
-returns-2 c = c .code-byte .ensures ∙ own-code _ (sym (c .before .before .is-indirection .ensures) ∙ c .before .if1 .left)
+returns-3 : tie.Need-returns-3
+unfolding ownByte
+returns-3 c = rw (ne-eqb (c .before .before .before .args .kind) 26 (c .before .before .if1 .left), ne-eqb (c .before .before .before .args .kind) 27 (c .before .if2 .left)) (c .code-byte .ensures)
 
 pub own-byte-spec : {M : Type 1} → statement M
 own-byte-spec =
     tie.close
     (tie.spec
-    is-indirection-requires
-    indirection-kind-requires
     prefix-byte-requires
     returns
+    prefix-byte-requires-2
+    returns-2
     code-byte-requires
-    returns-2)
+    returns-3)
