@@ -3,13 +3,16 @@ use Prim.Native.Nat.{ℕ, zero, suc, _+_, _-_, _*_, _≤_, _<_}
 use native.Mathlib.Omega.{arith}
 use native.Mathlib.Numerals.{add-one}
 use mathlib.Core.Path.{_≡_, refl, ap, sym, _∙_}
+use mathlib.Core.Bool.{Bool, true, false, cond, _||_}
 use mathlib.Core.List.{List, [], _∷_, _++_}
+use lib.Dec.{eqb}
 use lib.ListN.{take, drop, length, getD}
 use lib.Seq.{take-nil}
-use borrow.Author.Tests.{le-leb, lt-leb, lt-ltb, le-ltb}
+use borrow.Author.Tests.{le-leb, lt-leb, lt-ltb, le-ltb, eq-eqb, ne-eqb, eqb-false}
 use Rattle.kinds.proofs.ListLaws.{unread-end}
 use Rattle.lines.specs.Field.{until}
-use Rattle.tool.specs.Show.{shownByte, times, holders, lineOf}
+use Rattle.kinds.specs.Print.{decimal}
+use Rattle.tool.specs.Show.{shownByte, times, holders, depthOf, lineOf, countText, kindNames, valuesText, rightText, nodeText}
 
 pub dot-low : (b : ℕ) → b < 32 → 46 ∷ [] ≡ shownByte b
 unfolding shownByte
@@ -60,3 +63,59 @@ holds-not words i j h = sym (ap (holders words i) (add-one j) ∙ rw (le-ltb (i 
 
 pub take-none : (n i : ℕ) (s : List ℕ) → length s < i → take 0 s ≡ take n (drop i s)
 take-none n i s h = sym (ap (take n) (unread-end s i (omega arith)) ∙ take-nil n)
+
+-- ---- The texts by cases.
+
+pub count-one : (n : ℕ) (unit : List ℕ) → n ≡ 1 → decimal n ++ ((32 ∷ []) ++ unit) ≡ countText n unit
+unfolding countText
+count-one n unit h = sym (rw (eq-eqb n 1 h))
+
+pub count-more : (n : ℕ) (unit : List ℕ) → (n ≡ 1 → ⊥) → decimal n ++ ((32 ∷ []) ++ (unit ++ (115 ∷ []))) ≡ countText n unit
+unfolding countText
+count-more n unit h = sym (rw (ne-eqb n 1 h))
+
+module _ (names : List ℕ) (k m n : ℕ) where
+  pub bits-values : k ≡ 24 → countText n (98 ∷ 105 ∷ 116 ∷ []) ≡ valuesText names k m n
+  unfolding valuesText
+  bits-values e = sym (rw e)
+
+  pub typed-values : k ≡ 25 → decimal m ++ ((32 ∷ 111 ∷ 102 ∷ 32 ∷ []) ++ countText n (98 ∷ 105 ∷ 116 ∷ [])) ≡ valuesText names k m n
+  unfolding valuesText
+  typed-values e = sym (rw e)
+
+  pub array-values : k ≡ 28 → decimal m ≡ valuesText names k m n
+  unfolding valuesText
+  array-values e = sym (rw e)
+
+  pub name-values : 29 ≤ k → k ≤ 30 → take n (drop m names) ≡ valuesText names k m n
+  unfolding valuesText
+  name-values h j =
+      let a : k ≡ 24 → ⊥ = λ e. absurd (omega (arith, e)) in
+      let b : k ≡ 25 → ⊥ = λ e. absurd (omega (arith, e)) in
+      let c : k ≡ 28 → ⊥ = λ e. absurd (omega (arith, e)) in
+      sym (rw (ne-eqb k 24 a, ne-eqb k 25 b, ne-eqb k 28 c) (go (eqb k 29) refl))
+    where
+      go : (t : Bool) → eqb k 29 ≡ t → cond (t || eqb k 30) (take n (drop m names)) [] ≡ take n (drop m names)
+      go true e = refl
+      go false e = rw (eq-eqb k 30 (last e))
+        where
+          last : eqb k 29 ≡ false → k ≡ 30
+          last q = let r = eqb-false k 29 q in omega (arith, r)
+
+  pub no-values : (k ≡ 24 → ⊥) → (k ≡ 25 → ⊥) → (k ≡ 28 → ⊥) → (k ≡ 29 → ⊥) → (k ≡ 30 → ⊥) → [] ≡ valuesText names k m n
+  unfolding valuesText
+  no-values a b c d e = sym (rw (ne-eqb k 24 a, ne-eqb k 25 b, ne-eqb k 28 c, ne-eqb k 29 d, ne-eqb k 30 e))
+
+pub right-short : (n widest d w : ℕ) → d ≡ length (decimal n) → w ≡ length (decimal widest) → times (w - d) (32 ∷ []) ++ decimal n ≡ rightText n widest
+unfolding rightText
+right-short n widest d w p q = rw (p, q)
+
+pub right-wide : (n widest d w : ℕ) → d ≡ length (decimal n) → w ≡ length (decimal widest) → w ≤ d → decimal n ≡ rightText n widest
+unfolding rightText
+right-wide n widest d w p q h =
+    let e : length (decimal widest) - length (decimal n) ≤ 0 = omega arith in
+    sym (ap (λ (s : List ℕ). s ++ decimal n) (times-none (length (decimal widest) - length (decimal n)) (32 ∷ []) e))
+
+pub node-is : (words names : List ℕ) (i last d k m n : ℕ) → d ≡ depthOf words i → k ≡ getD words (4 * i + 4) 0 → m ≡ getD words (4 * i + 5) 0 → n ≡ getD words (4 * i + 6) 0 → rightText i last ++ ((32 ∷ []) ++ (times d (32 ∷ 32 ∷ []) ++ (lineOf k kindNames ++ valuesText names k m n))) ≡ nodeText words names i last
+unfolding nodeText
+node-is words names i last d k m n p q r s = rw (p, q, r, s)

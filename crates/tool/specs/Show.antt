@@ -1,10 +1,11 @@
 -- What is shown of texts and trees.
 use Prim.Native.Nat.{ℕ, zero, suc, _+_, _-_, _*_}
-use mathlib.Core.Bool.{cond, _&&_}
+use mathlib.Core.Bool.{cond, _&&_, _||_}
 use mathlib.Core.List.{List, [], _∷_, _++_}
 use lib.Dec.{leb, ltb, eqb}
-use lib.ListN.{take, drop, getD}
-use Rattle.kinds.specs.Byte.{byte}
+use lib.ListN.{length, take, drop, getD}
+use Rattle.kinds.specs.Byte.{byte, bytes}
+use Rattle.kinds.specs.Print.{decimal}
 use Rattle.lines.specs.Field.{until}
 use Rattle.lines.specs.Put.{each}
 
@@ -33,3 +34,32 @@ depthOf words i = holders words i i
 unfoldable pub lineOf : ℕ → List ℕ → List ℕ
 lineOf zero table = take (until (byte "\n") table) table
 lineOf (suc k) table = lineOf k (drop (until (byte "\n") table + 1) table)
+
+-- A number and its unit, in the plural but for 1.
+unfoldable pub countText : ℕ → List ℕ → List ℕ
+countText n unit = decimal n ++ (bytes " " ++ cond (eqb n 1) unit (unit ++ bytes "s"))
+
+-- What stands before a node's numbers or its name, a line for each kind.
+unfoldable pub kindNames : List ℕ
+kindNames = bytes "char\nshort\nint\nlong\nlong long\nunsigned char\nunsigned short\nunsigned int\nunsigned long\nunsigned long long\nfloat\ndouble\nlong double\ncomplex float\ncomplex double\ncomplex long double\nbool\nvoid\nC string\nobject\nblock\nclass\nselector\nunknown\nbitfield of \nbitfield at offset \npointer\natomic\narray of \nstruct \nunion \nnothing"
+
+-- A node's numbers or its name, by its kind and its two numbers.
+unfoldable pub valuesText : List ℕ → ℕ → ℕ → ℕ → List ℕ
+valuesText names k m n =
+    cond (eqb k 24) (countText n (bytes "bit"))
+    (cond (eqb k 25) (decimal m ++ (bytes " of " ++ countText n (bytes "bit")))
+    (cond (eqb k 28) (decimal m)
+    (cond (eqb k 29 || eqb k 30) (take n (drop m names)) [])))
+
+-- A number in a column that is as wide as `widest`.
+unfoldable pub rightText : ℕ → ℕ → List ℕ
+rightText n widest = times (length (decimal widest) - length (decimal n)) (bytes " ") ++ decimal n
+
+-- The line of node `i`: its number, in a column for the last one's, and its kind, two columns deeper than its parent's.
+unfoldable pub nodeText : List ℕ → List ℕ → ℕ → ℕ → List ℕ
+nodeText words names i last =
+    rightText i last
+    ++ (bytes " "
+    ++ (times (depthOf words i) (bytes "  ")
+    ++ (lineOf (getD words (4 * i + 4) 0) kindNames
+    ++ valuesText names (getD words (4 * i + 4) 0) (getD words (4 * i + 5) 0) (getD words (4 * i + 6) 0))))

@@ -3,7 +3,7 @@ ghost use mathlib.Core.Path.{_≡_};
 ghost use mathlib.Core.List.{[], _∷_};
 ghost use lib.ListN.{take, drop, getD};
 ghost use Rattle.lines.specs.Put.{Put};
-ghost use Rattle.tool.specs.Show.{shownByte, shownText, times, depthOf, lineOf};
+ghost use Rattle.tool.specs.Show.{shownByte, shownText, times, depthOf, lineOf, countText, kindNames, valuesText, rightText, nodeText};
 
 // The word at `i`, or 0 beyond the end.
 fn word_at(words: &[u64], i: usize) -> u64
@@ -77,7 +77,9 @@ fn put_times(out: &mut [u8], at: usize, s: &[u8], n: usize) -> usize
 }
 
 // A number and its unit, in the plural but for 1.
-pub fn put_count(out: &mut [u8], at: usize, n: u64, unit: &[u8]) -> usize {
+pub fn put_count(out: &mut [u8], at: usize, n: u64, unit: &[u8]) -> usize
+    ensures { λ r. ⌜ Put (now (out .entry)) at (countText n (now (unit .entry))) (now (out .exit)) r ⌝ }
+{
     let number = lines::put_number(out, at, n);
     let space = lines::put_bytes(out, number, b" ");
     let to = lines::put_bytes(out, space, unit);
@@ -127,7 +129,9 @@ fn line_of(table: &[u8], k: u64) -> &[u8]
 }
 
 // What stands before a node's numbers or its name, by its kind.
-fn put_kind(out: &mut [u8], at: usize, kind: u64) -> usize {
+fn put_kind(out: &mut [u8], at: usize, kind: u64) -> usize
+    ensures { λ r. ⌜ Put (now (out .entry)) at (lineOf kind kindNames) (now (out .exit)) r ⌝ }
+{
     let table = b"char\nshort\nint\nlong\nlong long\n\
         unsigned char\nunsigned short\nunsigned int\nunsigned long\nunsigned long long\n\
         float\ndouble\nlong double\ncomplex float\ncomplex double\ncomplex long double\n\
@@ -137,14 +141,9 @@ fn put_kind(out: &mut [u8], at: usize, kind: u64) -> usize {
 }
 
 // A node's numbers or its name.
-fn put_values(
-    out: &mut [u8],
-    at: usize,
-    names: &[u8],
-    kind: u64,
-    first: u64,
-    second: u64,
-) -> usize {
+fn put_values(out: &mut [u8], at: usize, names: &[u8], kind: u64, first: u64, second: u64) -> usize
+    ensures { λ r. ⌜ Put (now (out .entry)) at (valuesText (now (names .entry)) kind first second) (now (out .exit)) r ⌝ }
+{
     match kind {
         24 => put_count(out, at, second, b"bit"),
         25 => {
@@ -159,7 +158,9 @@ fn put_values(
 }
 
 // A number in a column that is as wide as `widest`.
-fn put_right(out: &mut [u8], at: usize, n: u64, widest: u64) -> usize {
+fn put_right(out: &mut [u8], at: usize, n: u64, widest: u64) -> usize
+    ensures { λ r. ⌜ Put (now (out .entry)) at (rightText n widest) (now (out .exit)) r ⌝ }
+{
     let width = static_str::static_int_str_len(widest);
     let digits = static_str::static_int_str_len(n);
     if digits < width {
@@ -170,7 +171,9 @@ fn put_right(out: &mut [u8], at: usize, n: u64, widest: u64) -> usize {
 }
 
 // The line of a node: its number, in a column for the last one's, and its kind, two columns deeper than its parent's.
-pub fn put_node(out: &mut [u8], words: &[u64], names: &[u8], i: u16, last: u16) -> usize {
+pub fn put_node(out: &mut [u8], words: &[u64], names: &[u8], i: u16, last: u16) -> usize
+    ensures { λ r. ⌜ Put (now (out .entry)) 0 (nodeText (now (words .entry)) (now (names .entry)) i last) (now (out .exit)) r ⌝ }
+{
     let number = put_right(out, 0, i as u64, last as u64);
     let space = lines::put_bytes(out, number, b" ");
     let to = put_times(out, space, b"  ", depth(words, i));
