@@ -404,7 +404,7 @@ fn open_node(
 }
 
 // The trees of the `n` nodes from `from` on, one after the other. A pointer and an atomic are followed by what they hold.
-fn expect_fields(
+fn expect_encoding(
     nodes: &[u64],
     names: &[u8],
     from: usize,
@@ -440,7 +440,15 @@ fn expect_fields(
             Opened::Mismatch => Expected::Mismatch,
             Opened::Taken(to) => Expected::Remaining(to),
             Opened::Fields(to, inner) => {
-                let all = expect_fields(&nodes[0..], &names[0..], at + 4, m, inner, &text[0..], to);
+                let all = expect_encoding(
+                    &nodes[0..],
+                    &names[0..],
+                    at + 4,
+                    m,
+                    inner,
+                    &text[0..],
+                    to,
+                );
                 close_node(all, kind, nodes[at + 2], text)
             }
         };
@@ -482,7 +490,7 @@ pub fn equivalent_to_str(words: &[u64], names: &[u8], text: &[u8]) -> Compared
             }
             let n = words[0] as usize;
             let top = NestingLevel::new();
-            let walked = expect_fields(&words[4..], &names[0..], 0, n, top, &text[0..], start);
+            let walked = expect_encoding(&words[4..], &names[0..], 0, n, top, &text[0..], start);
             Compared::Decided(decide(walked, text))
         }
     }

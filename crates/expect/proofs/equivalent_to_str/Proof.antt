@@ -62,43 +62,43 @@ shared-slice-read-n c =
 new-requires : tie.Need-new-requires
 new-requires c κs = search needs
 
-sub-expect-fields : tie.Need-sub-expect-fields
-sub-expect-fields c =
+sub-expect-encoding : tie.Need-sub-expect-encoding
+sub-expect-encoding c =
     let a = c .before .before .before .before .before .before .before .before .before .before .before .before .before .args in
     let good = sym (c .before .before .before .before .before .before .before .before .check .ensures) ∙ c .before .before .before .before .before .before .enum-told3 .given .1 in
     let h = words-enough (a .words .now) (a .names .now) good in
     omega arith
 
-part-expect-fields-start : tie.Need-part-expect-fields-start
-part-expect-fields-start c =
+part-expect-encoding-start : tie.Need-part-expect-encoding-start
+part-expect-encoding-start c =
     let a = c .before .before .before .before .before .before .before .before .before .before .before .before .before .args in
     let good = sym (c .before .before .before .before .before .before .before .before .check .ensures) ∙ c .before .before .before .before .before .before .enum-told3 .given .1 in
     let h = words-enough (a .words .now) (a .names .now) good in
     omega arith
 
-part-expect-fields-end : tie.Need-part-expect-fields-end
-part-expect-fields-end c = search needs
+part-expect-encoding-end : tie.Need-part-expect-encoding-end
+part-expect-encoding-end c = search needs
 
-sub-expect-fields-2 : tie.Need-sub-expect-fields-2
-sub-expect-fields-2 c = search needs
+sub-expect-encoding-2 : tie.Need-sub-expect-encoding-2
+sub-expect-encoding-2 c = search needs
 
-part-expect-fields-start-2 : tie.Need-part-expect-fields-start-2
-part-expect-fields-start-2 c = search needs
+part-expect-encoding-start-2 : tie.Need-part-expect-encoding-start-2
+part-expect-encoding-start-2 c = search needs
 
-part-expect-fields-end-2 : tie.Need-part-expect-fields-end-2
-part-expect-fields-end-2 c = search needs
+part-expect-encoding-end-2 : tie.Need-part-expect-encoding-end-2
+part-expect-encoding-end-2 c = search needs
 
-sub-expect-fields-3 : tie.Need-sub-expect-fields-3
-sub-expect-fields-3 c = search needs
+sub-expect-encoding-3 : tie.Need-sub-expect-encoding-3
+sub-expect-encoding-3 c = search needs
 
-part-expect-fields-start-3 : tie.Need-part-expect-fields-start-3
-part-expect-fields-start-3 c = search needs
+part-expect-encoding-start-3 : tie.Need-part-expect-encoding-start-3
+part-expect-encoding-start-3 c = search needs
 
-part-expect-fields-end-3 : tie.Need-part-expect-fields-end-3
-part-expect-fields-end-3 c = search needs
+part-expect-encoding-end-3 : tie.Need-part-expect-encoding-end-3
+part-expect-encoding-end-3 c = search needs
 
-expect-fields-requires : tie.Need-expect-fields-requires
-expect-fields-requires c κs =
+expect-encoding-requires : tie.Need-expect-encoding-requires
+expect-encoding-requires c κs =
     let a = c .before .before .before .before .before .before .before .before .before .before .before .before .before .before .before .before .args in
     let good = sym (c .before .before .before .before .before .before .before .before .before .before .before .check .ensures) ∙ c .before .before .before .before .before .before .before .before .before .enum-told3 .given .1 in
     let h = sheet-trees (a .words .now) (a .names .now) good in
@@ -119,8 +119,8 @@ returns-5 c =
     let a = c .before .before .before .before .before .before .before .before .before .before .before .before .before .before .before .before .before .before .args in
     let good = sym (c .before .before .before .before .before .before .before .before .before .before .before .before .before .check .ensures) ∙ c .before .before .before .before .before .before .before .before .before .before .before .enum-told3 .given .1 in
     let start = c .before .before .before .before .before .before .before .before .before .before .strip-leading-qualifiers .result in
-    let f = lent-fields (a .names .now) (nodeWords (a .words .now)) _ (a .text .now) (getD (a .words .now) 0 0) 0 start (rest (a .words .now) 4) (c .before .before .before .before .before .new .result) (c .before .expect-fields .result) (c .before .expect-fields .ensures) in
-    ap Decided (decided (a .words .now) (a .names .now) (a .text .now) start (c .before .expect-fields .result) _ (c .before .before .before .before .before .before .before .before .before .before .strip-leading-qualifiers .ensures .0) (walked-fields (a .words .now) (a .names .now) (a .text .now) (c .before .expect-fields .result) (drop start (a .text .now)) (c .before .before .before .before .before .new .result) (c .before .before .before .before .before .new .ensures) f) (c .decide2 .ensures))
+    let f = lent-fields (a .names .now) (nodeWords (a .words .now)) _ (a .text .now) (getD (a .words .now) 0 0) 0 start (rest (a .words .now) 4) (c .before .before .before .before .before .new .result) (c .before .expect-encoding .result) (c .before .expect-encoding .ensures) in
+    ap Decided (decided (a .words .now) (a .names .now) (a .text .now) start (c .before .expect-encoding .result) _ (c .before .before .before .before .before .before .before .before .before .before .strip-leading-qualifiers .ensures .0) (walked-fields (a .words .now) (a .names .now) (a .text .now) (c .before .expect-encoding .result) (drop start (a .text .now)) (c .before .before .before .before .before .new .result) (c .before .before .before .before .before .new .ensures) f) (c .decide2 .ensures))
     ∙ of-sheet (a .words .now) (a .names .now) (a .text .now) (c .before .before .before .before .before .before .before .before .before .before .before .before .before .before .if1 .left) Good good
 
 pub equivalent-to-str-spec : {M : Type 1} → statement M
@@ -140,16 +140,16 @@ equivalent-to-str-spec =
     returns-2
     shared-slice-read-n
     new-requires
-    sub-expect-fields
-    part-expect-fields-start
-    part-expect-fields-end
-    sub-expect-fields-2
-    part-expect-fields-start-2
-    part-expect-fields-end-2
-    sub-expect-fields-3
-    part-expect-fields-start-3
-    part-expect-fields-end-3
-    expect-fields-requires
+    sub-expect-encoding
+    part-expect-encoding-start
+    part-expect-encoding-end
+    sub-expect-encoding-2
+    part-expect-encoding-start-2
+    part-expect-encoding-end-2
+    sub-expect-encoding-3
+    part-expect-encoding-start-3
+    part-expect-encoding-end-3
+    expect-encoding-requires
     decide-requires-2
     returns-3
     returns-4

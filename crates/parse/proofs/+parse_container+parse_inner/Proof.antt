@@ -16,7 +16,7 @@ use lib.ListN.{length}
 use Rattle.parse.specs.declared.Items.{Items}
 use Rattle.parse.proofs.Sheets.{starts}
 use Rattle.parse.proofs.Cycle.{reads-end, reads-simple, reads-item, reads-no-number, reads-no-name, reads-contained, items-end, items-more, ready-part, room-two, after-parsed, after-items, ready-fields, ready-more, opens-closes, NotFound}
-use Rattle.parse.proofs.Text.{handed-on}
+use Rattle.kinds.proofs.ListLaws.{whole}
 use Rattle.parse.proofs.Runs.{ready-codes, ready-run, run-room, after-bound, not-indirection}
 use borrow.Fn.Kinds.{In}
 use borrow.Fn.PlainCycle.{Measures, is, falls, and}
@@ -137,13 +137,13 @@ parse-container-parse-inner-requires t c κs =
     let T : List ℕ = c .before .before .before .before .before .before .before .before .before .before .before .before .before .before .before .before .before .before .args .text .now in
     let B : Lists = lists (c .before .before .before .before .before .before .before .before .before .before .before .before .before .before .before .before .before .before .args .words .now) (c .before .before .before .before .before .before .before .before .before .before .before .before .before .before .before .before .before .before .args .names .now) in
     let q = rw (c .before .before .before .before .before .before .before .before .before .start .given .1) at (c .before .before .before .before .before .before .before .before .before .before .before .before .before .put-name .ensures) in
-    rw (handed-on (c .before .before .before .before .before .before .before .before .before .before .before .before .before .before .before .before .before .before .args .text .now)) (omega (arith, c .before .before .before .before .before .before .before .before .before .before .before .before .before .before .before .before .before .before .pre .0, c .before .before .before .before .before .before .before .loop .inv .1 .0, c .before .before .before .before .before .put-codes .ensures .onward, c .before .before .before .before .before .put-codes .ensures .within, q .onward), (ready-codes T (c .before .before .before .before .before .before .before .loop .to) (c .before .before .before .before .before .before .before .loop .k) (c .before .before .before .before .before .before .before .loop .l) (c .before .before .before .before .before .put-codes .result) (c .before .before .before .before .before .before .before .loop .words) (c .before .before .before .before .before .put-codes .last .1 .1 .0) (c .before .before .before .before .before .before .before .loop .names) (c .before .before .before .before .before .before .before .loop .inv .0) (c .before .before .before .before .before .put-codes .ensures) (c .before .before .before .before .before .put-codes .kept .1 .1 .0)))
+    rw (whole (c .before .before .before .before .before .before .before .before .before .before .before .before .before .before .before .before .before .before .args .text .now)) (omega (arith, c .before .before .before .before .before .before .before .before .before .before .before .before .before .before .before .before .before .before .pre .0, c .before .before .before .before .before .before .before .loop .inv .1 .0, c .before .before .before .before .before .put-codes .ensures .onward, c .before .before .before .before .before .put-codes .ensures .within, q .onward), (ready-codes T (c .before .before .before .before .before .before .before .loop .to) (c .before .before .before .before .before .before .before .loop .k) (c .before .before .before .before .before .before .before .loop .l) (c .before .before .before .before .before .put-codes .result) (c .before .before .before .before .before .before .before .loop .words) (c .before .before .before .before .before .put-codes .last .1 .1 .0) (c .before .before .before .before .before .before .before .loop .names) (c .before .before .before .before .before .before .before .loop .inv .0) (c .before .before .before .before .before .put-codes .ensures) (c .before .before .before .before .before .put-codes .kept .1 .1 .0)))
 
 parse-container-enum-known-p : (t : ℕ) → parse-container-lts.Need-enum-known-p (parse-container-claims t) (parse-container-at t) parse-container.Post parse-container-Inv-loop parse-container-μ-loop
 parse-container-enum-known-p t c = search needs
 
 parse-container-loop-less : (t : ℕ) → parse-container-lts.Need-loop-less (parse-container-claims t) (parse-container-at t) parse-container.Post parse-container-Inv-loop parse-container-μ-loop
-parse-container-loop-less t c = let r = rw (handed-on (c .before .before .before .before .before .before .before .before .before .before .before .before .before .before .before .before .before .before .before .before .before .before .before .before .before .before .args .text .now)) at (rw (c .before .p .given .1) at (c .before .before .before .before .before .before .before .parse-inner .ensures)) in omega (arith, c .before .before .before .before .before .before .before .before .before .before .before .before .before .put-codes .ensures .onward, r .bound .onward, r .bound .within)
+parse-container-loop-less t c = let r = rw (whole (c .before .before .before .before .before .before .before .before .before .before .before .before .before .before .before .before .before .before .before .before .before .before .before .before .before .before .args .text .now)) at (rw (c .before .p .given .1) at (c .before .before .before .before .before .before .before .parse-inner .ensures)) in omega (arith, c .before .before .before .before .before .before .before .before .before .before .before .before .before .put-codes .ensures .onward, r .bound .onward, r .bound .within)
 
 parse-container-loop-again : (t : ℕ) → parse-container-lts.Need-loop-again (parse-container-claims t) (parse-container-at t) parse-container.Post parse-container-Inv-loop parse-container-μ-loop
 parse-container-loop-again t c =
@@ -151,7 +151,7 @@ parse-container-loop-again t c =
     let B : Lists = lists (c .before .before .before .before .before .before .before .before .before .before .before .before .before .before .before .before .before .before .before .before .before .before .before .before .before .before .args .words .now) (c .before .before .before .before .before .before .before .before .before .before .before .before .before .before .before .before .before .before .before .before .before .before .before .before .before .before .args .names .now) in
     let b : Lists = lists (c .before .before .before .before .before .before .before .before .before .before .before .before .before .put-codes .last .1 .1 .0) (c .before .before .before .before .before .before .before .before .before .before .before .before .before .before .before .loop .names) in
     let A : Lists = lists (c .before .before .before .before .before .before .before .parse-inner .last .1 .1 .0) (c .before .before .before .before .before .before .before .parse-inner .last .1 .1 .1 .1 .0) in
-    let r = rw (handed-on (c .before .before .before .before .before .before .before .before .before .before .before .before .before .before .before .before .before .before .before .before .before .before .before .before .before .before .args .text .now)) at (rw (c .before .p .given .1) at (c .before .before .before .before .before .before .before .parse-inner .ensures)) in (
+    let r = rw (whole (c .before .before .before .before .before .before .before .before .before .before .before .before .before .before .before .before .before .before .before .before .before .before .before .before .before .before .args .text .now)) at (rw (c .before .p .given .1) at (c .before .before .before .before .before .before .before .parse-inner .ensures)) in (
       ready-more T (c .before .before .before .before .before .before .before .before .before .before .before .before .before .put-codes .result) (c .before .before .before .before .before .before .before .before .before .before .before .before .before .before .before .loop .k + (c .before .before .before .before .before .before .before .before .before .before .before .before .before .put-codes .result - c .before .before .before .before .before .before .before .before .before .before .before .before .before .before .before .loop .to)) (c .before .before .before .before .before .before .before .before .before .before .before .before .before .before .before .loop .l) b A _ _ _ (ready-codes T (c .before .before .before .before .before .before .before .before .before .before .before .before .before .before .before .loop .to) (c .before .before .before .before .before .before .before .before .before .before .before .before .before .before .before .loop .k) (c .before .before .before .before .before .before .before .before .before .before .before .before .before .before .before .loop .l) (c .before .before .before .before .before .before .before .before .before .before .before .before .before .put-codes .result) (c .before .before .before .before .before .before .before .before .before .before .before .before .before .before .before .loop .words) (c .before .before .before .before .before .before .before .before .before .before .before .before .before .put-codes .last .1 .1 .0) (c .before .before .before .before .before .before .before .before .before .before .before .before .before .before .before .loop .names) (c .before .before .before .before .before .before .before .before .before .before .before .before .before .before .before .loop .inv .0) (c .before .before .before .before .before .before .before .before .before .before .before .before .before .put-codes .ensures) (c .before .before .before .before .before .before .before .before .before .before .before .before .before .put-codes .kept .1 .1 .0)) (c .before .before .before .before .before .before .before .parse-inner .kept .1 .1 .0) (c .before .before .before .before .before .before .before .parse-inner .kept .1 .1 .1 .1 .0) (r .bound),
       (
         omega (arith, c .before .before .before .before .before .before .before .before .before .before .before .before .before .before .before .loop .inv .1 .0, c .before .before .before .before .before .before .before .before .before .before .before .before .before .put-codes .ensures .onward, r .bound .onward),
@@ -172,7 +172,7 @@ parse-container-put-container-requires t c κs =
     let q = rw (c .before .before .before .before .before .before .before .before .before .before .before .before .before .before .before .before .before .start .given .1) at (c .before .before .before .before .before .before .before .before .before .before .before .before .before .before .before .before .before .before .before .before .before .put-name .ensures) in
     let b : Lists = lists (c .before .before .before .before .before .before .before .before .before .before .before .before .before .put-codes .last .1 .1 .0) (c .before .before .before .before .before .before .before .before .before .before .before .before .before .before .before .loop .names) in
     let A : Lists = lists (c .before .before .before .before .before .before .before .parse-inner .last .1 .1 .0) (c .before .before .before .before .before .before .before .parse-inner .last .1 .1 .1 .1 .0) in
-    let e : ItemsReads T (c .before .before .before .before .before .before .before .before .before .before .before .before .before .put-codes .result) (c .before .before .before .before .before .before .before .before .before .before .before .before .before .before .before .before .before .before .before .before .before .before .before .before .before .before .args .kind) (c .before .before .before .before .before .before .before .before .before .before .before .before .before .before .before .loop .k + (c .before .before .before .before .before .before .before .before .before .before .before .before .before .put-codes .result - c .before .before .before .before .before .before .before .before .before .before .before .before .before .before .before .loop .to)) (c .before .before .before .before .before .before .before .before .before .before .before .before .before .before .before .loop .l) b A (c .before .end-items .result) = rw (c .before .end-items .ensures) (items-end T (c .before .before .before .before .before .before .before .before .before .before .before .before .before .put-codes .result) (c .before .before .before .before .before .before .before .before .before .before .before .before .before .before .before .before .before .before .before .before .before .before .before .before .before .before .args .kind) (c .before .before .before .before .before .before .before .before .before .before .before .before .before .before .before .loop .k + (c .before .before .before .before .before .before .before .before .before .before .before .before .before .put-codes .result - c .before .before .before .before .before .before .before .before .before .before .before .before .before .before .before .loop .to)) (c .before .before .before .before .before .before .before .before .before .before .before .before .before .before .before .loop .l) b A (c .before .before .before .before .before .before .before .parse-inner .result) (not-found (c .before .before .before .before .before .before .before .parse-inner .result) (c .before .before .match2 .keys2)) (rw (handed-on (c .before .before .before .before .before .before .before .before .before .before .before .before .before .before .before .before .before .before .before .before .before .before .before .before .before .before .args .text .now)) at (c .before .before .before .before .before .before .before .parse-inner .ensures))) in
+    let e : ItemsReads T (c .before .before .before .before .before .before .before .before .before .before .before .before .before .put-codes .result) (c .before .before .before .before .before .before .before .before .before .before .before .before .before .before .before .before .before .before .before .before .before .before .before .before .before .before .args .kind) (c .before .before .before .before .before .before .before .before .before .before .before .before .before .before .before .loop .k + (c .before .before .before .before .before .before .before .before .before .before .before .before .before .put-codes .result - c .before .before .before .before .before .before .before .before .before .before .before .before .before .before .before .loop .to)) (c .before .before .before .before .before .before .before .before .before .before .before .before .before .before .before .loop .l) b A (c .before .end-items .result) = rw (c .before .end-items .ensures) (items-end T (c .before .before .before .before .before .before .before .before .before .before .before .before .before .put-codes .result) (c .before .before .before .before .before .before .before .before .before .before .before .before .before .before .before .before .before .before .before .before .before .before .before .before .before .before .args .kind) (c .before .before .before .before .before .before .before .before .before .before .before .before .before .before .before .loop .k + (c .before .before .before .before .before .before .before .before .before .before .before .before .before .put-codes .result - c .before .before .before .before .before .before .before .before .before .before .before .before .before .before .before .loop .to)) (c .before .before .before .before .before .before .before .before .before .before .before .before .before .before .before .loop .l) b A (c .before .before .before .before .before .before .before .parse-inner .result) (not-found (c .before .before .before .before .before .before .before .parse-inner .result) (c .before .before .match2 .keys2)) (rw (whole (c .before .before .before .before .before .before .before .before .before .before .before .before .before .before .before .before .before .before .before .before .before .before .before .before .before .before .args .text .now)) at (c .before .before .before .before .before .before .before .parse-inner .ensures))) in
     let f = c .before .before .before .before .before .before .before .before .before .before .before .before .before .before .before .loop .inv .1 .1 .1 A (c .before .end-items .result) (c .before .before .before .before .before .before .before .before .before .before .before .before .before .put-codes .ensures .reads (c .before .before .before .before .before .before .before .before .before .before .before .before .before .before .before .before .before .before .before .before .before .before .before .before .before .before .args .kind) (c .before .before .before .before .before .before .before .before .before .before .before .before .before .before .before .loop .l) (c .before .before .before .before .before .before .before .before .before .before .before .before .before .before .before .loop .names) A (c .before .end-items .result) e) in
     ((omega (arith, room-two T (c .before .before .before .before .before .before .before .before .before .before .before .before .before .before .before .before .before .before .before .before .before .before .before .before .before .before .args .at) (c .before .before .before .before .before .before .before .before .before .before .before .before .before .before .before .before .before .before .before .before .before .before .before .before .before .before .args .n) (c .before .before .before .before .before .before .before .before .before .before .before .before .before .before .before .before .before .before .before .before .before .before .before .before .before .before .args .m) B (c .before .before .before .before .before .before .before .before .before .before .before .before .before .before .before .before .before .before .before .before .before .before .before .before .before .before .pre .1 .ready) (c .before .before .before .before .before .before .before .before .before .before .before .before .before .before .before .before .before .before .before .before .before .before .before .before .before .before .pre .1 .at-byte) (opens-closes _ _ (c .before .before .before .before .before .before .before .before .before .before .before .before .before .before .before .before .before .before .before .before .before .before .before .before .before .before .pre .1 .opens)), c .before .before .before .before .before .before .before .parse-inner .kept .1 .1 .0, c .before .before .before .before .before .before .before .before .before .before .before .before .before .put-codes .kept .1 .1 .0, c .before .before .before .before .before .before .before .before .before .before .before .before .before .before .before .loop .inv .1 .1 .0 .0), omega (arith, q .names-is)), after-items _ _ _ _ _ _ (c .before .end-items .result) (f .bound))
 
@@ -189,7 +189,7 @@ parse-container-returns t c =
     let q = rw (c .before .before .before .before .before .before .before .before .before .before .before .before .before .before .before .before .before .before .before .before .start .given .1) at (c .before .before .before .before .before .before .before .before .before .before .before .before .before .before .before .before .before .before .before .before .before .before .before .before .put-name .ensures) in
     let b : Lists = lists (c .before .before .before .before .before .before .before .before .before .before .before .before .before .before .before .before .put-codes .last .1 .1 .0) (c .before .before .before .before .before .before .before .before .before .before .before .before .before .before .before .before .before .before .loop .names) in
     let A : Lists = lists (c .before .before .before .before .before .before .before .before .before .before .parse-inner .last .1 .1 .0) (c .before .before .before .before .before .before .before .before .before .before .parse-inner .last .1 .1 .1 .1 .0) in
-    let e : ItemsReads T (c .before .before .before .before .before .before .before .before .before .before .before .before .before .before .before .before .put-codes .result) (c .before .before .before .before .before .before .before .before .before .before .before .before .before .before .before .before .before .before .before .before .before .before .before .before .before .before .before .before .before .args .kind) (c .before .before .before .before .before .before .before .before .before .before .before .before .before .before .before .before .before .before .loop .k + (c .before .before .before .before .before .before .before .before .before .before .before .before .before .before .before .before .put-codes .result - c .before .before .before .before .before .before .before .before .before .before .before .before .before .before .before .before .before .before .loop .to)) (c .before .before .before .before .before .before .before .before .before .before .before .before .before .before .before .before .before .before .loop .l) b A (c .before .before .before .before .end-items .result) = rw (c .before .before .before .before .end-items .ensures) (items-end T (c .before .before .before .before .before .before .before .before .before .before .before .before .before .before .before .before .put-codes .result) (c .before .before .before .before .before .before .before .before .before .before .before .before .before .before .before .before .before .before .before .before .before .before .before .before .before .before .before .before .before .args .kind) (c .before .before .before .before .before .before .before .before .before .before .before .before .before .before .before .before .before .before .loop .k + (c .before .before .before .before .before .before .before .before .before .before .before .before .before .before .before .before .put-codes .result - c .before .before .before .before .before .before .before .before .before .before .before .before .before .before .before .before .before .before .loop .to)) (c .before .before .before .before .before .before .before .before .before .before .before .before .before .before .before .before .before .before .loop .l) b A (c .before .before .before .before .before .before .before .before .before .before .parse-inner .result) (not-found (c .before .before .before .before .before .before .before .before .before .before .parse-inner .result) (c .before .before .before .before .before .match2 .keys2)) (rw (handed-on (c .before .before .before .before .before .before .before .before .before .before .before .before .before .before .before .before .before .before .before .before .before .before .before .before .before .before .before .before .before .args .text .now)) at (c .before .before .before .before .before .before .before .before .before .before .parse-inner .ensures))) in
+    let e : ItemsReads T (c .before .before .before .before .before .before .before .before .before .before .before .before .before .before .before .before .put-codes .result) (c .before .before .before .before .before .before .before .before .before .before .before .before .before .before .before .before .before .before .before .before .before .before .before .before .before .before .before .before .before .args .kind) (c .before .before .before .before .before .before .before .before .before .before .before .before .before .before .before .before .before .before .loop .k + (c .before .before .before .before .before .before .before .before .before .before .before .before .before .before .before .before .put-codes .result - c .before .before .before .before .before .before .before .before .before .before .before .before .before .before .before .before .before .before .loop .to)) (c .before .before .before .before .before .before .before .before .before .before .before .before .before .before .before .before .before .before .loop .l) b A (c .before .before .before .before .end-items .result) = rw (c .before .before .before .before .end-items .ensures) (items-end T (c .before .before .before .before .before .before .before .before .before .before .before .before .before .before .before .before .put-codes .result) (c .before .before .before .before .before .before .before .before .before .before .before .before .before .before .before .before .before .before .before .before .before .before .before .before .before .before .before .before .before .args .kind) (c .before .before .before .before .before .before .before .before .before .before .before .before .before .before .before .before .before .before .loop .k + (c .before .before .before .before .before .before .before .before .before .before .before .before .before .before .before .before .put-codes .result - c .before .before .before .before .before .before .before .before .before .before .before .before .before .before .before .before .before .before .loop .to)) (c .before .before .before .before .before .before .before .before .before .before .before .before .before .before .before .before .before .before .loop .l) b A (c .before .before .before .before .before .before .before .before .before .before .parse-inner .result) (not-found (c .before .before .before .before .before .before .before .before .before .before .parse-inner .result) (c .before .before .before .before .before .match2 .keys2)) (rw (whole (c .before .before .before .before .before .before .before .before .before .before .before .before .before .before .before .before .before .before .before .before .before .before .before .before .before .before .before .before .before .args .text .now)) at (c .before .before .before .before .before .before .before .before .before .before .parse-inner .ensures))) in
     let f = c .before .before .before .before .before .before .before .before .before .before .before .before .before .before .before .before .before .before .loop .inv .1 .1 .1 A (c .before .before .before .before .end-items .result) (c .before .before .before .before .before .before .before .before .before .before .before .before .before .before .before .before .put-codes .ensures .reads (c .before .before .before .before .before .before .before .before .before .before .before .before .before .before .before .before .before .before .before .before .before .before .before .before .before .before .before .before .before .args .kind) (c .before .before .before .before .before .before .before .before .before .before .before .before .before .before .before .before .before .before .loop .l) (c .before .before .before .before .before .before .before .before .before .before .before .before .before .before .before .before .before .before .loop .names) A (c .before .before .before .before .end-items .result) e) in
     rw (c .before .before .put-container .ensures .0, c .before .before .put-container .ensures .1) (reads-contained T (c .before .before .before .before .before .before .before .before .before .before .before .before .before .before .before .before .before .before .before .before .before .before .before .before .before .before .before .before .before .args .at) (c .before .before .before .before .before .before .before .before .before .before .before .before .before .before .before .before .before .before .before .before .before .before .before .before .before .before .before .before .before .args .kind) (c .before .before .before .before .before .before .before .before .before .before .before .before .before .before .before .before .before .before .before .before .before .before .before .before .before .before .before .before .before .args .n) (c .before .before .before .before .before .before .before .before .before .before .before .before .before .before .before .before .before .before .before .before .before .before .before .before .before .before .before .before .before .args .m) (c .before .before .before .before .before .before .before .before .before .before .before .before .before .before .before .before .before .before .before .before .before .before .before .before .before .before .before .before .before .pre .1 .at-byte) (c .before .before .before .before .before .before .before .before .before .before .before .before .before .before .before .before .before .before .before .before .before .before .before .before .before .before .before .before .before .pre .1 .opens) B (c .before .before .before .before .before .before .before .before .before .before .before .before .before .before .before .before .before .before .before .before .before .before .before .before .put-name .last .1 .1 .1 .0) _ _ q A (c .before .before .before .before .end-items .result) f)
 
@@ -257,7 +257,7 @@ parse-inner-parse-inner-requires : (t : ℕ) → parse-inner-lts.Need-parse-inne
 unfolding start inSingles singles inOthers others closes
 parse-inner-parse-inner-requires t c κs =
     let q = rw (c .before .before .before .before .len .given .1) at (c .before .before .before .before .before .before .parse-number .ensures) in
-    rw (handed-on (c .before .before .before .before .before .before .before .before .before .before .before .before .before .before .args .text .now)) (omega (arith, c .before .before .before .before .before .before .before .before .before .before .before .before .before .before .pre .0, c .before .before .before .before .before .before .before .before .before .if1 .left, q .1, c .before .before .before .before .before .before .before .before .before .before .indirections-end .ensures .onward), ready-part (c .before .before .before .before .before .before .before .before .before .before .before .before .before .before .args .text .now) (c .before .before .before .before .before .before .before .before .before .before .indirections-end .result) (c .before .before .before .before .before .before .before .before .before .before .before .before .before .before .args .n + (c .before .before .before .before .before .before .before .before .before .before .indirections-end .result - c .before .before .before .before .before .before .before .before .before .before .before .before .before .before .args .at)) (c .before .before .before .before .before .before .before .before .before .before .before .before .before .before .args .m) (lists (c .before .before .before .before .before .before .before .before .before .before .before .before .before .before .args .words .now) (c .before .before .before .before .before .before .before .before .before .before .before .before .before .before .args .names .now)) (c .before .before .before .before .len .given .0 .1 .0) (ready-run (c .before .before .before .before .before .before .before .before .before .before .before .before .before .before .args .text .now) (c .before .before .before .before .before .before .before .before .before .before .before .before .before .before .args .at) (c .before .before .before .before .before .before .before .before .before .before .before .before .before .before .args .n) (c .before .before .before .before .before .before .before .before .before .before .before .before .before .before .args .m) (c .before .before .before .before .before .before .before .before .before .before .indirections-end .result) (lists (c .before .before .before .before .before .before .before .before .before .before .before .before .before .before .args .words .now) (c .before .before .before .before .before .before .before .before .before .before .before .before .before .before .args .names .now)) (c .before .before .before .before .before .before .before .before .before .before .before .before .before .before .pre .1) (c .before .before .before .before .before .before .before .before .before .before .indirections-end .ensures)) (c .before .before .before .before .before .before .before .before .before .if1 .left) (ap (λ (b : ℕ). closes (start b)) (c .before .before .before .before .before .before .before .match .keys1)) (q .1 .0) (q .1 .1))
+    rw (whole (c .before .before .before .before .before .before .before .before .before .before .before .before .before .before .args .text .now)) (omega (arith, c .before .before .before .before .before .before .before .before .before .before .before .before .before .before .pre .0, c .before .before .before .before .before .before .before .before .before .if1 .left, q .1, c .before .before .before .before .before .before .before .before .before .before .indirections-end .ensures .onward), ready-part (c .before .before .before .before .before .before .before .before .before .before .before .before .before .before .args .text .now) (c .before .before .before .before .before .before .before .before .before .before .indirections-end .result) (c .before .before .before .before .before .before .before .before .before .before .before .before .before .before .args .n + (c .before .before .before .before .before .before .before .before .before .before .indirections-end .result - c .before .before .before .before .before .before .before .before .before .before .before .before .before .before .args .at)) (c .before .before .before .before .before .before .before .before .before .before .before .before .before .before .args .m) (lists (c .before .before .before .before .before .before .before .before .before .before .before .before .before .before .args .words .now) (c .before .before .before .before .before .before .before .before .before .before .before .before .before .before .args .names .now)) (c .before .before .before .before .len .given .0 .1 .0) (ready-run (c .before .before .before .before .before .before .before .before .before .before .before .before .before .before .args .text .now) (c .before .before .before .before .before .before .before .before .before .before .before .before .before .before .args .at) (c .before .before .before .before .before .before .before .before .before .before .before .before .before .before .args .n) (c .before .before .before .before .before .before .before .before .before .before .before .before .before .before .args .m) (c .before .before .before .before .before .before .before .before .before .before .indirections-end .result) (lists (c .before .before .before .before .before .before .before .before .before .before .before .before .before .before .args .words .now) (c .before .before .before .before .before .before .before .before .before .before .before .before .before .before .args .names .now)) (c .before .before .before .before .before .before .before .before .before .before .before .before .before .before .pre .1) (c .before .before .before .before .before .before .before .before .before .before .indirections-end .ensures)) (c .before .before .before .before .before .before .before .before .before .if1 .left) (ap (λ (b : ℕ). closes (start b)) (c .before .before .before .before .before .before .before .match .keys1)) (q .1 .0) (q .1 .1))
 
 parse-inner-put-array-requires : (t : ℕ) → parse-inner-lts.Need-put-array-requires (parse-inner-claims t) (parse-inner-at t) parse-inner.Post
 unfolding start inSingles singles inOthers others closes
@@ -274,7 +274,7 @@ parse-inner-part-parse-container-end t c = search needs
 
 parse-inner-parse-container-requires : (t : ℕ) → parse-inner-lts.Need-parse-container-requires (parse-inner-claims t) (parse-inner-at t) parse-inner.Post
 unfolding start inSingles singles inOthers others closes
-parse-inner-parse-container-requires t c κs = rw (handed-on (c .before .before .before .before .before .before .before .before .before .before .args .text .now)) (omega (arith, c .before .before .before .before .before .before .before .before .before .before .pre .0, c .before .before .before .before .before .before .indirections-end .ensures .onward), record { ready = (ready-run (c .before .before .before .before .before .before .before .before .before .before .args .text .now) (c .before .before .before .before .before .before .before .before .before .before .args .at) (c .before .before .before .before .before .before .before .before .before .before .args .n) (c .before .before .before .before .before .before .before .before .before .before .args .m) (c .before .before .before .before .before .before .indirections-end .result) (lists (c .before .before .before .before .before .before .before .before .before .before .args .words .now) (c .before .before .before .before .before .before .before .before .before .before .args .names .now)) (c .before .before .before .before .before .before .before .before .before .before .pre .1) (c .before .before .before .before .before .before .indirections-end .ensures)); at-byte = c .before .before .before .before .before .if1 .left; opens = starts _ 123 (c .before .before .before .match .keys2) refl })
+parse-inner-parse-container-requires t c κs = rw (whole (c .before .before .before .before .before .before .before .before .before .before .args .text .now)) (omega (arith, c .before .before .before .before .before .before .before .before .before .before .pre .0, c .before .before .before .before .before .before .indirections-end .ensures .onward), record { ready = (ready-run (c .before .before .before .before .before .before .before .before .before .before .args .text .now) (c .before .before .before .before .before .before .before .before .before .before .args .at) (c .before .before .before .before .before .before .before .before .before .before .args .n) (c .before .before .before .before .before .before .before .before .before .before .args .m) (c .before .before .before .before .before .before .indirections-end .result) (lists (c .before .before .before .before .before .before .before .before .before .before .args .words .now) (c .before .before .before .before .before .before .before .before .before .before .args .names .now)) (c .before .before .before .before .before .before .before .before .before .before .pre .1) (c .before .before .before .before .before .before .indirections-end .ensures)); at-byte = c .before .before .before .before .before .if1 .left; opens = starts _ 123 (c .before .before .before .match .keys2) refl })
 
 parse-inner-sub-parse-container-2 : (t : ℕ) → parse-inner-lts.Need-sub-parse-container-2 (parse-inner-claims t) (parse-inner-at t) parse-inner.Post
 parse-inner-sub-parse-container-2 t c = search needs
@@ -287,7 +287,7 @@ parse-inner-part-parse-container-end-2 t c = search needs
 
 parse-inner-parse-container-requires-2 : (t : ℕ) → parse-inner-lts.Need-parse-container-requires-2 (parse-inner-claims t) (parse-inner-at t) parse-inner.Post
 unfolding start inSingles singles inOthers others closes
-parse-inner-parse-container-requires-2 t c κs = rw (handed-on (c .before .before .before .before .before .before .before .before .before .before .args .text .now)) (omega (arith, c .before .before .before .before .before .before .before .before .before .before .pre .0, c .before .before .before .before .before .before .indirections-end .ensures .onward), record { ready = (ready-run (c .before .before .before .before .before .before .before .before .before .before .args .text .now) (c .before .before .before .before .before .before .before .before .before .before .args .at) (c .before .before .before .before .before .before .before .before .before .before .args .n) (c .before .before .before .before .before .before .before .before .before .before .args .m) (c .before .before .before .before .before .before .indirections-end .result) (lists (c .before .before .before .before .before .before .before .before .before .before .args .words .now) (c .before .before .before .before .before .before .before .before .before .before .args .names .now)) (c .before .before .before .before .before .before .before .before .before .before .pre .1) (c .before .before .before .before .before .before .indirections-end .ensures)); at-byte = c .before .before .before .before .before .if1 .left; opens = starts _ 40 (c .before .before .before .match .keys3) refl })
+parse-inner-parse-container-requires-2 t c κs = rw (whole (c .before .before .before .before .before .before .before .before .before .before .args .text .now)) (omega (arith, c .before .before .before .before .before .before .before .before .before .before .pre .0, c .before .before .before .before .before .before .indirections-end .ensures .onward), record { ready = (ready-run (c .before .before .before .before .before .before .before .before .before .before .args .text .now) (c .before .before .before .before .before .before .before .before .before .before .args .at) (c .before .before .before .before .before .before .before .before .before .before .args .n) (c .before .before .before .before .before .before .before .before .before .before .args .m) (c .before .before .before .before .before .before .indirections-end .result) (lists (c .before .before .before .before .before .before .before .before .before .before .args .words .now) (c .before .before .before .before .before .before .before .before .before .before .args .names .now)) (c .before .before .before .before .before .before .before .before .before .before .pre .1) (c .before .before .before .before .before .before .indirections-end .ensures)); at-byte = c .before .before .before .before .before .if1 .left; opens = starts _ 40 (c .before .before .before .match .keys3) refl })
 
 parse-inner-parse-simple-requires : (t : ℕ) → parse-inner-lts.Need-parse-simple-requires (parse-inner-claims t) (parse-inner-at t) parse-inner.Post
 parse-inner-parse-simple-requires t c κs =
@@ -312,9 +312,9 @@ parse-inner-child t c =
     (λ x. ⊎-elim (λ w.
     let z : Lists = lists (w .8 .last .1 .1 .0) (w .8 .last .1 .1 .1 .1 .0) in
     let q = rw (w .3 .given .1) at (w .1 .ensures) in
-    rw (w .17, w .18, w .19) (w .14 .kept .1 .1 .1 .1 .0 ∙ w .8 .kept .1 .1 .0, (w .8 .kept .1 .1 .1 .1 .0, rw (w .14 .ensures .0, w .14 .ensures .1) (reads-item (a .text .now) _ k (a .m) _ _ h (starts _ 91 (w .0 .keys1) refl) (q .0) (q .1 .0) (q .1 .1) b z (w .8 .result) (rw (handed-on (a .text .now)) at (w .8 .ensures))))))
-    (λ y. ⊎-elim (λ w. rw (w .9, w .10, w .11) (w .4 .kept .1 .1 .1 .0, (w .4 .kept .1 .1 .1 .1 .1 .0, rw (handed-on (a .text .now)) at (w .4 .ensures))))
-    (λ z. ⊎-elim (λ w. rw (w .9, w .10, w .11) (w .4 .kept .1 .1 .1 .0, (w .4 .kept .1 .1 .1 .1 .1 .0, rw (handed-on (a .text .now)) at (w .4 .ensures))))
+    rw (w .17, w .18, w .19) (w .14 .kept .1 .1 .1 .1 .0 ∙ w .8 .kept .1 .1 .0, (w .8 .kept .1 .1 .1 .1 .0, rw (w .14 .ensures .0, w .14 .ensures .1) (reads-item (a .text .now) _ k (a .m) _ _ h (starts _ 91 (w .0 .keys1) refl) (q .0) (q .1 .0) (q .1 .1) b z (w .8 .result) (rw (whole (a .text .now)) at (w .8 .ensures))))))
+    (λ y. ⊎-elim (λ w. rw (w .9, w .10, w .11) (w .4 .kept .1 .1 .1 .0, (w .4 .kept .1 .1 .1 .1 .1 .0, rw (whole (a .text .now)) at (w .4 .ensures))))
+    (λ z. ⊎-elim (λ w. rw (w .9, w .10, w .11) (w .4 .kept .1 .1 .1 .0, (w .4 .kept .1 .1 .1 .1 .1 .0, rw (whole (a .text .now)) at (w .4 .ensures))))
     (λ w. rw (w .5, w .6, w .7) (w .2 .kept .1 .1 .0, (refl, reads-simple _ _ _ _ _ _ _ _ h (w .2 .ensures)))) z) y) x) (c .match .came)
 
 parse-inner-put-indirections-requires-2 : (t : ℕ) → parse-inner-lts.Need-put-indirections-requires-2 (parse-inner-claims t) (parse-inner-at t) parse-inner.Post

@@ -16,7 +16,7 @@ use Rattle.parse.proofs.Skipped.{the-type}
 use Rattle.parse.proofs.Sheets.{starts}
 use Rattle.parse.proofs.Skip.{skips-end, skips-simple, skips-held, skips-no-number, skips-item, skips-no-name, skips-contained, NotPassed, skipped-end, skipped-more}
 use Prim.Native.Nat.{ℕ, _<_}
-use Rattle.parse.proofs.Text.{handed-on}
+use Rattle.kinds.proofs.ListLaws.{whole}
 use borrow.Fn.Kinds.{In}
 use borrow.Fn.PlainCycle.{Measures, is, falls, and}
 use Rattle.parse.proofs.skip_container.Reads as skip-container
@@ -126,7 +126,7 @@ skip-container-part-skip-items-end t c = search needs
 skip-container-skip-items-requires : (t : ℕ) → skip-container-lts.Need-skip-items-requires (skip-container-claims t) (skip-container-at t) skip-container.Post
 skip-container-skip-items-requires t c κs =
     let r = rw (c .before .before .start .given .1) at (c .before .before .before .before .parse-name .ensures) in
-    rw (handed-on (c .before .before .before .before .before .before .args .text .now)) (omega (arith, c .before .before .before .before .before .before .pre .0, c .before .before .before .before .before .before .pre .1 .at-place, r .some, r .passed, r .within), r .within)
+    rw (whole (c .before .before .before .before .before .before .args .text .now)) (omega (arith, c .before .before .before .before .before .before .pre .0, c .before .before .before .before .before .before .pre .1 .at-place, r .some, r .passed, r .within), r .within)
 
 skip-container-skip-contained-requires : (t : ℕ) → skip-container-lts.Need-skip-contained-requires (skip-container-claims t) (skip-container-at t) skip-container.Post
 skip-container-skip-contained-requires t c κs = search needs
@@ -137,7 +137,7 @@ skip-container-returns t c =
     skips-no-name _ _ (c .before .before .before .before .before .pre .1 .at-place) _ (c .before .before .before .before .before .pre .1 .opens) _ _ (r .0) (r .1)
 
 skip-container-returns-2 : (t : ℕ) → skip-container-lts.Need-returns-2 (skip-container-claims t) (skip-container-at t) skip-container.Post
-skip-container-returns-2 t c = rw (c .skip-contained .ensures) (skips-contained _ _ (c .before .before .before .before .before .before .before .before .pre .1 .at-place) _ (c .before .before .before .before .before .before .before .before .pre .1 .opens) _ _ (rw (c .before .before .before .before .start .given .1) at (c .before .before .before .before .before .before .parse-name .ensures)) _ (rw (handed-on (c .before .before .before .before .before .before .before .before .args .text .now)) at (c .before .skip-items .ensures)))
+skip-container-returns-2 t c = rw (c .skip-contained .ensures) (skips-contained _ _ (c .before .before .before .before .before .before .before .before .pre .1 .at-place) _ (c .before .before .before .before .before .before .before .before .pre .1 .opens) _ _ (rw (c .before .before .before .before .start .given .1) at (c .before .before .before .before .before .before .parse-name .ensures)) _ (rw (whole (c .before .before .before .before .before .before .before .before .args .text .now)) at (c .before .skip-items .ensures)))
 
 skip-inner-returns : (t : ℕ) → skip-inner-lts.Need-returns (skip-inner-claims t) (skip-inner-at t) skip-inner.Post
 skip-inner-returns t c = skips-end _ _ (omega (arith, c .if1 .taken, c .before .before .pre .1))
@@ -158,7 +158,7 @@ skip-inner-add-skip-inner : (t : ℕ) → skip-inner-lts.Need-add-skip-inner (sk
 skip-inner-add-skip-inner t c = omega (arith, c .before .before .before .if1 .left, c .before .before .before .before .before .good .0)
 
 skip-inner-skip-inner-requires : (t : ℕ) → skip-inner-lts.Need-skip-inner-requires (skip-inner-claims t) (skip-inner-at t) skip-inner.Post
-skip-inner-skip-inner-requires t c κs = rw (handed-on (c .before .before .before .before .before .args .text .now)) (omega (arith, c .before .before .before .before .before .pre .0, c .before .before .before .if1 .left), omega (arith, c .before .before .before .if1 .left))
+skip-inner-skip-inner-requires t c κs = rw (whole (c .before .before .before .before .before .args .text .now)) (omega (arith, c .before .before .before .before .before .pre .0, c .before .before .before .if1 .left), omega (arith, c .before .before .before .if1 .left))
 
 skip-inner-add-skip-held : (t : ℕ) → skip-inner-lts.Need-add-skip-held (skip-inner-claims t) (skip-inner-at t) skip-inner.Post
 skip-inner-add-skip-held t c = omega (arith, c .before .before .before .before .if1 .left, c .before .before .before .before .before .before .good .0)
@@ -179,7 +179,7 @@ skip-inner-add-skip-inner-2 : (t : ℕ) → skip-inner-lts.Need-add-skip-inner-2
 skip-inner-add-skip-inner-2 t c = omega (arith, c .before .before .before .if1 .left, c .before .before .before .before .before .good .0)
 
 skip-inner-skip-inner-requires-2 : (t : ℕ) → skip-inner-lts.Need-skip-inner-requires-2 (skip-inner-claims t) (skip-inner-at t) skip-inner.Post
-skip-inner-skip-inner-requires-2 t c κs = rw (handed-on (c .before .before .before .before .before .args .text .now)) (omega (arith, c .before .before .before .before .before .pre .0, c .before .before .before .if1 .left), omega (arith, c .before .before .before .if1 .left))
+skip-inner-skip-inner-requires-2 t c κs = rw (whole (c .before .before .before .before .before .args .text .now)) (omega (arith, c .before .before .before .before .before .pre .0, c .before .before .before .if1 .left), omega (arith, c .before .before .before .if1 .left))
 
 skip-inner-add-skip-held-2 : (t : ℕ) → skip-inner-lts.Need-add-skip-held-2 (skip-inner-claims t) (skip-inner-at t) skip-inner.Post
 skip-inner-add-skip-held-2 t c = omega (arith, c .before .before .before .before .if1 .left, c .before .before .before .before .before .before .good .0)
@@ -211,7 +211,7 @@ skip-inner-part-skip-inner-end-3 t c = search needs
 skip-inner-skip-inner-requires-3 : (t : ℕ) → skip-inner-lts.Need-skip-inner-requires-3 (skip-inner-claims t) (skip-inner-at t) skip-inner.Post
 skip-inner-skip-inner-requires-3 t c κs =
     let n = rw (c .before .before .item .given .1) at (c .before .before .before .before .parse-number .ensures) in
-    rw (handed-on (c .before .before .before .before .before .before .before .before .before .args .text .now)) (omega (arith, c .before .before .before .before .before .before .before .before .before .pre .0, c .before .before .before .before .before .before .before .if1 .left, n .1), n .1 .1)
+    rw (whole (c .before .before .before .before .before .before .before .before .before .args .text .now)) (omega (arith, c .before .before .before .before .before .before .before .before .before .pre .0, c .before .before .before .before .before .before .before .if1 .left, n .1), n .1 .1)
 
 skip-inner-skip-item-requires : (t : ℕ) → skip-inner-lts.Need-skip-item-requires (skip-inner-claims t) (skip-inner-at t) skip-inner.Post
 skip-inner-skip-item-requires t c κs = search needs
@@ -227,7 +227,7 @@ skip-inner-part-skip-container-end t c = search needs
 
 skip-inner-skip-container-requires : (t : ℕ) → skip-inner-lts.Need-skip-container-requires (skip-inner-claims t) (skip-inner-at t) skip-inner.Post
 unfolding start inSingles singles inOthers others
-skip-inner-skip-container-requires t c κs = rw (handed-on (c .before .before .before .before .before .args .text .now)) (omega (arith, c .before .before .before .before .before .pre .0), record { at-place = c .before .before .before .if1 .left; opens = starts _ 123 (c .before .match .keys4) refl })
+skip-inner-skip-container-requires t c κs = rw (whole (c .before .before .before .before .before .args .text .now)) (omega (arith, c .before .before .before .before .before .pre .0), record { at-place = c .before .before .before .if1 .left; opens = starts _ 123 (c .before .match .keys4) refl })
 
 skip-inner-sub-skip-container-2 : (t : ℕ) → skip-inner-lts.Need-sub-skip-container-2 (skip-inner-claims t) (skip-inner-at t) skip-inner.Post
 skip-inner-sub-skip-container-2 t c = search needs
@@ -240,7 +240,7 @@ skip-inner-part-skip-container-end-2 t c = search needs
 
 skip-inner-skip-container-requires-2 : (t : ℕ) → skip-inner-lts.Need-skip-container-requires-2 (skip-inner-claims t) (skip-inner-at t) skip-inner.Post
 unfolding start inSingles singles inOthers others
-skip-inner-skip-container-requires-2 t c κs = rw (handed-on (c .before .before .before .before .before .args .text .now)) (omega (arith, c .before .before .before .before .before .pre .0), record { at-place = c .before .before .before .if1 .left; opens = starts _ 40 (c .before .match .keys5) refl })
+skip-inner-skip-container-requires-2 t c κs = rw (whole (c .before .before .before .before .before .args .text .now)) (omega (arith, c .before .before .before .before .before .pre .0), record { at-place = c .before .before .before .if1 .left; opens = starts _ 40 (c .before .match .keys5) refl })
 
 skip-inner-skip-simple-requires : (t : ℕ) → skip-inner-lts.Need-skip-simple-requires (skip-inner-claims t) (skip-inner-at t) skip-inner.Post
 skip-inner-skip-simple-requires t c κs =
@@ -249,11 +249,11 @@ skip-inner-skip-simple-requires t c κs =
 
 skip-inner-returns-2 : (t : ℕ) → skip-inner-lts.Need-returns-2 (skip-inner-claims t) (skip-inner-at t) skip-inner.Post
 unfolding start inSingles singles inOthers others
-skip-inner-returns-2 t c = rw (c .skip-held .ensures) (skips-held _ _ (c .before .before .before .before .before .if1 .left) pointer (starts _ 94 (c .before .before .before .match .keys1) refl) _ (rw (handed-on (c .before .before .before .before .before .before .before .args .text .now)) at (c .before .skip-inner .ensures)))
+skip-inner-returns-2 t c = rw (c .skip-held .ensures) (skips-held _ _ (c .before .before .before .before .before .if1 .left) pointer (starts _ 94 (c .before .before .before .match .keys1) refl) _ (rw (whole (c .before .before .before .before .before .before .before .args .text .now)) at (c .before .skip-inner .ensures)))
 
 skip-inner-returns-3 : (t : ℕ) → skip-inner-lts.Need-returns-3 (skip-inner-claims t) (skip-inner-at t) skip-inner.Post
 unfolding start inSingles singles inOthers others
-skip-inner-returns-3 t c = rw (c .skip-held2 .ensures) (skips-held _ _ (c .before .before .before .before .before .if1 .left) atomic (starts _ 65 (c .before .before .before .match .keys2) refl) _ (rw (handed-on (c .before .before .before .before .before .before .before .args .text .now)) at (c .before .skip-inner2 .ensures)))
+skip-inner-returns-3 t c = rw (c .skip-held2 .ensures) (skips-held _ _ (c .before .before .before .before .before .if1 .left) atomic (starts _ 65 (c .before .before .before .match .keys2) refl) _ (rw (whole (c .before .before .before .before .before .before .before .args .text .now)) at (c .before .skip-inner2 .ensures)))
 
 skip-inner-returns-4 : (t : ℕ) → skip-inner-lts.Need-returns-4 (skip-inner-claims t) (skip-inner-at t) skip-inner.Post
 unfolding start inSingles singles inOthers others
@@ -265,13 +265,13 @@ skip-inner-returns-5 : (t : ℕ) → skip-inner-lts.Need-returns-5 (skip-inner-c
 unfolding start inSingles singles inOthers others
 skip-inner-returns-5 t c =
     let n = rw (c .before .before .before .before .item .given .1) at (c .before .before .before .before .before .before .parse-number .ensures) in
-    rw (c .skip-item .ensures) (skips-item _ _ (c .before .before .before .before .before .before .before .before .before .if1 .left) _ _ (starts _ 91 (c .before .before .before .before .before .before .before .match .keys3) refl) (n .0) (n .1 .0) (n .1 .1) _ (rw (handed-on (c .before .before .before .before .before .before .before .before .before .before .before .args .text .now)) at (c .before .skip-inner3 .ensures)))
+    rw (c .skip-item .ensures) (skips-item _ _ (c .before .before .before .before .before .before .before .before .before .if1 .left) _ _ (starts _ 91 (c .before .before .before .before .before .before .before .match .keys3) refl) (n .0) (n .1 .0) (n .1 .1) _ (rw (whole (c .before .before .before .before .before .before .before .before .before .before .before .args .text .now)) at (c .before .skip-inner3 .ensures)))
 
 skip-inner-returns-6 : (t : ℕ) → skip-inner-lts.Need-returns-6 (skip-inner-claims t) (skip-inner-at t) skip-inner.Post
-skip-inner-returns-6 t c = rw (handed-on (c .before .before .before .before .before .before .args .text .now)) at (c .skip-container .ensures)
+skip-inner-returns-6 t c = rw (whole (c .before .before .before .before .before .before .args .text .now)) at (c .skip-container .ensures)
 
 skip-inner-returns-7 : (t : ℕ) → skip-inner-lts.Need-returns-7 (skip-inner-claims t) (skip-inner-at t) skip-inner.Post
-skip-inner-returns-7 t c = rw (handed-on (c .before .before .before .before .before .before .args .text .now)) at (c .skip-container2 .ensures)
+skip-inner-returns-7 t c = rw (whole (c .before .before .before .before .before .before .args .text .now)) at (c .skip-container2 .ensures)
 
 skip-inner-returns-8 : (t : ℕ) → skip-inner-lts.Need-returns-8 (skip-inner-claims t) (skip-inner-at t) skip-inner.Post
 skip-inner-returns-8 t c = skips-simple _ _ _ (c .before .before .before .if1 .left) (c .skip-simple .ensures)
@@ -289,26 +289,26 @@ skip-items-part-skip-inner-end : (t : ℕ) → skip-items-lts.Need-part-skip-inn
 skip-items-part-skip-inner-end t c = search needs
 
 skip-items-skip-inner-requires : (t : ℕ) → skip-items-lts.Need-skip-inner-requires (skip-items-claims t) (skip-items-at t) skip-items.Post skip-items-Inv-loop skip-items-μ-loop
-skip-items-skip-inner-requires t c κs = rw (handed-on (c .before .before .before .args .text .now)) (omega (arith, c .before .before .before .pre .0, c .before .loop .inv .0), c .before .loop .inv .1 .0)
+skip-items-skip-inner-requires t c κs = rw (whole (c .before .before .before .args .text .now)) (omega (arith, c .before .before .before .pre .0, c .before .loop .inv .0), c .before .loop .inv .1 .0)
 
 skip-items-enum-known-s : (t : ℕ) → skip-items-lts.Need-enum-known-s (skip-items-claims t) (skip-items-at t) skip-items.Post skip-items-Inv-loop skip-items-μ-loop
 skip-items-enum-known-s t c = search needs
 
 skip-items-loop-less : (t : ℕ) → skip-items-lts.Need-loop-less (skip-items-claims t) (skip-items-at t) skip-items.Post skip-items-Inv-loop skip-items-μ-loop
 skip-items-loop-less t c =
-    let r = rw (handed-on (c .before .before .before .before .before .before .before .args .text .now)) at (rw (c .before .s .given .1) at (c .before .before .before .skip-inner .ensures)) in
+    let r = rw (whole (c .before .before .before .before .before .before .before .args .text .now)) at (rw (c .before .s .given .1) at (c .before .before .before .skip-inner .ensures)) in
     omega (arith, r .bound)
 
 skip-items-loop-again : (t : ℕ) → skip-items-lts.Need-loop-again (skip-items-claims t) (skip-items-at t) skip-items.Post skip-items-Inv-loop skip-items-μ-loop
 skip-items-loop-again t c =
-    let r = rw (handed-on (c .before .before .before .before .before .before .before .args .text .now)) at (rw (c .before .s .given .1) at (c .before .before .before .skip-inner .ensures)) in
+    let r = rw (whole (c .before .before .before .before .before .before .before .args .text .now)) at (rw (c .before .s .given .1) at (c .before .before .before .skip-inner .ensures)) in
     (omega (arith, r .bound, c .before .before .before .before .before .loop .inv .0), (r .bound .1, λ i s. c .before .before .before .before .before .loop .inv .1 .1 i (skipped-more _ _ _ _ _ r s)))
 
 skip-items-end-skipped-requires : (t : ℕ) → skip-items-lts.Need-end-skipped-requires (skip-items-claims t) (skip-items-at t) skip-items.Post skip-items-Inv-loop skip-items-μ-loop
 skip-items-end-skipped-requires t c κs = search needs
 
 skip-items-returns : (t : ℕ) → skip-items-lts.Need-returns (skip-items-claims t) (skip-items-at t) skip-items.Post skip-items-Inv-loop skip-items-μ-loop
-skip-items-returns t c = rw (c .end-skipped .ensures) (c .before .before .before .before .loop .inv .1 .1 _ (skipped-end _ _ _ (c .before .before .skip-inner .result) (not-passed (c .before .before .skip-inner .result) (c .before .match .keys2)) (rw (handed-on (c .before .before .before .before .before .before .args .text .now)) at (c .before .before .skip-inner .ensures))))
+skip-items-returns t c = rw (c .end-skipped .ensures) (c .before .before .before .before .loop .inv .1 .1 _ (skipped-end _ _ _ (c .before .before .skip-inner .result) (not-passed (c .before .before .skip-inner .result) (c .before .match .keys2)) (rw (whole (c .before .before .before .before .before .before .args .text .now)) at (c .before .before .skip-inner .ensures))))
 
 pub +skip-container+skip-inner+skip-items-spec : {M : Type 1} → statement M
 +skip-container+skip-inner+skip-items-spec =

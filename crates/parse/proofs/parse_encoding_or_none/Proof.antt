@@ -3,7 +3,7 @@ use native.Mathlib.Omega.{arith}
 use lib.ListN.{length, length-drop}
 use Rattle.parse.specs.Agree.{lists}
 use Rattle.parse.proofs.Entry.{too-long, few-words, few-names, ready-whole, joined-fits, one-code, entered, mid-rest}
-use Rattle.parse.proofs.Text.{handed-on}
+use Rattle.kinds.proofs.ListLaws.{whole}
 use borrow.Author.Needs.{needs}
 use Rattle.parse.proofs.parse_encoding_or_none.Statement.{statement}
 use Rattle.parse.proofs.parse_encoding_or_none.Tie as tie
@@ -69,7 +69,7 @@ part-parse-inner-end-2 : tie.Need-part-parse-inner-end-2
 part-parse-inner-end-2 c = search needs
 
 parse-inner-requires : tie.Need-parse-inner-requires
-parse-inner-requires c κs = rw (handed-on (c .before .before .before .before .before .before .before .before .before .before .before .before .before .before .before .before .before .before .args .text .now)) (
+parse-inner-requires c κs = rw (whole (c .before .before .before .before .before .before .before .before .before .before .before .before .before .before .before .before .before .before .args .text .now)) (
     ready-whole (c .before .before .before .before .before .before .before .before .before .before .before .before .before .before .before .before .before .before .args .text .now) _ _ _ (c .before .before .before .strip-leading-qualifiers .ensures .1)
     (omega (arith, c .before .before .before .before .before .before .before .before .before .before .before .before .before .if2 .left, c .before .before .before .before .before .before .before .before .clear-sheet .kept .1 .0, ap length (mid-rest 4 (c .before .before .before .before .before .before .before .before .clear-sheet .last .1 .0)), length-drop 4 (c .before .before .before .before .before .before .before .before .clear-sheet .last .1 .0)))
     (omega (arith, c .before .before .before .before .before .before .before .before .before .before .before .before .if3 .left, c .before .before .before .before .before .before .before .before .clear-sheet .kept .1 .1 .0)))
@@ -77,7 +77,7 @@ parse-inner-requires c κs = rw (handed-on (c .before .before .before .before .b
 encoding-or-none-requires : tie.Need-encoding-or-none-requires
 encoding-or-none-requires c κs =
     joined-fits (c .before .before .before .before .before .before .before .before .before .before .before .before .before .before .before .before .before .before .before .before .before .before .before .before .before .args .text .now) (c .before .before .before .before .before .before .before .before .before .before .strip-leading-qualifiers .result) (c .before .before .before .before .before .before .before .before .before .before .before .before .before .before .before .before .before .before .before .before .before .before .before .before .before .args .words .now) (c .before .before .before .before .before .before .before .before .before .before .before .before .before .before .before .clear-sheet .last .1 .0) (c .before .before .before .before .before .before .before .before .before .before .before .before .before .before .before .before .before .before .before .before .before .before .before .before .before .args .names .now) (c .before .before .before .before .before .before .before .before .before .before .before .before .before .before .before .clear-sheet .last .1 .1 .0) _ (lists (c .before .before .before .before .before .before .parse-inner .last .1 .1 .0) (c .before .before .before .before .before .before .parse-inner .last .1 .1 .1 .1 .0)) (c .before .before .before .before .before .before .parse-inner .result)
-    (c .before .before .before .before .before .before .before .before .before .before .before .before .before .before .before .before .before .before .before .before .if2 .left) (c .before .before .before .before .before .before .before .before .before .before .before .before .before .before .before .before .before .before .before .if3 .left) (c .before .before .before .before .before .before .before .before .before .before .strip-leading-qualifiers .ensures .1) (c .before .before .before .before .before .before .before .before .before .before .before .before .before .before .before .clear-sheet .kept .1 .0) (c .before .before .before .before .before .before .parse-inner .kept .1 .1 .0) (c .before .before .before .before .before .before .before .before .before .before .before .before .before .before .before .clear-sheet .kept .1 .1 .0) (c .before .before .before .before .before .before .parse-inner .kept .1 .1 .1 .1 .0) ((rw (handed-on (c .before .before .before .before .before .before .before .before .before .before .before .before .before .before .before .before .before .before .before .before .before .before .before .before .before .args .text .now)) at (c .before .before .before .before .before .before .parse-inner .ensures)) .bound)
+    (c .before .before .before .before .before .before .before .before .before .before .before .before .before .before .before .before .before .before .before .before .if2 .left) (c .before .before .before .before .before .before .before .before .before .before .before .before .before .before .before .before .before .before .before .if3 .left) (c .before .before .before .before .before .before .before .before .before .before .strip-leading-qualifiers .ensures .1) (c .before .before .before .before .before .before .before .before .before .before .before .before .before .before .before .clear-sheet .kept .1 .0) (c .before .before .before .before .before .before .parse-inner .kept .1 .1 .0) (c .before .before .before .before .before .before .before .before .before .before .before .before .before .before .before .clear-sheet .kept .1 .1 .0) (c .before .before .before .before .before .before .parse-inner .kept .1 .1 .1 .1 .0) ((rw (whole (c .before .before .before .before .before .before .before .before .before .before .before .before .before .before .before .before .before .before .before .before .before .before .before .before .before .args .text .now)) at (c .before .before .before .before .before .before .parse-inner .ensures)) .bound)
 
 same-length-3 : tie.Need-same-length-3
 same-length-3 c = search needs
@@ -88,7 +88,7 @@ same-length-4 c = search needs
 returns-5 : tie.Need-returns-5
 returns-5 c =
     entered (c .before .before .before .before .before .before .before .before .before .before .before .before .before .before .before .before .before .before .before .before .before .before .before .before .before .before .before .before .before .before .args .text .now) (c .before .before .before .before .before .before .before .before .before .before .before .before .before .before .before .before .before .before .before .before .before .before .before .before .before .before .before .before .before .before .args .words .now) (c .before .before .before .before .before .before .before .before .before .before .before .before .before .before .before .before .before .before .before .before .before .before .before .before .before .before .before .before .before .before .args .names .now) (c .before .before .before .before .before .before .before .before .before .before .before .before .before .before .before .strip-leading-qualifiers .result) _ _ (lists (c .before .before .before .before .before .before .before .before .before .before .before .parse-inner .last .1 .1 .0) (c .before .before .before .before .before .before .before .before .before .before .before .parse-inner .last .1 .1 .1 .1 .0)) (c .before .before .before .before .before .before .before .before .before .before .before .parse-inner .result) _ _ _
-    (c .before .before .before .before .before .before .before .before .before .before .before .before .before .before .before .before .before .before .before .before .before .before .before .before .before .before .if1 .left) (c .before .before .before .before .before .before .before .before .before .before .before .before .before .before .before .before .before .before .before .before .before .before .before .before .before .if2 .left) (c .before .before .before .before .before .before .before .before .before .before .before .before .before .before .before .before .before .before .before .before .before .before .before .before .if3 .left) (c .before .before .before .before .before .before .before .before .before .before .before .before .before .before .before .strip-leading-qualifiers .ensures .1) (c .before .before .before .before .before .before .before .before .before .before .before .before .before .before .before .strip-leading-qualifiers .ensures .0) (c .before .before .before .before .before .before .before .before .before .before .before .before .before .before .before .before .before .before .before .before .clear-sheet .ensures .0) (c .before .before .before .before .before .before .before .before .before .before .before .before .before .before .before .before .before .before .before .before .clear-sheet .ensures .1) (rw (handed-on (c .before .before .before .before .before .before .before .before .before .before .before .before .before .before .before .before .before .before .before .before .before .before .before .before .before .before .before .before .before .before .args .text .now)) at (c .before .before .before .before .before .before .before .before .before .before .before .parse-inner .ensures))
+    (c .before .before .before .before .before .before .before .before .before .before .before .before .before .before .before .before .before .before .before .before .before .before .before .before .before .before .if1 .left) (c .before .before .before .before .before .before .before .before .before .before .before .before .before .before .before .before .before .before .before .before .before .before .before .before .before .if2 .left) (c .before .before .before .before .before .before .before .before .before .before .before .before .before .before .before .before .before .before .before .before .before .before .before .before .if3 .left) (c .before .before .before .before .before .before .before .before .before .before .before .before .before .before .before .strip-leading-qualifiers .ensures .1) (c .before .before .before .before .before .before .before .before .before .before .before .before .before .before .before .strip-leading-qualifiers .ensures .0) (c .before .before .before .before .before .before .before .before .before .before .before .before .before .before .before .before .before .before .before .before .clear-sheet .ensures .0) (c .before .before .before .before .before .before .before .before .before .before .before .before .before .before .before .before .before .before .before .before .clear-sheet .ensures .1) (rw (whole (c .before .before .before .before .before .before .before .before .before .before .before .before .before .before .before .before .before .before .before .before .before .before .before .before .before .before .before .before .before .before .args .text .now)) at (c .before .before .before .before .before .before .before .before .before .before .before .parse-inner .ensures))
     (c .before .before .before .before .encoding-or-none .ensures .0 .0) (c .before .before .before .before .encoding-or-none .ensures .0 .1) (c .before .before .before .before .encoding-or-none .ensures .1)
 
 pub parse-encoding-or-none-spec : {M : Type 1} → statement M

@@ -1,5 +1,5 @@
 use Rattle.parse.proofs.Skip.{fields-skipped, fields-refused}
-use Rattle.parse.proofs.Text.{handed-on}
+use Rattle.kinds.proofs.ListLaws.{whole}
 use borrow.Author.Needs.{needs}
 use Rattle.parse.proofs.skip_fields.Statement.{statement}
 use Rattle.parse.proofs.skip_fields.Tie as tie
@@ -24,11 +24,11 @@ enum-told c = search needs
 
 returns : tie.Need-returns
 returns c =
-    let r = rw (handed-on (c .before .before .before .before .before .before .args .text .now)) at (rw (c .before .to .given .1) at (c .before .before .before .skip-items .ensures)) in
+    let r = rw (whole (c .before .before .before .before .before .before .args .text .now)) at (rw (c .before .to .given .1) at (c .before .before .before .skip-items .ensures)) in
     (fields-skipped (c .before .before .before .before .before .before .args .text .now) 0 _ _ r, r .bound .1)
 
 returns-2 : tie.Need-returns-2
-returns-2 c = fields-refused (c .before .before .before .before .before .args .text .now) 0 _ _ _ (rw (handed-on (c .before .before .before .before .before .args .text .now)) at (rw (c .enum-told .given .1) at (c .before .before .skip-items .ensures)))
+returns-2 c = fields-refused (c .before .before .before .before .before .args .text .now) 0 _ _ _ (rw (whole (c .before .before .before .before .before .args .text .now)) at (rw (c .enum-told .given .1) at (c .before .before .skip-items .ensures)))
 
 pub skip-fields-spec : {M : Type 1} → statement M
 skip-fields-spec =
