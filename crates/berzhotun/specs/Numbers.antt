@@ -4,10 +4,8 @@ use mathlib.Core.Bool.{Bool, true, false}
 use mathlib.Core.List.{List, [], _∷_}
 use lib.ListN.{length}
 use Rattle.kinds.specs.Refusal.{number, values}
-use Rattle.expect.specs.declared.Compared as M
-use Rattle.expect.specs.declared.Compared.the-variants as E
-use Rattle.helper.specs.declared.Compared.{Compared}
-use Rattle.helper.specs.declared.Compared.the-variants as C
+use Rattle.kinds.specs.declared.Compared.{Compared}
+use Rattle.kinds.specs.declared.Compared.the-variants as C
 use Rattle.helper.specs.declared.Sized.{Sized}
 use Rattle.helper.specs.declared.Sized.the-variants as S
 use Rattle.parse.specs.EncodingBox.{fromStartAnswer, fromStartRest}
@@ -58,13 +56,3 @@ readValues place (G.Refused r) = values r
 -- The place where the rest begins.
 abbrev pub restPlace : List ℕ → List ℕ → List ℕ → ℕ
 restPlace text words names = length text - length (fromStartRest text words names)
-
--- Tree against text, as tree against tree.
-abbrev pub matchNumber : M.Compared → ℕ
-matchNumber (E.Refused r) = number r
-matchNumber (E.Decided y) = 0
-
-abbrev pub matchValues : M.Compared → List ℕ
-matchValues (E.Refused r) = 0 ∷ []
-matchValues (E.Decided true) = 1 ∷ []
-matchValues (E.Decided false) = 0 ∷ []

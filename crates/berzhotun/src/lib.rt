@@ -7,9 +7,9 @@ ghost use Rattle.parse.specs.EncodingBox.{fromStrAnswer, fromStrWords, fromStrN
 ghost use Rattle.expect.specs.Encoding.{compared};
 ghost use Rattle.helper.specs.Answer.{sizeAnswer, compareAnswer};
 ghost use Rattle.static_str.specs.Outcome.{encodingLen, encodingArray, encodingOutput};
-ghost use Rattle.berzhotun.specs.Numbers.{sizeNumber, sizeValues, compareNumber, compareValues, printNumber, printValues, readNumber, readValues, restPlace, matchNumber, matchValues};
-use helper::Compared;
+ghost use Rattle.berzhotun.specs.Numbers.{sizeNumber, sizeValues, compareNumber, compareValues, printNumber, printValues, readNumber, readValues, restPlace};
 use helper::Sized;
+use kinds::Compared;
 use parse::Reading;
 use static_str::Printed;
 
@@ -67,27 +67,6 @@ fn give_sized(s: Sized, answer: &mut [u64; 2]) -> u64
         }
         Sized::Bytes(n) => {
             *answer = [1, n];
-            0
-        }
-    }
-}
-
-// The answer of tree against text as numbers.
-fn give_matched(c: expect::Compared, answer: &mut [u64; 1]) -> u64
-    ensures returns { λ r. ⌜ r ≡ matchNumber c ⌝ }
-    ensures answers { λ _. ⌜ now (answer .exit) ≡ matchValues c ⌝ }
-{
-    match c {
-        expect::Compared::Refused(why) => {
-            *answer = [0];
-            why.number()
-        }
-        expect::Compared::Decided(yes) => {
-            if yes {
-                *answer = [1];
-            } else {
-                *answer = [0];
-            }
             0
         }
     }
@@ -235,8 +214,8 @@ pub extern "C" fn berzhotun_equivalent_to_str(
     text: &[u8],
     answer: &mut [u64; 1],
 ) -> u64
-    ensures returns { λ r. ⌜ r ≡ matchNumber (compared (now (words .entry)) (now (names .entry)) (now (text .entry))) ⌝ }
-    ensures answers { λ _. ⌜ now (answer .exit) ≡ matchValues (compared (now (words .entry)) (now (names .entry)) (now (text .entry))) ⌝ }
+    ensures returns { λ r. ⌜ r ≡ compareNumber (compared (now (words .entry)) (now (names .entry)) (now (text .entry))) ⌝ }
+    ensures answers { λ _. ⌜ now (answer .exit) ≡ compareValues (compared (now (words .entry)) (now (names .entry)) (now (text .entry))) ⌝ }
 {
-    give_matched(expect::equivalent_to_str(words, names, text), answer)
+    give_compared(expect::equivalent_to_str(words, names, text), answer)
 }

@@ -2,9 +2,9 @@
 ghost use mathlib.Core.Path.{_≡_};
 ghost use mathlib.Core.Bool.{false};
 ghost use Rattle.helper.specs.Answer.{sizeAnswer, compareAnswer};
-use helper::Compared;
 use helper::Sized;
 use helper::compare_encodings;
+use kinds::Compared;
 
 // Whether the tree in the first sheet matches that in the second, by levels.
 pub fn equivalent_to(aw: &[u64], an: &[u8], bw: &[u64], bn: &[u8]) -> Compared

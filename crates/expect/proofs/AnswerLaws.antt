@@ -22,7 +22,7 @@ use Rattle.sheet.specs.declared.Checked.{Checked}
 use Rattle.sheet.specs.declared.Checked.the-variants.{NotASheet, BadName, Good}
 use Rattle.expect.specs.Agree.{ExpectedIs, expectAt, codeByte}
 use Rattle.expect.specs.Encoding.{compared, comparedSheet}
-use Rattle.expect.specs.declared.Compared.the-variants.{Refused}
+use Rattle.kinds.specs.declared.Compared.the-variants.{Refused}
 use Rattle.expect.specs.declared.Expected as X
 use Rattle.expect.proofs.TextLaws.{then-nothing, same-outcome}
 use Rattle.expect.proofs.WalkLaws.{expect-trees, expect-no-trees, then-same}

@@ -10,8 +10,8 @@ use Rattle.kinds.specs.declared.Refusal.the-variants as R
 use Rattle.sheet.specs.Check.{checked}
 use Rattle.sheet.specs.declared.Checked.{Checked}
 use Rattle.sheet.specs.declared.Checked.the-variants.{NotASheet, BadName, Good}
-use Rattle.expect.specs.declared.Compared.{Compared}
-use Rattle.expect.specs.declared.Compared.the-variants.{Refused, Decided}
+use Rattle.kinds.specs.declared.Compared.{Compared}
+use Rattle.kinds.specs.declared.Compared.the-variants.{Refused, Decided}
 
 -- The bytes that a text may have.
 abbrev pub maxText : ℕ

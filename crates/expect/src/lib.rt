@@ -14,6 +14,7 @@ ghost use Rattle.kinds.specs.Walk.{NodeAt, TreesAt, KindAndName, KindsAndNames}
 ghost use Rattle.expect.specs.Agree.{ExpectedIs, containerOf, anyObject, expectLeaf, openingByte, opening, closing, afterName, InText, OpenedIs, isIndirection, codeByte, ownByte, levelAfter, OpenedAt};
 ghost use Rattle.expect.specs.Encoding.{compared};
 use kinds::Code;
+use kinds::Compared;
 use kinds::ContainerKind;
 use kinds::Fields;
 use kinds::IndirectionKind;
@@ -41,12 +42,6 @@ enum Opened {
     Taken(usize),
     Mismatch,
     Fields(usize, NestingLevel),
-}
-
-// What tree against text answers.
-pub enum Compared {
-    Refused(Refusal),
-    Decided(bool),
 }
 
 fn expect_byte(byte: u8, text: &[u8], at: usize) -> Expected

@@ -11,7 +11,7 @@ use Rattle.sheet.specs.Check.{checked}
 use Rattle.sheet.specs.declared.Checked.the-variants.{Good}
 use Rattle.helper.specs.Answer.{sized, sizeAnswer, compareAnswer}
 use Rattle.helper.specs.Measure.{bothChecked}
-use Rattle.helper.specs.declared.Compared.the-variants.{Decided}
+use Rattle.kinds.specs.declared.Compared.the-variants.{Decided}
 use Rattle.helper.proofs.AnswerLaws.{size-checked, compareOn, compare-checked}
 
 module _ (aw an bw bn : List ℕ) (a : checked aw an ≡ Good) (b : checked bw bn ≡ Good) where

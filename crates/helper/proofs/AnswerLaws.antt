@@ -25,8 +25,8 @@ use Rattle.sheet.specs.declared.Checked.the-variants.{NotASheet, BadName, Good}
 use Rattle.sheet.proofs.CheckLaws.{good-says}
 use Rattle.helper.specs.Answer.{sized, sizeAnswer, compareAnswer}
 use Rattle.helper.specs.Measure.{fit, clip, sizeAt, compareFields, bothChecked}
-use Rattle.helper.specs.declared.Compared.{Compared}
-use Rattle.helper.specs.declared.Compared.the-variants as C
+use Rattle.kinds.specs.declared.Compared.{Compared}
+use Rattle.kinds.specs.declared.Compared.the-variants as C
 use Rattle.helper.specs.declared.Measured.{Measured}
 use Rattle.helper.specs.declared.Measured.the-variants.{Nothing, Bytes, TooLarge}
 use Rattle.helper.specs.declared.Sized.{Sized}

@@ -11,8 +11,8 @@ use Rattle.kinds.specs.Size.{size}
 use Rattle.kinds.specs.Sound.{goodNames}
 use Rattle.kinds.specs.declared.NestingLevel.the-variants.{Top}
 use Rattle.kinds.specs.declared.Refusal.the-variants.{NotASheet, BadName, SizeTooLarge}
-use Rattle.helper.specs.declared.Compared.{Compared}
-use Rattle.helper.specs.declared.Compared.the-variants as C
+use Rattle.kinds.specs.declared.Compared.{Compared}
+use Rattle.kinds.specs.declared.Compared.the-variants as C
 use Rattle.helper.specs.declared.Sized.{Sized}
 use Rattle.helper.specs.declared.Sized.the-variants as S
 

@@ -14,6 +14,7 @@ ghost use Rattle.kinds.specs.Tree.{inside};
 ghost use Rattle.kinds.specs.Walk.{NodeAt, TreesAt, KindAndName, KindsAndNames};
 ghost use Rattle.helper.specs.Answer.{sizeAnswer, compareAnswer};
 ghost use Rattle.helper.specs.Measure.{clip, plusMeasured, largerMeasured, timesMeasured, joinMeasured, fold, holdingMeasured, isLeaf, leafSize, sizeAt, compareFields, shownCount, levelAfter, bothChecked};
+use kinds::Compared;
 use kinds::Fields;
 use kinds::IndirectionKind;
 use kinds::NestingLevel;
@@ -37,12 +38,6 @@ pub enum Sized {
     Refused(Refusal),
     Nothing,
     Bytes(u64),
-}
-
-// What a comparison answers.
-pub enum Compared {
-    Refused(Refusal),
-    Decided(bool),
 }
 
 impl Measured {

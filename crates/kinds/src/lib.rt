@@ -94,6 +94,12 @@ pub enum Refusal {
     Parse(ErrorKind, usize),
 }
 
+// What a comparison answers.
+pub enum Compared {
+    Refused(Refusal),
+    Decided(bool),
+}
+
 impl NestingLevel {
     // The level that every comparison starts from.
     pub fn new() -> Self

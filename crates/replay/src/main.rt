@@ -1,7 +1,7 @@
 // Answers the questions on standard input with the library, a line each, as the oracle answers them with the crate
 // (oracle/README.md). At most 524,288 bytes of questions are read, and an answer has at most 65,536 bytes.
-use helper::Compared;
 use helper::Sized;
+use kinds::Compared;
 use kinds::Refusal;
 use libc::STDIN_FILENO;
 use libc::STDOUT_FILENO;
@@ -158,10 +158,7 @@ fn answer_equal(aw: &[u64], an: &[u8], bw: &[u64], bn: &[u8], out: &mut [u8]) ->
 }
 
 fn answer_text(words: &[u64], names: &[u8], text: &[u8], out: &mut [u8]) -> usize {
-    match expect::equivalent_to_str(words, names, text) {
-        expect::Compared::Refused(why) => put_refused(out, b"refused ", why),
-        expect::Compared::Decided(answer) => put_yes_no(out, 0, answer),
-    }
+    put_compared(out, 0, expect::equivalent_to_str(words, names, text))
 }
 
 fn is_reading(question: &[u8]) -> bool {

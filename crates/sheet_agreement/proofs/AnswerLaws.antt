@@ -21,11 +21,9 @@ use Rattle.sheet.specs.Check.{checked}
 use Rattle.sheet.specs.declared.Checked.the-variants.{Good}
 use Rattle.sheet.proofs.CheckLaws.{is-good}
 use Rattle.expect.specs.Encoding.{maxText, comparedSheet, compared}
-use Rattle.expect.specs.declared.Compared as M
-use Rattle.expect.specs.declared.Compared.the-variants as E
 use Rattle.helper.specs.Answer.{sized, sizeAnswer, compareAnswer}
-use Rattle.helper.specs.declared.Compared.{Compared}
-use Rattle.helper.specs.declared.Compared.the-variants as C
+use Rattle.kinds.specs.declared.Compared.{Compared}
+use Rattle.kinds.specs.declared.Compared.the-variants as C
 use Rattle.static_str.specs.Outcome.{fitted, placed, textOf, orRefused, orKept, encodingLen, encodingArray, encodingOutput}
 use Rattle.static_str.specs.declared.Printed.the-variants.{Bytes}
 use Rattle.agreement.specs.ShownAlike.{ShownAlike}
@@ -64,21 +62,21 @@ module _ (w s : List ℕ) (h : GoodSheet w s) where
   size-answer = rw (h .sheet, h .good-names)
 
 -- The answer for a text, from that of the tree.
-unfoldable pub againstText : List ℕ → (List ℕ → Bool) → M.Compared
-againstText text answer = cond (ltb maxText (length text)) (E.Refused R.TextTooLong) (E.Decided (answer text))
+unfoldable pub againstText : List ℕ → (List ℕ → Bool) → Compared
+againstText text answer = cond (ltb maxText (length text)) (C.Refused R.TextTooLong) (C.Decided (answer text))
 
 module _ (w s : List ℕ) (h : GoodSheet w s) where
   pub text-answer : (text : List ℕ) → compared w s text ≡ againstText text (equivalentToStr (treeOf w s))
   unfolding compared againstText
   text-answer text = rw (good-checked w s h)
 
-  pub text-decided : (text : List ℕ) → length text ≤ maxText → compared w s text ≡ E.Decided (equivalentToStr (treeOf w s) text)
+  pub text-decided : (text : List ℕ) → length text ≤ maxText → compared w s text ≡ C.Decided (equivalentToStr (treeOf w s) text)
   unfolding againstText
   text-decided text q = text-answer text ∙ rw (le-ltb maxText (length text) q)
 
 same-text : (text : List ℕ) (f g : List ℕ → Bool) → f text ≡ g text → againstText text f ≡ againstText text g
 unfolding againstText
-same-text text f g e = ap (λ (b : Bool). cond (ltb maxText (length text)) (E.Refused R.TextTooLong) (E.Decided b)) e
+same-text text f g e = ap (λ (b : Bool). cond (ltb maxText (length text)) (C.Refused R.TextTooLong) (C.Decided b)) e
 
 -- The answer of a comparison with other lists, from that of the trees.
 unfoldable pub againstOther : Bool → Bool → Bool → Compared

@@ -9,9 +9,8 @@ use borrow.Author.Tests.{le-leb}
 use Rattle.kinds.specs.Compare.{equivalentTo}
 use Rattle.kinds.specs.Sheet.{treeOf}
 use Rattle.expect.specs.Encoding.{maxText, compared}
-use Rattle.expect.specs.declared.Compared.the-variants as E
 use Rattle.helper.specs.Answer.{compareAnswer}
-use Rattle.helper.specs.declared.Compared.the-variants as C
+use Rattle.kinds.specs.declared.Compared.the-variants as C
 use Rattle.static_str.specs.Outcome.{fitted, placed, textOf, encodingArray, encodingOutput}
 use Rattle.static_str.specs.declared.Printed.the-variants.{Bytes}
 use Rattle.agreement.proofs.Agreement.{prints-alike, compares-alike}
@@ -33,7 +32,7 @@ sheets-print-alike aw an bw bn a b = prints-alike (treeOf aw an) (treeOf bw bn) 
 
 -- Demand 3, comparisons: where the second sheet's printed text has at most 2,000 bytes, tree against tree (either call) and tree against that
 -- text give the same answer.
-pub sheets-compare-alike : (aw an bw bn : List ℕ) → SoundSheet aw an → SoundSheet bw bn → length (textOf bw bn) ≤ maxText → (answer : Bool) × (compareAnswer false aw an bw bn ≡ C.Decided answer) × (compared aw an (textOf bw bn) ≡ E.Decided answer)
+pub sheets-compare-alike : (aw an bw bn : List ℕ) → SoundSheet aw an → SoundSheet bw bn → length (textOf bw bn) ≤ maxText → (answer : Bool) × (compareAnswer false aw an bw bn ≡ C.Decided answer) × (compared aw an (textOf bw bn) ≡ C.Decided answer)
 sheets-compare-alike aw an bw bn a b q =
     let x = sound-good aw an a in
-    (equivalentTo (treeOf aw an) (treeOf bw bn), compare-good aw an bw bn x (sound-good bw bn b), text-decided aw an x (textOf bw bn) q ∙ ap E.Decided (sym (compares-alike (treeOf aw an) (treeOf bw bn) (a .sound-tree) (b .sound-tree))))
+    (equivalentTo (treeOf aw an) (treeOf bw bn), compare-good aw an bw bn x (sound-good bw bn b), text-decided aw an x (textOf bw bn) q ∙ ap C.Decided (sym (compares-alike (treeOf aw an) (treeOf bw bn) (a .sound-tree) (b .sound-tree))))

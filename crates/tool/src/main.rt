@@ -2,8 +2,8 @@
 // commands are read.
 mod show;
 
-use helper::Compared;
 use helper::Sized;
+use kinds::Compared;
 use libc::STDIN_FILENO;
 use libc::STDOUT_FILENO;
 use parse::Reading;
@@ -146,8 +146,8 @@ fn answer_match(a: &[u8], text: &[u8]) {
     let mut names = [0u8; 2000];
     if reads(a, &mut words, &mut names) {
         match expect::equivalent_to_str(&words, &names, text) {
-            expect::Compared::Refused(why) => say_refused(text, &parse::refusal_words(why)),
-            expect::Compared::Decided(answer) => say_decided(answer),
+            Compared::Refused(why) => say_refused(text, &parse::refusal_words(why)),
+            Compared::Decided(answer) => say_decided(answer),
         }
     }
 }

@@ -1,23 +1,23 @@
 use mathlib.Core.Path.{ap, _∙_}
-use Rattle.berzhotun.specs.Numbers.{matchNumber, matchValues}
+use Rattle.berzhotun.specs.Numbers.{compareNumber, compareValues}
 use borrow.Author.Needs.{needs}
 use Rattle.berzhotun.proofs.berzhotun_equivalent_to_str.Statement.{statement}
 use Rattle.berzhotun.proofs.berzhotun_equivalent_to_str.Tie as tie
 use Rattle.berzhotun.proofs.berzhotun_equivalent_to_str.Reads as reads
 use Rattle.berzhotun.proofs.berzhotun_equivalent_to_str.Lts as lts
-use Rattle.berzhotun.proofs.give_matched.Reads as give-matched-reads
+use Rattle.berzhotun.proofs.give_compared.Reads as give-compared-reads
 use Rattle.expect.proofs.equivalent_to_str.Reads as equivalent-to-str-reads
 
 equivalent-to-str-requires : tie.Need-equivalent-to-str-requires
 equivalent-to-str-requires c κs = search needs
 
-give-matched-requires : tie.Need-give-matched-requires
-give-matched-requires c κs = search needs
+give-compared-requires : tie.Need-give-compared-requires
+give-compared-requires c κs = search needs
 
 returns : tie.Need-returns
 returns c =
-    (c .give-matched .ensures .0 ∙ ap matchNumber (c .before .before .equivalent-to-str .ensures), c .give-matched .ensures .1 ∙ ap matchValues (c .before .before .equivalent-to-str .ensures))
+    (c .give-compared .ensures .0 ∙ ap compareNumber (c .before .before .equivalent-to-str .ensures), c .give-compared .ensures .1 ∙ ap compareValues (c .before .before .equivalent-to-str .ensures))
 
 pub berzhotun-equivalent-to-str-spec : {M : Type 1} → statement M
 berzhotun-equivalent-to-str-spec =
-    tie.close (tie.spec equivalent-to-str-requires give-matched-requires returns)
+    tie.close (tie.spec equivalent-to-str-requires give-compared-requires returns)

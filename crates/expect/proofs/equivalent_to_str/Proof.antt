@@ -4,7 +4,7 @@ use borrow.Author.Needs.{needs}
 use lib.ListN.{getD, drop}
 use Rattle.kinds.specs.Sheet.{nodeWords}
 use Rattle.sheet.specs.declared.Checked.the-variants.{Good}
-use Rattle.expect.specs.declared.Compared.the-variants.{Decided}
+use Rattle.kinds.specs.declared.Compared.the-variants.{Decided}
 use Rattle.expect.proofs.TextLaws.{rest}
 use Rattle.expect.proofs.FieldLaws.{lent-walk, lent-fields}
 use Rattle.expect.proofs.AnswerLaws.{words-enough, sheet-trees, too-long, of-sheet, walked-fields, walked-code, decided}
