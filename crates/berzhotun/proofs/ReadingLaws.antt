@@ -6,7 +6,6 @@ use native.Mathlib.Omega.{arith}
 use denote.Ref.{RefT, now}
 use lib.ListN.{length, getD, length-drop}
 use Rattle.kinds.specs.Refusal.{number, values}
-use Rattle.kinds.specs.declared.ContainerKind.the-variants.{Struct, Union}
 use Rattle.kinds.specs.declared.ErrorKind.the-variants as E
 use Rattle.kinds.specs.declared.Refusal.{Refusal}
 use Rattle.kinds.specs.declared.Refusal.the-variants as R
@@ -16,23 +15,7 @@ use Rattle.parse.specs.declared.Reading.the-variants as G
 use Rattle.berzhotun.specs.Numbers.{readNumber, readValues}
 
 words-values : (r : Refusal) → answerWords (G.Refused r) ≡ number r ∷ values r
-words-values R.TextTooLong = refl
-words-values R.ListTooShort = refl
-words-values R.NotASheet = refl
-words-values R.BadName = refl
-words-values R.OutputTooShort = refl
-words-values R.SizeTooLarge = refl
-words-values (R.Parse E.UnexpectedEnd at) = refl
-words-values (R.Parse (E.Unknown b) at) = refl
-words-values (R.Parse (E.UnknownAfterComplex b) at) = refl
-words-values (R.Parse E.ExpectedInteger at) = refl
-words-values (R.Parse E.IntegerTooLarge at) = refl
-words-values (R.Parse E.WrongEndArray at) = refl
-words-values (R.Parse (E.WrongEndContainer Struct) at) = refl
-words-values (R.Parse (E.WrongEndContainer Union) at) = refl
-words-values (R.Parse (E.InvalidIdentifier Struct) at) = refl
-words-values (R.Parse (E.InvalidIdentifier Union) at) = refl
-words-values (R.Parse E.NotAllConsumed at) = refl
+words-values r = refl
 
 some-number : (r : Refusal) → 1 ≤ number r
 some-number R.TextTooLong = omega arith

@@ -130,20 +130,12 @@ pub record EndOf (text part : RefT (List ℕ)) : Type 0 where
 
 -- ---- An answer as four words.
 
-abbrev pub orZero : Option ℕ → ℕ
-orZero (some n) = n
-orZero none = 0
-
 -- The kind word of a container.
 abbrev pub kindWord : ContainerKind → ℕ
 kindWord Struct = 29
 kindWord Union = 30
 
-abbrev pub kindOrZero : Option ContainerKind → ℕ
-kindOrZero (some k) = kindWord k
-kindOrZero none = 0
-
 -- 0 for a tree, else the refusal's number; its place; its byte; the kind word of its container; 0 for what it does not carry.
 abbrev pub answerWords : Reading → List ℕ
 answerWords Tree = 0 ∷ 0 ∷ 0 ∷ 0 ∷ []
-answerWords (Refused r) = R.number r ∷ orZero (R.place r) ∷ orZero (R.refusedByte r) ∷ kindOrZero (R.refusedContainer r) ∷ []
+answerWords (Refused r) = R.number r ∷ R.values r

@@ -1051,36 +1051,12 @@ fn unknown_digit(why: ErrorKind) -> bool
     }
 }
 
-fn error_words(why: ErrorKind, place: usize) -> [u64; 4]
-    ensures { λ r. ⌜ r ≡ answerWords (Reading.Refused (Refusal.Parse why place)) ⌝ }
-{
-    let at = place as u64;
-    match why {
-        ErrorKind::UnexpectedEnd => [7, at, 0, 0],
-        ErrorKind::Unknown(b) => [8, at, wide(b), 0],
-        ErrorKind::UnknownAfterComplex(b) => [9, at, wide(b), 0],
-        ErrorKind::ExpectedInteger => [10, at, 0, 0],
-        ErrorKind::IntegerTooLarge => [11, at, 0, 0],
-        ErrorKind::WrongEndArray => [12, at, 0, 0],
-        ErrorKind::WrongEndContainer(kind) => [13, at, 0, kind_word(kind)],
-        ErrorKind::InvalidIdentifier(kind) => [14, at, 0, kind_word(kind)],
-        ErrorKind::NotAllConsumed => [15, at, 0, 0],
-    }
-}
-
 // The number of a refusal, its place, its byte and the kind word of its container; 0 for what it does not carry.
 pub fn refusal_words(refusal: Refusal) -> [u64; 4]
     ensures { λ r. ⌜ r ≡ answerWords (Reading.Refused refusal) ⌝ }
 {
-    match refusal {
-        Refusal::TextTooLong => [1, 0, 0, 0],
-        Refusal::ListTooShort => [2, 0, 0, 0],
-        Refusal::NotASheet => [3, 0, 0, 0],
-        Refusal::BadName => [4, 0, 0, 0],
-        Refusal::OutputTooShort => [5, 0, 0, 0],
-        Refusal::SizeTooLarge => [6, 0, 0, 0],
-        Refusal::Parse(why, place) => error_words(why, place),
-    }
+    let values = refusal.values();
+    [refusal.number(), values[0], values[1], values[2]]
 }
 
 // Reading from the start: `EncodingBox::from_start_of_str`. The answer is 0 for a tree and else the refusal's words; the rest is handed back.
@@ -1111,7 +1087,7 @@ pub fn from_start_of_str<'a>(
                 *answer = [0, 0, 0, 0];
                 &text[to..]
             } else {
-                *answer = error_words(why, to);
+                *answer = refusal_words(Refusal::Parse(why, to));
                 text
             }
         }

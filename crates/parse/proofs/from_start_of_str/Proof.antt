@@ -68,8 +68,8 @@ part-result-end-2 : tie.Need-part-result-end-2
 part-result-end-2 c = search needs
 
 -- Src/lib.rt:762:27.
-error-words-requires : tie.Need-error-words-requires
-error-words-requires c κs = search needs
+refusal-words-requires-2 : tie.Need-refusal-words-requires-2
+refusal-words-requires-2 c κs = search needs
 
 -- Src/lib.rt:740:1.
 same-length : tie.Need-same-length
@@ -128,7 +128,7 @@ same-length-8 c = search needs
 returns-4 : tie.Need-returns-4
 returns-4 c =
     let r = rw (c .before .before .before .before .why2 .given .1) at (c .before .before .before .before .before .before .before .before .before .before .parse-encoding-or-none .ensures) in
-    let s = start-refused _ _ _ _ _ _ _ r (sym (c .before .before .unknown-digit .ensures) ∙ c .before .if1 .left) (c .error-words .ensures) in
+    let s = start-refused _ _ _ _ _ _ _ r (sym (c .before .before .unknown-digit .ensures) ∙ c .before .if1 .left) (c .refusal-words2 .ensures) in
     (s .0, (end-whole _, s .1))
 
 pub from-start-of-str-spec : {M : Type 1} → statement M
@@ -148,7 +148,7 @@ from-start-of-str-spec =
     sub-result-2
     part-result-start-2
     part-result-end-2
-    error-words-requires
+    refusal-words-requires-2
     same-length
     same-length-2
     returns
