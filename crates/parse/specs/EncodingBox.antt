@@ -12,7 +12,6 @@ use Rattle.kinds.specs.Refusal as R
 use Rattle.kinds.specs.Sheet.{headerWords, sheetOf, namesOf}
 use Rattle.kinds.specs.Tree.{Trees, end, node}
 use Rattle.kinds.specs.declared.ContainerKind.{ContainerKind}
-use Rattle.kinds.specs.declared.ContainerKind.the-variants.{Struct, Union}
 use Rattle.kinds.specs.declared.Refusal.{Refusal}
 use Rattle.kinds.specs.declared.Refusal.the-variants.{TextTooLong, ListTooShort, Parse}
 use Rattle.parse.specs.declared.Reading.{Reading}
@@ -132,8 +131,7 @@ pub record EndOf (text part : RefT (List ℕ)) : Type 0 where
 
 -- The kind word of a container.
 abbrev pub kindWord : ContainerKind → ℕ
-kindWord Struct = 29
-kindWord Union = 30
+kindWord k = R.containerWord (some k)
 
 -- 0 for a tree, else the refusal's number; its place; its byte; the kind word of its container; 0 for what it does not carry.
 abbrev pub answerWords : Reading → List ℕ

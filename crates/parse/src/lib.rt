@@ -14,7 +14,7 @@ ghost use Rattle.kinds.specs.Container.{sameContainer};
 ghost use Rattle.kinds.specs.Sheet.{headerWords};
 ghost use Rattle.kinds.specs.Parse.{unknownDigit, maxU64, parseNumber, parseComplex, parseObject, parseQuoted, parseBits, parseName, stripLeadingQualifiers, maxU8};
 ghost use Rattle.parse.specs.Digits.{afterDigits};
-ghost use Rattle.parse.specs.EncodingBox.{used, kindWord, answerWords, fromStrAnswer, fromStrWords, fromStrNames, fromStartAnswer, fromStartWords, fromStartNames, fromStartRest, EndOf};
+ghost use Rattle.parse.specs.EncodingBox.{used, answerWords, fromStrAnswer, fromStrWords, fromStrNames, fromStartAnswer, fromStartWords, fromStartNames, fromStartRest, EndOf};
 ghost use Rattle.parse.specs.Out.{leafOut, leafWords, bitsOut, bitsWords, After, AfterItems, holdOut, holdWords, isIndirection, indirectionWord, itemOut, itemWords, containOut, containWords, endOut, noneUnder, closed, cleared, headed, noneSheet, codeSheet, Fits, encodedOut, encodedWords, encodedNames};
 ghost use Rattle.parse.specs.Room.{slack};
 ghost use Rattle.parse.specs.Skip.{leafSkipped, bitsSkipped, heldSkipped, itemSkipped, containedSkipped, endSkipped, SimpleSkips, SimpleSkipReady, Skips, SkipsItems, OpensAt, SkippedFieldsIs};
@@ -349,15 +349,6 @@ fn put_name(text: &[u8], at: usize, kind: ContainerKind, names: &mut [u8], m: us
     }
 }
 
-fn kind_word(kind: ContainerKind) -> u64
-    ensures { λ r. ⌜ r ≡ kindWord kind ⌝ }
-{
-    match kind {
-        ContainerKind::Struct => 29,
-        ContainerKind::Union => 30,
-    }
-}
-
 fn same_container(a: ContainerKind, b: ContainerKind) -> bool
     ensures { λ r. ⌜ r ≡ sameContainer a b ⌝ }
 {
@@ -501,7 +492,7 @@ fn put_container(
             put_node(
                 words,
                 n,
-                kind_word(kind),
+                kind.kind(),
                 m as u64,
                 (named - m) as u64,
                 (k - n) as u64,

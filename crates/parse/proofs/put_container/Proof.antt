@@ -6,8 +6,8 @@ use Rattle.parse.proofs.put_container.Tie as tie
 enum-known-i : tie.Need-enum-known-i
 enum-known-i c = search needs
 
-kind-word-requires : tie.Need-kind-word-requires
-kind-word-requires c κs = search needs
+kind-requires : tie.Need-kind-requires
+kind-requires c κs = search needs
 
 sub-put-node : tie.Need-sub-put-node
 sub-put-node c = search needs
@@ -25,7 +25,7 @@ same-length : tie.Need-same-length
 same-length c = search needs
 
 returns : tie.Need-returns
-returns c = rw (c .before .before .before .before .before .before .i .given .1) (refl, c .before .before .put-node .ensures ∙ rw (c .before .before .before .kind-word .ensures) refl)
+returns c = rw (c .before .before .before .before .before .before .i .given .1) (refl, c .before .before .put-node .ensures ∙ rw (c .before .before .before .kind .ensures) refl)
 
 returns-2 : tie.Need-returns-2
 returns-2 c = rw (c .before .i2 .given .1) (refl, refl)
@@ -35,7 +35,7 @@ put-container-spec =
     tie.close
     (tie.spec
     enum-known-i
-    kind-word-requires
+    kind-requires
     sub-put-node
     sub-put-node-2
     put-node-requires
