@@ -8,7 +8,7 @@ use borrow.Author.Tests.{le-leb, leb-true, leb-false, ne-eqb, eqb-true}
 use lib.ListN.{length, take, drop, List·getD-eq-default}
 use lib.Dec.{leb, eqb}
 use Rattle.kinds.proofs.SheetLaws.{arity-low, nests-step, trees-step}
-use Rattle.kinds.proofs.NodeLaws.{node-arity, node-child, node-inner, child-count, first-some, first-within, first-node, other-trees, no-trees, walk-inner, walk-rest}
+use Rattle.kinds.proofs.NodeLaws.{node-arity, node-child, node-inner, child-count, first-some, first-within, first-node, other-trees, held-trees, no-trees, walk-inner, walk-rest}
 use Rattle.kinds.proofs.TableLaws.{everyBelow, passBelow, same-bytes}
 use Rattle.kinds.specs.Byte.{among, sameBytes}
 use Rattle.kinds.specs.Container.{prefixByte}
@@ -125,20 +125,6 @@ module _ (names w : List ℕ) (here v : NestingLevel) (s : List ℕ) (n at : ℕ
   resume-end : n ≤ 0 → resume here v (trees names w n at) s ≡ remaining s
   unfolding resume
   resume-end p = ap (λ (x : Trees). resume here v x s) (no-trees names w n at p)
-
--- The nodes after one that has one child: the child, and the trees after it.
-held-trees : (w : List ℕ) (at n : ℕ) → TreesAt w at n → 0 < n → 25 ≤ kindAt w at → kindAt w at ≤ 28 → TreesAt w (at + 4) (n - 1)
-held-trees w at n h p lo hi =
-    let f = first-node w at n h p in
-    let d = node-child w at f lo hi in
-    let c = child-count w at f lo hi in
-    let q = first-within w at n h p in
-    let o = other-trees w at n h p in
-    record {
-      room = let r = h .room in omega arith;
-      nested = nests-step w (n - 1) (at + 4) (d .some-node) (omega arith)
-          ∙ rw (node-arity w (at + 4) d, node-inner w (at + 4) d .nested) (ap₂ (nests w) (omega arith) (omega arith) ∙ o .nested);
-    }
 
 pub leaf-count : (w : List ℕ) (at : ℕ) → NodeAt w at → kindAt w at < 25 → countAt w at ≡ 1
 leaf-count w at h p = eqb-true (countAt w at) 1 (sym (arity-low (kindAt w at) (countAt w at) (countAt w (at + 4)) p) ∙ node-arity w at h)

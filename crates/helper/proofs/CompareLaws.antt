@@ -20,7 +20,7 @@ use Rattle.kinds.specs.declared.Fields.the-variants.{Included, Dropped}
 use Rattle.kinds.specs.declared.NestingLevel.{NestingLevel}
 use Rattle.kinds.specs.declared.NestingLevel.the-variants.{Top, Within, Bottom}
 use Rattle.kinds.proofs.SheetLaws.{both-left, arity-low, arity-high, nests-step, nests-none, trees-step}
-use Rattle.kinds.proofs.NodeLaws.{node-arity, node-child, node-inner, child-count, first-some, first-within, first-node, other-trees, label-primitive, label-struct, label-union, by-kind, kind-label, container-label, no-trees, some-trees, walk-here, walk-inner, walk-rest}
+use Rattle.kinds.proofs.NodeLaws.{node-arity, node-child, node-inner, child-count, first-some, first-within, first-node, other-trees, label-primitive, label-struct, label-union, by-kind, kind-label, container-label, no-trees, some-trees, walk-here, walk-inner, walk-rest, held-trees}
 use Rattle.helper.specs.Measure.{compareFields, shownCount, levelAfter}
 use Rattle.helper.proofs.NodeSizeLaws.{included, dropped}
 
@@ -148,17 +148,6 @@ module _ (w : List ℕ) (at n : ℕ) (h : TreesAt w at n) (p : 0 < n) (plain : i
     held-arity : arity (kindAt w (at + 4)) (countAt w (at + 4)) (countAt w (at + 4 + 4)) ≡ true
     held-arity = node-arity w (at + 4) held
 
-    pub held-trees : TreesAt w (at + 4) (n - 1)
-    held-trees =
-        let c = held-count in
-        let q = first-within w at n h p in
-        let o = other-trees w at n h p in
-        record {
-          room = let r = h .room in omega arith;
-          nested = nests-step w (n - 1) (at + 4) (held .some-node) (omega arith)
-              ∙ rw (held-arity, node-inner w (at + 4) held .nested) (ap₂ (nests w) (omega arith) (omega arith) ∙ o .nested);
-        }
-
     -- the trees from the held one on have those after the node at their end
     pub held-then : (s : List ℕ) → trees s w (n - 1) (at + 4) ≡ node (labelAt s w (at + 4)) (trees s w (countAt w (at + 4) - 1) (at + 4 + 4)) (trees s w (n - countAt w at) (at + 4 * countAt w at))
     held-then s =
@@ -183,7 +172,7 @@ module _ (w : List ℕ) (at n : ℕ) (h : TreesAt w at n) (p : 0 < n) (plain : i
       }
 
       go : (t : Bool) → leb 25 (kindAt w at) ≡ t → (u : Bool) → leb (kindAt w at) 28 ≡ u → TreesAt w (at + 4) (n - 1)
-      go true e true d = held-trees (leb-true 25 (kindAt w at) e) (leb-true (kindAt w at) 28 d)
+      go true e true d = held-trees w at n h p (leb-true 25 (kindAt w at) e) (leb-true (kindAt w at) 28 d)
       go true e false d = alone (leaf-count .1 (leb-false (kindAt w at) 28 d))
       go false e u d = alone (leaf-count .0 (leb-false 25 (kindAt w at) e))
 

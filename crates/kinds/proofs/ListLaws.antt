@@ -18,6 +18,10 @@ unread-end s i h = none (drop i s) (simp length-drop (omega arith))
     none [] e = refl
     none (b ∷ t) e = absurd (omega arith)
 
+-- The part from a place to the end.
+pub part-rest : (s : List ℕ) (k : ℕ) → take (length s - k) (drop k s) ≡ drop k s
+part-rest s k = let e = length-drop k s in take-all (length s - k) (drop k s) (omega arith)
+
 -- The part from the start on, as `&s[0..]` lends it.
 pub whole : (s : List ℕ) → take (length s - 0) s ≡ s
-whole s = take-all (length s - 0) s (omega arith)
+whole s = part-rest s 0

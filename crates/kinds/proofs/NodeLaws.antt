@@ -1,7 +1,7 @@
 -- Whole subtrees among the node words of a sheet, and the label of each kind of node.
 use Prim.Native.Nat.{ℕ, zero, suc, _+_, _-_, _*_, _≤_, _<_}
 use native.Mathlib.Omega.{arith}
-use mathlib.Core.Path.{_≡_, refl, ap, sym, _∙_, subst}
+use mathlib.Core.Path.{_≡_, refl, ap, ap₂, sym, _∙_, subst}
 use mathlib.Core.List.{List, [], _∷_}
 use mathlib.Core.Bool.{Bool, true, false, cond, _&&_, _||_, false≢true}
 use borrow.Author.Tests.{le-leb, lt-leb, leb-true, leb-false, eq-eqb, ne-eqb, eqb-true, eqb-false}
@@ -215,6 +215,20 @@ packed-walk w m (suc n) at s e le h zero p =
     })
 packed-walk w m (suc n) at s e le h (suc i) p =
     subst (KindAndName w m) (omega arith) (packed-walk w m n (at + 4) (nextName (kindAt w at) (secondAt w at) s) e le (subst (λ (j : ℕ). packed w j (at + 4) (nextName (kindAt w at) (secondAt w at) s) e ≡ true) (omega arith) (packed-rest w (suc n) at s e (omega arith) h)) i (omega arith))
+
+-- A node with one child is followed by that child: what it holds and the trees after it are trees side by side.
+pub held-trees : (w : List ℕ) (at n : ℕ) → TreesAt w at n → 0 < n → 25 ≤ kindAt w at → kindAt w at ≤ 28 → TreesAt w (at + 4) (n - 1)
+held-trees w at n h p lo hi =
+    let f = first-node w at n h p in
+    let d = node-child w at f lo hi in
+    let c = child-count w at f lo hi in
+    let q = first-within w at n h p in
+    let o = other-trees w at n h p in
+    record {
+      room = let r = h .room in omega arith;
+      nested = nests-step w (n - 1) (at + 4) (d .some-node) (omega arith)
+          ∙ rw (node-arity w (at + 4) d, node-inner w (at + 4) d .nested) (ap₂ (nests w) (omega arith) (omega arith) ∙ o .nested);
+    }
 
 -- What a sheet is.
 pub record SheetSays (words names : List ℕ) : Type 0 where

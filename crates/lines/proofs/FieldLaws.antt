@@ -6,7 +6,7 @@ use native.Mathlib.Omega.{arith}
 use lib.ListN.{length, take, drop, getD, length-drop}
 use lib.Seq.{take-all}
 use borrow.Author.Tests.{eq-eqb, ne-eqb}
-use Rattle.kinds.proofs.ListLaws.{unread, unread-end}
+use Rattle.kinds.proofs.ListLaws.{unread, unread-end, part-rest}
 use Rattle.lines.specs.Field.{until}
 
 pub until-here : (b : ℕ) (s : List ℕ) (i : ℕ) → i < length s → getD s i 0 ≡ b → until b (drop i s) ≡ 0
@@ -22,9 +22,6 @@ unfolding until
 until-end b s i h = ap (until b) (unread-end s i h)
 
 -- ---- The part of a list from a place on.
-
-pub part-rest : (s : List ℕ) (i : ℕ) → take (length s - i) (drop i s) ≡ drop i s
-part-rest s i = take-all (length s - i) (drop i s) (simp length-drop (omega arith))
 
 pub rest-none : (s : List ℕ) (i : ℕ) → length s ≤ i → take (length s - i) (drop i s) ≡ drop (i + 1) s
 rest-none s i h = part-rest s i ∙ unread-end s i h ∙ sym (unread-end s (i + 1) (omega arith))

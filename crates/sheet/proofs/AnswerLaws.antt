@@ -83,10 +83,6 @@ module _ (s w : List ℕ) where
         go true x m more = more m ∙ and-assoc g (goodName (labelAt s w at)) (namesGood s w n (at + 4))
         go false x m more = let z : _≡_ {A = ℕ} 0 1 = cc in absurd (omega arith)
 
--- the part of a list from a place to its end
-pub part-rest : (s : List ℕ) (k : ℕ) → take (length s - k) (drop k s) ≡ drop k s
-part-rest s k = let e = length-drop k s in take-all (length s - k) (drop k s) (omega arith)
-
 module _ (words names : List ℕ) where
   pub checked-header : header words (length names) ≡ false → checked words names ≡ NotASheet
   unfolding checked isSheet

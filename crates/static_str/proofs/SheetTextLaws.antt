@@ -7,6 +7,7 @@ use mathlib.Core.Bool.{true}
 use borrow.Author.Tests.{eqb-true, ne-eqb}
 use lib.ListN.{length, getD, take, drop}
 use lib.Seq.{getD-drop}
+use Rattle.kinds.proofs.ListLaws.{part-rest}
 use Rattle.kinds.specs.Print.{print}
 use Rattle.kinds.specs.Primitive.{code}
 use Rattle.kinds.specs.Sheet.{kindAt, firstAt, secondAt, countAt, isSheet, nodeWords, treeOf, trees, nests}
@@ -20,7 +21,6 @@ use Rattle.kinds.proofs.NodeLaws.{first-node, node-arity, sheet-says, packed-wa
 use Rattle.sheet.specs.Check.{checked}
 use Rattle.sheet.specs.declared.Checked.{Checked}
 use Rattle.sheet.specs.declared.Checked.the-variants.{NotASheet, BadName, Good}
-use Rattle.sheet.proofs.AnswerLaws.{part-rest}
 use Rattle.sheet.proofs.CheckLaws.{good-says}
 use Rattle.static_str.specs.declared.Printed.the-variants.{Refused, Bytes}
 use Rattle.static_str.specs.Outcome.{fitted, placed, textOf, orRefused, orKept, encodingLen, encodingArray, encodingOutput}

@@ -1,8 +1,7 @@
 use mathlib.Core.Path.{sym, ap₂, _∙_}
 use native.Mathlib.Omega.{arith}
-use Rattle.kinds.proofs.ListLaws.{whole}
+use Rattle.kinds.proofs.ListLaws.{whole, part-rest}
 use Rattle.sheet.specs.declared.Checked.the-variants.{NotASheet, BadName}
-use Rattle.sheet.proofs.AnswerLaws.{part-rest}
 use Rattle.helper.specs.Measure.{bothChecked}
 use Rattle.helper.proofs.AnswerLaws.{both-room, both-walk, compare-checked, compare-decided, compare-code}
 use borrow.Author.Needs.{needs}

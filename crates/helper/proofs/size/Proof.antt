@@ -1,10 +1,10 @@
 use borrow.Author.Needs.{needs}
+use Rattle.kinds.proofs.ListLaws.{part-rest}
 use Rattle.helper.proofs.size.Statement.{statement}
 use Rattle.helper.proofs.size.Tie as tie
 use mathlib.Core.Path.{sym, _∙_}
 use native.Mathlib.Omega.{arith}
 use Rattle.sheet.specs.declared.Checked.the-variants.{NotASheet, BadName}
-use Rattle.sheet.proofs.AnswerLaws.{part-rest}
 use Rattle.helper.proofs.AnswerLaws.{sheet-room, node-in, size-checked, size-measured}
 
 check-requires : tie.Need-check-requires

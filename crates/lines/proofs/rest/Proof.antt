@@ -2,7 +2,8 @@
 use Prim.Native.Nat.{ℕ, _+_}
 use mathlib.Core.Path.{ap, _∙_}
 use lib.ListN.{drop}
-use Rattle.lines.proofs.FieldLaws.{part-rest, rest-none}
+use Rattle.kinds.proofs.ListLaws.{part-rest}
+use Rattle.lines.proofs.FieldLaws.{rest-none}
 use borrow.Author.Needs.{needs}
 use Rattle.lines.proofs.rest.Statement.{statement}
 use Rattle.lines.proofs.rest.Tie as tie

@@ -1,9 +1,9 @@
 use native.Mathlib.Omega.{arith}
 use mathlib.Core.Path.{sym, _∙_}
-use Rattle.kinds.proofs.ListLaws.{whole}
+use Rattle.kinds.proofs.ListLaws.{part-rest, whole}
 use Rattle.kinds.proofs.SheetLaws.{header-says}
 use Rattle.sheet.proofs.TestLaws.{passed, failed}
-use Rattle.sheet.proofs.AnswerLaws.{part-rest, checked-header, checked-count, part-room, checked-pass, checked-code}
+use Rattle.sheet.proofs.AnswerLaws.{checked-header, checked-count, part-room, checked-pass, checked-code}
 use borrow.Author.Needs.{needs}
 use Rattle.sheet.proofs.check.Statement.{statement}
 use Rattle.sheet.proofs.check.Tie as tie
