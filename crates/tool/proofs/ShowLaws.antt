@@ -9,10 +9,30 @@ use lib.Dec.{eqb}
 use lib.ListN.{take, drop, length, getD}
 use lib.Seq.{take-nil}
 use borrow.Author.Tests.{le-leb, lt-leb, lt-ltb, le-ltb, eq-eqb, ne-eqb, eqb-false}
-use Rattle.kinds.proofs.ListLaws.{unread-end}
+use Rattle.kinds.proofs.ListLaws.{unread, unread-end}
 use Rattle.lines.specs.Field.{until}
 use Rattle.kinds.specs.Print.{decimal}
-use Rattle.tool.specs.Show.{shownByte, times, holders, depthOf, lineOf, countText, kindNames, valuesText, rightText, nodeText}
+use Rattle.tool.specs.Show.{countOf, nodesShown, shownByte, times, holders, depthOf, lineOf, countText, kindNames, valuesText, rightText, nodeText}
+
+pub counts : (b : ℕ) (s : List ℕ) (i : ℕ) → i < length s → getD s i 0 ≡ b → countOf b (drop i s) ≡ suc (countOf b (drop (i + 1) s))
+unfolding countOf
+counts b s i h e = ap (countOf b) (unread s i h) ∙ rw (eq-eqb (getD s i 0) b e)
+
+pub counts-not : (b : ℕ) (s : List ℕ) (i : ℕ) → i < length s → (getD s i 0 ≡ b → ⊥) → countOf b (drop i s) ≡ countOf b (drop (i + 1) s)
+unfolding countOf
+counts-not b s i h e = ap (countOf b) (unread s i h) ∙ rw (ne-eqb (getD s i 0) b e)
+
+pub counts-end : (b : ℕ) (s : List ℕ) (i : ℕ) → length s ≤ i → countOf b (drop i s) ≡ 0
+unfolding countOf
+counts-end b s i h = ap (countOf b) (unread-end s i h)
+
+pub nodes-many : (words : List ℕ) (n : ℕ) → n ≡ getD words 0 0 → 2001 < n → 2001 ≡ nodesShown words
+unfolding nodesShown
+nodes-many words n e h = sym (rw (sym e, lt-ltb 2001 n h))
+
+pub nodes-few : (words : List ℕ) (n : ℕ) → n ≡ getD words 0 0 → n ≤ 2001 → n ≡ nodesShown words
+unfolding nodesShown
+nodes-few words n e h = sym (rw (sym e, le-ltb 2001 n h))
 
 pub dot-low : (b : ℕ) → b < 32 → 46 ∷ [] ≡ shownByte b
 unfolding shownByte

@@ -9,6 +9,15 @@ use Rattle.kinds.specs.Print.{decimal}
 use Rattle.lines.specs.Field.{until}
 use Rattle.lines.specs.Put.{each}
 
+-- How often a byte stands in a text.
+unfoldable pub countOf : ℕ → List ℕ → ℕ
+countOf b [] = 0
+countOf b (x ∷ s) = cond (eqb x b) (suc (countOf b s)) (countOf b s)
+
+-- The count of nodes in a sheet, or 2,001 where its header has more.
+unfoldable pub nodesShown : List ℕ → ℕ
+nodesShown words = cond (ltb 2001 (getD words 0 0)) 2001 (getD words 0 0)
+
 -- A byte that is no printable ASCII shows as a dot.
 unfoldable pub shownByte : ℕ → List ℕ
 shownByte b = cond (leb (byte " ") b && leb b (byte "~")) b (byte ".") ∷ []

@@ -3,7 +3,7 @@ ghost use mathlib.Core.Path.{_≡_};
 ghost use mathlib.Core.List.{[], _∷_};
 ghost use lib.ListN.{take, drop, getD};
 ghost use Rattle.lines.specs.Put.{Put};
-ghost use Rattle.tool.specs.Show.{shownByte, shownText, times, depthOf, lineOf, countText, kindNames, valuesText, rightText, nodeText};
+ghost use Rattle.tool.specs.Show.{countOf, nodesShown, shownByte, shownText, times, depthOf, lineOf, countText, kindNames, valuesText, rightText, nodeText};
 
 // The word at `i`, or 0 beyond the end.
 fn word_at(words: &[u64], i: usize) -> u64
@@ -26,7 +26,9 @@ fn part(s: &[u8], from: usize, n: usize) -> &[u8]
 }
 
 // How often a byte stands in the text.
-pub fn count_of(s: &[u8], b: u8) -> usize {
+pub fn count_of(s: &[u8], b: u8) -> usize
+    ensures { λ r. ⌜ r ≡ countOf b (now (s .entry)) ⌝ }
+{
     let mut n = 0;
     let mut i = 0;
     while i < s.len() {
@@ -90,7 +92,9 @@ pub fn put_count(out: &mut [u8], at: usize, n: u64, unit: &[u8]) -> usize
 }
 
 // The count of nodes in a sheet, of which there are at most 2,001.
-pub fn node_count(words: &[u64]) -> u16 {
+pub fn node_count(words: &[u64]) -> u16
+    ensures { λ r. ⌜ r ≡ nodesShown (now (words .entry)) ⌝ }
+{
     let n = word_at(words, 0);
     if 2001 < n {
         return 2001;
