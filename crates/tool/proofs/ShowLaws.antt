@@ -9,10 +9,30 @@ use lib.Dec.{eqb}
 use lib.ListN.{take, drop, length, getD}
 use lib.Seq.{take-nil}
 use borrow.Author.Tests.{le-leb, lt-leb, lt-ltb, le-ltb, eq-eqb, ne-eqb, eqb-false}
-use Rattle.kinds.proofs.ListLaws.{unread-end}
+use Rattle.kinds.proofs.ListLaws.{unread, unread-end}
 use Rattle.lines.specs.Field.{until}
 use Rattle.kinds.specs.Print.{decimal}
-use Rattle.tool.specs.Show.{shownByte, times, holders, depthOf, lineOf, countText, kindNames, valuesText, rightText, nodeText}
+use Rattle.tool.specs.Show.{countOf, nodesShown, shownByte, times, holders, depthOf, lineOf, countText, kindNames, valuesText, rightText, nodeText, byteText, containerText, shownText, shownOrCut, markText, reasons, namedText, refusedText}
+
+pub counts : (b : ℕ) (s : List ℕ) (i : ℕ) → i < length s → getD s i 0 ≡ b → countOf b (drop i s) ≡ suc (countOf b (drop (i + 1) s))
+unfolding countOf
+counts b s i h e = ap (countOf b) (unread s i h) ∙ rw (eq-eqb (getD s i 0) b e)
+
+pub counts-not : (b : ℕ) (s : List ℕ) (i : ℕ) → i < length s → (getD s i 0 ≡ b → ⊥) → countOf b (drop i s) ≡ countOf b (drop (i + 1) s)
+unfolding countOf
+counts-not b s i h e = ap (countOf b) (unread s i h) ∙ rw (ne-eqb (getD s i 0) b e)
+
+pub counts-end : (b : ℕ) (s : List ℕ) (i : ℕ) → length s ≤ i → countOf b (drop i s) ≡ 0
+unfolding countOf
+counts-end b s i h = ap (countOf b) (unread-end s i h)
+
+pub nodes-many : (words : List ℕ) (n : ℕ) → n ≡ getD words 0 0 → 2001 < n → 2001 ≡ nodesShown words
+unfolding nodesShown
+nodes-many words n e h = sym (rw (sym e, lt-ltb 2001 n h))
+
+pub nodes-few : (words : List ℕ) (n : ℕ) → n ≡ getD words 0 0 → n ≤ 2001 → n ≡ nodesShown words
+unfolding nodesShown
+nodes-few words n e h = sym (rw (sym e, le-ltb 2001 n h))
 
 pub dot-low : (b : ℕ) → b < 32 → 46 ∷ [] ≡ shownByte b
 unfolding shownByte
@@ -119,3 +139,71 @@ right-wide n widest d w p q h =
 pub node-is : (words names : List ℕ) (i last d k m n : ℕ) → d ≡ depthOf words i → k ≡ getD words (4 * i + 4) 0 → m ≡ getD words (4 * i + 5) 0 → n ≡ getD words (4 * i + 6) 0 → rightText i last ++ ((32 ∷ []) ++ (times d (32 ∷ 32 ∷ []) ++ (lineOf k kindNames ++ valuesText names k m n))) ≡ nodeText words names i last
 unfolding nodeText
 node-is words names i last d k m n p q r s = rw (p, q, r, s)
+
+-- ---- The texts of a refusal by cases.
+
+either : (n j k : ℕ) → j ≤ n → n ≤ k → k ≡ j + 1 → (eqb n j || eqb n k) ≡ true
+either n j k h i s = go (eqb n j) refl
+  where
+    go : (t : Bool) → eqb n j ≡ t → (t || eqb n k) ≡ true
+    go true e = refl
+    go false e = let r = eqb-false n j e in eq-eqb n k (omega (arith, r))
+
+neither : (n j k : ℕ) → (n ≡ j → ⊥) → (n ≡ k → ⊥) → (eqb n j || eqb n k) ≡ false
+neither n j k a b = rw (ne-eqb n j a, ne-eqb n k b)
+
+pub byte-itself : (b : ℕ) → 32 < b → b < 127 → b ∷ [] ≡ byteText b
+unfolding byteText
+byte-itself b h k = sym (rw (lt-ltb 32 b h, lt-ltb b 127 k))
+
+pub byte-low : (b : ℕ) → b ≤ 32 → (98 ∷ 121 ∷ 116 ∷ 101 ∷ 32 ∷ []) ++ decimal b ≡ byteText b
+unfolding byteText
+byte-low b h = sym (rw (le-ltb 32 b h))
+
+pub byte-high : (b : ℕ) → 32 < b → 127 ≤ b → (98 ∷ 121 ∷ 116 ∷ 101 ∷ 32 ∷ []) ++ decimal b ≡ byteText b
+unfolding byteText
+byte-high b h k = sym (rw (lt-ltb 32 b h, le-ltb b 127 k))
+
+pub container-union : (kind : ℕ) → kind ≡ 30 → (117 ∷ 110 ∷ 105 ∷ 111 ∷ 110 ∷ []) ≡ containerText kind
+unfolding containerText
+container-union kind e = sym (rw (eq-eqb kind 30 e))
+
+pub container-struct : (kind : ℕ) → (kind ≡ 30 → ⊥) → (115 ∷ 116 ∷ 114 ∷ 117 ∷ 99 ∷ 116 ∷ []) ≡ containerText kind
+unfolding containerText
+container-struct kind e = sym (rw (ne-eqb kind 30 e))
+
+pub text-whole : (text : List ℕ) → length text ≤ 2000 → shownText text ≡ shownOrCut text
+unfolding shownOrCut
+text-whole text h = sym (rw (le-leb (length text) 2000 h))
+
+pub text-cut : (text front : List ℕ) → front ≡ take 60 text → 2000 < length text → shownText front ++ (46 ∷ 46 ∷ 46 ∷ []) ≡ shownOrCut text
+unfolding shownOrCut
+text-cut text front e h = rw e (sym (rw (lt-leb (length text) 2000 h)))
+
+pub mark-none : (number place : ℕ) → number < 7 → [] ≡ markText number place
+unfolding markText
+mark-none number place h = sym (rw (lt-ltb number 7 h))
+
+pub mark-under : (number place : ℕ) → 7 ≤ number → (10 ∷ []) ++ (times place (32 ∷ []) ++ (94 ∷ [])) ≡ markText number place
+unfolding markText
+mark-under number place h = sym (rw (le-ltb number 7 h))
+
+module _ (number b container : ℕ) where
+  pub named-byte : 8 ≤ number → number ≤ 9 → byteText b ≡ namedText number b container
+  unfolding namedText
+  named-byte h k = sym (rw (either number 8 9 h k refl))
+
+  pub named-container : 13 ≤ number → number ≤ 14 → containerText container ≡ namedText number b container
+  unfolding namedText
+  named-container h k =
+      let i : number ≡ 8 → ⊥ = λ e. absurd (omega (arith, e)) in
+      let j : number ≡ 9 → ⊥ = λ e. absurd (omega (arith, e)) in
+      sym (rw (neither number 8 9 i j, either number 13 14 h k refl))
+
+  pub named-none : (number ≡ 8 → ⊥) → (number ≡ 9 → ⊥) → (number ≡ 13 → ⊥) → (number ≡ 14 → ⊥) → [] ≡ namedText number b container
+  unfolding namedText
+  named-none h i j k = sym (rw (neither number 8 9 h i, neither number 13 14 j k))
+
+pub refused-is : (text why : List ℕ) → shownOrCut text ++ (markText (getD why 0 0) (getD why 1 0) ++ ((10 ∷ 114 ∷ 101 ∷ 102 ∷ 117 ∷ 115 ∷ 101 ∷ 100 ∷ 32 ∷ 40 ∷ []) ++ (decimal (getD why 0 0) ++ ((41 ∷ 58 ∷ 32 ∷ []) ++ (lineOf (getD why 0 0) reasons ++ namedText (getD why 0 0) (getD why 2 0) (getD why 3 0)))))) ≡ refusedText text why
+unfolding refusedText
+refused-is text why = refl

@@ -9,6 +9,15 @@ use Rattle.kinds.specs.Print.{decimal}
 use Rattle.lines.specs.Field.{until}
 use Rattle.lines.specs.Put.{each}
 
+-- How often a byte stands in a text.
+unfoldable pub countOf : ℕ → List ℕ → ℕ
+countOf b [] = 0
+countOf b (x ∷ s) = cond (eqb x b) (suc (countOf b s)) (countOf b s)
+
+-- The count of nodes in a sheet, or 2,001 where its header has more.
+unfoldable pub nodesShown : List ℕ → ℕ
+nodesShown words = cond (ltb 2001 (getD words 0 0)) 2001 (getD words 0 0)
+
 -- A byte that is no printable ASCII shows as a dot.
 unfoldable pub shownByte : ℕ → List ℕ
 shownByte b = cond (leb (byte " ") b && leb b (byte "~")) b (byte ".") ∷ []
@@ -63,3 +72,39 @@ nodeText words names i last =
     ++ (times (depthOf words i) (bytes "  ")
     ++ (lineOf (getD words (4 * i + 4) 0) kindNames
     ++ valuesText names (getD words (4 * i + 4) 0) (getD words (4 * i + 5) 0) (getD words (4 * i + 6) 0))))
+
+-- The byte that a refusal names: itself, or its number where it does not show.
+unfoldable pub byteText : ℕ → List ℕ
+byteText b = cond (ltb 32 b && ltb b 127) (b ∷ []) (bytes "byte " ++ decimal b)
+
+unfoldable pub containerText : ℕ → List ℕ
+containerText kind = cond (eqb kind 30) (bytes "union") (bytes "struct")
+
+-- A text of more than 2,000 bytes shows its first 60.
+unfoldable pub shownOrCut : List ℕ → List ℕ
+shownOrCut text = cond (leb (length text) 2000) (shownText text) (shownText (take 60 text) ++ bytes "...")
+
+-- A line with a mark under the place; a refusal up to 6 has no place.
+unfoldable pub markText : ℕ → ℕ → List ℕ
+markText number place = cond (ltb number 7) [] (bytes "\n" ++ (times place (bytes " ") ++ bytes "^"))
+
+-- Why an input was turned away, a line for each of document 01's numbers.
+unfoldable pub reasons : List ℕ
+reasons = bytes "\nthe text has more than 2,000 bytes\nthe lists are too short for the tree\nthe lists hold no tree\na name is neither ? nor letters, digits and underscores\nthe output is too short for the text\nthe size is above 2^64 - 1 bytes\nthe text ends where another byte must stand\nno type starts with \nf, d or D must follow j, not \na digit must stand here\na number is above 2^64 - 1, or a bitfield's size above 255\nno ] follows the array's item\nthe text ends inside the \nneither ? nor letters, digits and underscores name the \nbytes remain after the type"
+
+-- The byte or the container that a refusal names.
+unfoldable pub namedText : ℕ → ℕ → ℕ → List ℕ
+namedText number b container =
+    cond (eqb number 8 || eqb number 9) (byteText b)
+    (cond (eqb number 13 || eqb number 14) (containerText container) [])
+
+-- The text, a mark under the refusal's place if it has one, and the reason.
+unfoldable pub refusedText : List ℕ → List ℕ → List ℕ
+refusedText text why =
+    shownOrCut text
+    ++ (markText (getD why 0 0) (getD why 1 0)
+    ++ (bytes "\nrefused ("
+    ++ (decimal (getD why 0 0)
+    ++ (bytes "): "
+    ++ (lineOf (getD why 0 0) reasons
+    ++ namedText (getD why 0 0) (getD why 2 0) (getD why 3 0))))))

@@ -3,7 +3,7 @@ ghost use mathlib.Core.Path.{_≡_};
 ghost use mathlib.Core.List.{[], _∷_};
 ghost use lib.ListN.{take, drop, getD};
 ghost use Rattle.lines.specs.Put.{Put};
-ghost use Rattle.tool.specs.Show.{shownByte, shownText, times, depthOf, lineOf, countText, kindNames, valuesText, rightText, nodeText};
+ghost use Rattle.tool.specs.Show.{countOf, nodesShown, shownByte, shownText, times, depthOf, lineOf, countText, kindNames, valuesText, rightText, nodeText, byteText, containerText, shownOrCut, markText, reasons, namedText, refusedText};
 
 // The word at `i`, or 0 beyond the end.
 fn word_at(words: &[u64], i: usize) -> u64
@@ -26,7 +26,9 @@ fn part(s: &[u8], from: usize, n: usize) -> &[u8]
 }
 
 // How often a byte stands in the text.
-pub fn count_of(s: &[u8], b: u8) -> usize {
+pub fn count_of(s: &[u8], b: u8) -> usize
+    ensures { λ r. ⌜ r ≡ countOf b (now (s .entry)) ⌝ }
+{
     let mut n = 0;
     let mut i = 0;
     while i < s.len() {
@@ -90,7 +92,9 @@ pub fn put_count(out: &mut [u8], at: usize, n: u64, unit: &[u8]) -> usize
 }
 
 // The count of nodes in a sheet, of which there are at most 2,001.
-pub fn node_count(words: &[u64]) -> u16 {
+pub fn node_count(words: &[u64]) -> u16
+    ensures { λ r. ⌜ r ≡ nodesShown (now (words .entry)) ⌝ }
+{
     let n = word_at(words, 0);
     if 2001 < n {
         return 2001;
@@ -186,7 +190,9 @@ pub fn put_node(out: &mut [u8], words: &[u64], names: &[u8], i: u16, last: u16) 
 }
 
 // The byte that a refusal names: itself, or its number where it does not show.
-fn put_byte(out: &mut [u8], at: usize, byte: u64) -> usize {
+fn put_byte(out: &mut [u8], at: usize, byte: u64) -> usize
+    ensures { λ r. ⌜ Put (now (out .entry)) at (byteText byte) (now (out .exit)) r ⌝ }
+{
     if 32 < byte && byte < 127 {
         return lines::put_bytes(out, at, &[byte as u8]);
     }
@@ -194,7 +200,9 @@ fn put_byte(out: &mut [u8], at: usize, byte: u64) -> usize {
     lines::put_number(out, to, byte)
 }
 
-fn put_container(out: &mut [u8], at: usize, kind: u64) -> usize {
+fn put_container(out: &mut [u8], at: usize, kind: u64) -> usize
+    ensures { λ r. ⌜ Put (now (out .entry)) at (containerText kind) (now (out .exit)) r ⌝ }
+{
     if kind == 30 {
         return lines::put_bytes(out, at, b"union");
     }
@@ -202,7 +210,9 @@ fn put_container(out: &mut [u8], at: usize, kind: u64) -> usize {
 }
 
 // A text of more than 2,000 bytes shows its first 60.
-fn put_text(out: &mut [u8], at: usize, text: &[u8]) -> usize {
+fn put_text(out: &mut [u8], at: usize, text: &[u8]) -> usize
+    ensures { λ r. ⌜ Put (now (out .entry)) at (shownOrCut (now (text .entry))) (now (out .exit)) r ⌝ }
+{
     if text.len() <= 2000 {
         return put_shown(out, at, text);
     }
@@ -211,7 +221,9 @@ fn put_text(out: &mut [u8], at: usize, text: &[u8]) -> usize {
 }
 
 // A line with a mark under the place; a refusal up to 6 has no place.
-fn put_mark(out: &mut [u8], at: usize, number: u64, place: u64) -> usize {
+fn put_mark(out: &mut [u8], at: usize, number: u64, place: u64) -> usize
+    ensures { λ r. ⌜ Put (now (out .entry)) at (markText number place) (now (out .exit)) r ⌝ }
+{
     if number < 7 {
         return at;
     }
@@ -221,7 +233,9 @@ fn put_mark(out: &mut [u8], at: usize, number: u64, place: u64) -> usize {
 }
 
 // Why an input was turned away, by document 01's number, up to the byte or container that the refusal names.
-fn put_reason(out: &mut [u8], at: usize, number: u64) -> usize {
+fn put_reason(out: &mut [u8], at: usize, number: u64) -> usize
+    ensures { λ r. ⌜ Put (now (out .entry)) at (lineOf number reasons) (now (out .exit)) r ⌝ }
+{
     let table = b"\n\
         the text has more than 2,000 bytes\n\
         the lists are too short for the tree\n\
@@ -242,7 +256,9 @@ fn put_reason(out: &mut [u8], at: usize, number: u64) -> usize {
 }
 
 // The byte or the container that a refusal names.
-fn put_named(out: &mut [u8], at: usize, number: u64, byte: u64, container: u64) -> usize {
+fn put_named(out: &mut [u8], at: usize, number: u64, byte: u64, container: u64) -> usize
+    ensures { λ r. ⌜ Put (now (out .entry)) at (namedText number byte container) (now (out .exit)) r ⌝ }
+{
     match number {
         8 | 9 => put_byte(out, at, byte),
         13 | 14 => put_container(out, at, container),
@@ -251,7 +267,9 @@ fn put_named(out: &mut [u8], at: usize, number: u64, byte: u64, container: u64) 
 }
 
 // The text, a mark under the refusal's place if it has one, and the reason.
-pub fn put_refused(out: &mut [u8], text: &[u8], why: &[u64; 4]) -> usize {
+pub fn put_refused(out: &mut [u8], text: &[u8], why: &[u64; 4]) -> usize
+    ensures { λ r. ⌜ Put (now (out .entry)) 0 (refusedText (now (text .entry)) (now (why .entry))) (now (out .exit)) r ⌝ }
+{
     let shown = put_text(out, 0, text);
     let mark = put_mark(out, shown, why[0], why[1]);
     let to = lines::put_bytes(out, mark, b"\nrefused (");

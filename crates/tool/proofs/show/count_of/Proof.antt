@@ -1,19 +1,22 @@
 -- `tool::show::count_of` meets its contract. Assumes nothing.
-use Prim.Native.Nat.{_≤_, _-_}
+use Prim.Native.Nat.{_+_, _-_, _≤_}
+use mathlib.Core.Path.{_≡_}
 use native.Mathlib.Omega.{arith}
-use lib.ListN.{length}
+use lib.ListN.{length, drop}
 use mathlib.Core.Logic.{⊎-elim}
+use Rattle.tool.specs.Show.{countOf}
+use Rattle.tool.proofs.ShowLaws.{counts, counts-not, counts-end}
 use Rattle.tool.proofs.show.count_of.Statement.{statement}
 use Rattle.tool.proofs.show.count_of.Tie as tie
 
 abbrev Inv-loop : tie.InvT-loop
-Inv-loop s b n₀ i₀ n i = (i ≤ length s) × (n ≤ i)
+Inv-loop s b n₀ i₀ n i = (n + countOf b (drop i s) ≡ countOf b s) × (i ≤ length s) × (n ≤ i)
 
 abbrev μ-loop : tie.MeasureT-loop
 μ-loop s b n₀ i₀ n i = length s - i
 
 loop-holds : tie.Need-loop-holds Inv-loop μ-loop
-loop-holds c = omega arith
+loop-holds c = (omega arith, omega arith, omega arith)
 
 shared-slice-read-if1 : tie.Need-shared-slice-read-if1 Inv-loop μ-loop
 shared-slice-read-if1 c = omega arith
@@ -28,10 +31,17 @@ loop-less : tie.Need-loop-less Inv-loop μ-loop
 loop-less c = omega arith
 
 loop-again : tie.Need-loop-again Inv-loop μ-loop
-loop-again c = ⊎-elim (λ w. omega arith) (λ w. omega arith) (c .if1 .came)
+loop-again c =
+    let a = c .before .before .before .before .args in
+    let l = c .before .before .before .loop in
+    let h = c .before .before .loop-test .taken in
+    ⊎-elim
+    (λ w. let e = counts (a .b) (a .s .now) (l .i) h (w .0 .taken) in let q = l .inv .0 in (omega arith, omega arith, omega arith))
+    (λ w. let e = counts-not (a .b) (a .s .now) (l .i) h (w .0 .left) in let q = l .inv .0 in (omega arith, omega arith, omega arith))
+    (c .if1 .came)
 
 returns : tie.Need-returns Inv-loop μ-loop
-returns c = omega arith
+returns c = let e = counts-end (c .before .before .args .b) (c .before .before .args .s .now) (c .before .loop .i) (c .loop-test .left) in let q = c .before .loop .inv .0 in omega arith
 
 pub count-of-spec : {M : Type 1} → statement M
 count-of-spec =

@@ -1,0 +1,47 @@
+-- `tool::show::put_mark` meets its contract. Assumes nothing.
+use Rattle.lines.proofs.PutLaws.{put-same, put-append, put-none}
+use Rattle.tool.proofs.ShowLaws.{mark-none, mark-under}
+use borrow.Author.Needs.{needs}
+use Rattle.tool.proofs.show.put_mark.Statement.{statement}
+use Rattle.tool.proofs.show.put_mark.Tie as tie
+
+returns : tie.Need-returns
+returns c = put-same (mark-none (c .before .before .args .number) (c .before .before .args .place) (c .if1 .taken)) (put-none _ _)
+
+slice-aggregate-put-bytes : tie.Need-slice-aggregate-put-bytes
+slice-aggregate-put-bytes c = search needs
+
+put-bytes-requires : tie.Need-put-bytes-requires
+put-bytes-requires c κs = search needs
+
+slice-aggregate-put-times : tie.Need-slice-aggregate-put-times
+slice-aggregate-put-times c = search needs
+
+put-times-requires : tie.Need-put-times-requires
+put-times-requires c κs = search needs
+
+slice-aggregate-put-bytes-2 : tie.Need-slice-aggregate-put-bytes-2
+slice-aggregate-put-bytes-2 c = search needs
+
+put-bytes-requires-2 : tie.Need-put-bytes-requires-2
+put-bytes-requires-2 c κs = search needs
+
+same-length : tie.Need-same-length
+same-length c = search needs
+
+returns-2 : tie.Need-returns-2
+returns-2 c = put-same (mark-under (c .before .before .before .before .before .before .before .before .before .before .before .before .before .before .before .before .before .args .number) (c .before .before .before .before .before .before .before .before .before .before .before .before .before .before .before .before .before .args .place) (c .before .before .before .before .before .before .before .before .before .before .before .before .before .before .before .if1 .left)) (put-append _ _ (c .before .before .before .before .before .before .before .before .before .before .before .before .put-bytes .ensures) (put-append _ _ (c .before .before .before .before .before .before .before .put-times .ensures) (c .before .before .put-bytes2 .ensures)))
+
+pub put-mark-spec : {M : Type 1} → statement M
+put-mark-spec =
+    tie.close
+    (tie.spec
+    returns
+    slice-aggregate-put-bytes
+    put-bytes-requires
+    slice-aggregate-put-times
+    put-times-requires
+    slice-aggregate-put-bytes-2
+    put-bytes-requires-2
+    same-length
+    returns-2)

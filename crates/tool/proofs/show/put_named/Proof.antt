@@ -1,0 +1,48 @@
+-- `tool::show::put_named` meets its contract. Assumes nothing.
+use native.Mathlib.Omega.{arith}
+use Rattle.lines.proofs.PutLaws.{put-same, put-none}
+use Rattle.tool.proofs.ShowLaws.{named-byte, named-container, named-none}
+use borrow.Author.Needs.{needs}
+use Rattle.tool.proofs.show.put_named.Statement.{statement}
+use Rattle.tool.proofs.show.put_named.Tie as tie
+
+put-byte-requires : tie.Need-put-byte-requires
+put-byte-requires c κs = search needs
+
+put-container-requires : tie.Need-put-container-requires
+put-container-requires c κs = search needs
+
+same-length : tie.Need-same-length
+same-length c = search needs
+
+returns : tie.Need-returns
+returns c = put-same (named-byte (c .before .before .before .before .before .before .before .args .number) (c .before .before .before .before .before .before .before .args .byte) (c .before .before .before .before .before .before .before .args .container) (omega arith) (omega arith)) (c .before .before .put-byte .ensures)
+
+same-length-2 : tie.Need-same-length-2
+same-length-2 c = search needs
+
+returns-2 : tie.Need-returns-2
+returns-2 c = put-same (named-container (c .before .before .before .before .before .before .before .before .before .args .number) (c .before .before .before .before .before .before .before .before .before .args .byte) (c .before .before .before .before .before .before .before .before .before .args .container) (omega arith) (omega arith)) (c .before .before .put-container .ensures)
+
+returns-3 : tie.Need-returns-3
+returns-3 c = put-same (named-none (c .before .before .args .number) (c .before .before .args .byte) (c .before .before .args .container) (λ e. absurd (omega (arith, e))) (λ e. absurd (omega (arith, e))) (λ e. absurd (omega (arith, e))) (λ e. absurd (omega (arith, e)))) (put-none _ _)
+
+returns-4 : tie.Need-returns-4
+returns-4 c = put-same (named-none (c .before .before .before .before .args .number) (c .before .before .before .before .args .byte) (c .before .before .before .before .args .container) (λ e. absurd (omega (arith, e))) (λ e. absurd (omega (arith, e))) (λ e. absurd (omega (arith, e))) (λ e. absurd (omega (arith, e)))) (put-none _ _)
+
+returns-5 : tie.Need-returns-5
+returns-5 c = put-same (named-none (c .before .before .before .before .before .args .number) (c .before .before .before .before .before .args .byte) (c .before .before .before .before .before .args .container) (λ e. absurd (omega (arith, e))) (λ e. absurd (omega (arith, e))) (λ e. absurd (omega (arith, e))) (λ e. absurd (omega (arith, e)))) (put-none _ _)
+
+pub put-named-spec : {M : Type 1} → statement M
+put-named-spec =
+    tie.close
+    (tie.spec
+    put-byte-requires
+    put-container-requires
+    same-length
+    returns
+    same-length-2
+    returns-2
+    returns-3
+    returns-4
+    returns-5)

@@ -1,0 +1,22 @@
+-- `tool::show::put_reason` meets its contract. Assumes nothing.
+use Rattle.lines.proofs.PutLaws.{put-same}
+use Rattle.tool.specs.Show.{reasons}
+use borrow.Author.Needs.{needs}
+use Rattle.tool.proofs.show.put_reason.Statement.{statement}
+use Rattle.tool.proofs.show.put_reason.Tie as tie
+
+line-of-requires : tie.Need-line-of-requires
+line-of-requires c κs = search needs
+
+put-bytes-requires : tie.Need-put-bytes-requires
+put-bytes-requires c κs = search needs
+
+same-length : tie.Need-same-length
+same-length c = search needs
+
+returns : tie.Need-returns
+unfolding reasons
+returns c = put-same (c .before .before .before .line-of .ensures) (c .before .before .put-bytes .ensures)
+
+pub put-reason-spec : {M : Type 1} → statement M
+put-reason-spec = tie.close (tie.spec line-of-requires put-bytes-requires same-length returns)

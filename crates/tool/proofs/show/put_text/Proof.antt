@@ -1,0 +1,47 @@
+-- `tool::show::put_text` meets its contract. Assumes nothing.
+use Rattle.lines.proofs.PutLaws.{put-same, put-append}
+use Rattle.tool.proofs.ShowLaws.{text-whole, text-cut}
+use borrow.Author.Needs.{needs}
+use Rattle.tool.proofs.show.put_text.Statement.{statement}
+use Rattle.tool.proofs.show.put_text.Tie as tie
+
+put-shown-requires : tie.Need-put-shown-requires
+put-shown-requires c κs = search needs
+
+same-length : tie.Need-same-length
+same-length c = search needs
+
+returns : tie.Need-returns
+returns c = put-same (text-whole (c .before .before .before .before .before .before .before .args .text .now) (c .before .before .before .before .if1 .taken)) (c .before .before .put-shown .ensures)
+
+front-requires : tie.Need-front-requires
+front-requires c κs = search needs
+
+put-shown-requires-2 : tie.Need-put-shown-requires-2
+put-shown-requires-2 c κs = search needs
+
+slice-aggregate-put-bytes : tie.Need-slice-aggregate-put-bytes
+slice-aggregate-put-bytes c = search needs
+
+put-bytes-requires : tie.Need-put-bytes-requires
+put-bytes-requires c κs = search needs
+
+same-length-2 : tie.Need-same-length-2
+same-length-2 c = search needs
+
+returns-2 : tie.Need-returns-2
+returns-2 c = put-same (text-cut (c .before .before .before .before .before .before .before .before .before .before .before .before .before .args .text .now) _ (c .before .before .before .before .before .before .before .before .front .ensures) (c .before .before .before .before .before .before .before .before .before .before .if1 .left)) (put-append _ _ (c .before .before .before .before .before .before .before .put-shown2 .ensures) (c .before .before .put-bytes .ensures))
+
+pub put-text-spec : {M : Type 1} → statement M
+put-text-spec =
+    tie.close
+    (tie.spec
+    put-shown-requires
+    same-length
+    returns
+    front-requires
+    put-shown-requires-2
+    slice-aggregate-put-bytes
+    put-bytes-requires
+    same-length-2
+    returns-2)
