@@ -1,7 +1,7 @@
 -- `tool::show::part` meets its contract. Assumes nothing.
 use mathlib.Core.Path.{ap, _∙_}
 use lib.ListN.{take}
-use Rattle.lines.proofs.FieldLaws.{part-rest}
+use Rattle.kinds.proofs.ListLaws.{part-rest}
 use Rattle.tool.proofs.ShowLaws.{take-none}
 use borrow.Author.Needs.{needs}
 use Rattle.tool.proofs.show.part.Statement.{statement}
