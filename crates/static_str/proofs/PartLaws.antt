@@ -10,6 +10,7 @@ use lib.ListN.{length, take, drop, length-append, length-drop}
 use lib.Seq.{length-take-le}
 use Rattle.kinds.specs.Container.{startByte, endByte}
 use Rattle.kinds.specs.Level.{containerIncludeFields}
+use Rattle.kinds.specs.Kind.{containerOf}
 use Rattle.kinds.specs.Primitive.{codes, code}
 use Rattle.kinds.specs.Print.{decimal, fields}
 use Rattle.kinds.specs.Sheet.{isContainerKind}
@@ -18,7 +19,7 @@ use Rattle.kinds.specs.declared.Fields.the-variants.{Included, Dropped}
 use Rattle.kinds.specs.declared.NestingLevel.{NestingLevel}
 use Rattle.kinds.specs.declared.NestingLevel.the-variants.{Top, Within, Bottom}
 use Rattle.kinds.proofs.TableLaws.{everyBelow, passBelow}
-use Rattle.static_str.specs.Parts.{containerOf, opening, closing}
+use Rattle.static_str.specs.Parts.{opening, closing}
 
 -- `=` stands where fields are included
 pub fields-shown : (v u : NestingLevel) → containerIncludeFields v ≡ Included u → fields v [] ≡ 61 ∷ []

@@ -6,13 +6,14 @@ use mathlib.Core.Bool.{true}
 use mathlib.Core.List.{List, _++_, append-assoc}
 use lib.ListN.{length, length-append}
 use Rattle.kinds.specs.Print.{printNode, print}
+use Rattle.kinds.specs.Kind.{childrenLevel}
 use Rattle.kinds.specs.Sheet.{kindAt, countAt, labelAt, trees, nests}
 use Rattle.kinds.specs.Tree.{inside}
 use Rattle.kinds.specs.Walk.{TreesAt}
 use Rattle.kinds.specs.declared.NestingLevel.{NestingLevel}
 use Rattle.kinds.proofs.SheetLaws.{trees-step, nests-on}
 use Rattle.kinds.proofs.NodeLaws.{node-arity, node-inner, first-some, first-within, first-node, other-trees, walk-inner}
-use Rattle.static_str.specs.Parts.{childrenLevel, childrenText, fieldsBelow, passed, passedText, maxNodeText, PassedLength, TreesLength}
+use Rattle.static_str.specs.Parts.{childrenText, fieldsBelow, passed, passedText, maxNodeText, PassedLength, TreesLength}
 use Rattle.static_str.specs.declared.Below.{Below}
 use Rattle.static_str.specs.declared.Below.the-variants.{Same, Hidden, Deeper}
 use Rattle.static_str.proofs.PrintLaws.{no-text, dropped-text, included-text}

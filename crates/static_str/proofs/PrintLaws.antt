@@ -8,6 +8,7 @@ use borrow.Author.Tests.{le-leb, leb-true, leb-false, ne-eqb}
 use lib.Dec.{leb}
 use lib.ListN.{length, take, drop, length-append}
 use Rattle.kinds.specs.Level.{indirection, containerIncludeFields, showsFields}
+use Rattle.kinds.specs.Kind.{childrenLevel, insideKind}
 use Rattle.kinds.specs.Primitive.{code}
 use Rattle.kinds.specs.Print.{decimal, fields, printNode, print}
 use Rattle.kinds.specs.Sheet.{kindAt, firstAt, secondAt, countAt, label, isContainerKind, trees}
@@ -20,7 +21,7 @@ use Rattle.kinds.specs.declared.NestingLevel.{NestingLevel}
 use Rattle.kinds.specs.declared.NestingLevel.the-variants.{Top, Within, Bottom}
 use Rattle.kinds.proofs.SheetLaws.{trees-step, arity-low, arity-high}
 use Rattle.kinds.proofs.NodeLaws.{by-kind, label-primitive, leaf-end, no-trees, first-some, first-within, first-node}
-use Rattle.static_str.specs.Parts.{opening, closing, childrenLevel, printShown, childrenText}
+use Rattle.static_str.specs.Parts.{opening, closing, printShown, childrenText}
 
 pub shown-end : (f : Fields) → printShown f end ≡ []
 unfolding printShown print
@@ -42,29 +43,29 @@ module _ (s : List ℕ) (a b : ℕ) (v : NestingLevel) (cs : Trees) where
   in-parts k = opening s k a b v ++ (printShown (childrenLevel k v) cs ++ closing k b)
 
   primitive-parts : (k : ℕ) → k < 24 → cs ≡ end → whole k ≡ in-parts k
-  unfolding whole in-parts opening closing childrenLevel printShown printNode print
+  unfolding whole in-parts opening closing childrenLevel insideKind printShown printNode print
   primitive-parts k p e =
       rw (label-primitive s k a b p, le-leb k 23 (omega arith), ne-eqb k 29 (λ d. omega arith), ne-eqb k 30 (λ d. omega arith), ne-eqb k 26 (λ d. omega arith), ne-eqb k 27 (λ d. omega arith), ne-eqb k 25 (λ d. omega arith), ne-eqb k 28 (λ d. omega arith), e)
       (sym (append-nil (code k)))
 
   bit-parts : cs ≡ end → whole 24 ≡ in-parts 24
-  unfolding whole in-parts label opening closing childrenLevel printShown printNode print
+  unfolding whole in-parts label opening closing childrenLevel insideKind printShown printNode print
   bit-parts e = rw e (ap (λ (z : List ℕ). 98 ∷ z) (sym (append-nil (decimal b))))
 
   typed-parts : whole 25 ≡ in-parts 25
-  unfolding whole in-parts label opening closing childrenLevel printShown printNode
+  unfolding whole in-parts label opening closing childrenLevel insideKind printShown printNode
   typed-parts = refl
 
   pointer-parts : whole 26 ≡ in-parts 26
-  unfolding whole in-parts label opening closing childrenLevel printShown printNode
+  unfolding whole in-parts label opening closing childrenLevel insideKind printShown printNode
   pointer-parts = ap (λ (z : List ℕ). 94 ∷ z) (sym (append-nil (print (indirection Pointer v) cs)))
 
   atomic-parts : whole 27 ≡ in-parts 27
-  unfolding whole in-parts label opening closing childrenLevel printShown printNode
+  unfolding whole in-parts label opening closing childrenLevel insideKind printShown printNode
   atomic-parts = ap (λ (z : List ℕ). 65 ∷ z) (sym (append-nil (print Bottom cs)))
 
   array-parts : whole 28 ≡ in-parts 28
-  unfolding whole in-parts label opening closing childrenLevel printShown printNode
+  unfolding whole in-parts label opening closing childrenLevel insideKind printShown printNode
   array-parts = refl
 
   shown-fields : (u : NestingLevel) → showsFields u ≡ true → printShown (containerIncludeFields u) cs ≡ print Within cs
@@ -80,15 +81,15 @@ module _ (s : List ℕ) (a b : ℕ) (v : NestingLevel) (cs : Trees) where
   hidden-fields Bottom p = refl
 
   struct-parts : whole 29 ≡ in-parts 29
-  unfolding whole in-parts label opening closing childrenLevel printNode
+  unfolding whole in-parts label opening closing childrenLevel insideKind printNode
   struct-parts = container-text 123 125 (take b (drop a s)) (print Within cs) (printShown (containerIncludeFields v) cs) v (shown-fields v) (hidden-fields v)
 
   union-parts : whole 30 ≡ in-parts 30
-  unfolding whole in-parts label opening closing childrenLevel printNode
+  unfolding whole in-parts label opening closing childrenLevel insideKind printNode
   union-parts = container-text 40 41 (take b (drop a s)) (print Within cs) (printShown (containerIncludeFields v) cs) v (shown-fields v) (hidden-fields v)
 
   none-parts : cs ≡ end → whole 31 ≡ in-parts 31
-  unfolding whole in-parts label opening closing childrenLevel printShown printNode print
+  unfolding whole in-parts label opening closing childrenLevel insideKind printShown printNode print
   none-parts e = rw e
 
   -- a node that takes no child has none
@@ -145,3 +146,8 @@ module _ (s w : List ℕ) (v : NestingLevel) (at : ℕ) where
   pub included-text : (u : NestingLevel) → childrenLevel (kindAt w at) v ≡ Included u → childrenText s w at v ≡ print u (trees s w (countAt w at - 1) (at + 4))
   unfolding printShown
   included-text u e = ap (λ (f : Fields). printShown f (trees s w (countAt w at - 1) (at + 4))) e
+
+-- a pointer and an atomic show what they hold
+pub held-shown : (k : ℕ) (v u : NestingLevel) → 26 ≤ k → k ≤ 27 → u ≡ insideKind k v → childrenLevel k v ≡ Included u
+unfolding childrenLevel
+held-shown k v u lo hi f = rw (ne-eqb k 29 (λ d. omega arith), ne-eqb k 30 (λ d. omega arith)) (ap Included (sym f))

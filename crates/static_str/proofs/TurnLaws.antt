@@ -6,17 +6,18 @@ use mathlib.Core.List.{List, _++_, append-nil}
 use borrow.Author.Tests.{ne-eqb}
 use lib.ListN.{length}
 use Rattle.kinds.specs.Print.{print}
+use Rattle.kinds.specs.Kind.{childrenLevel, insideKind}
 use Rattle.kinds.specs.Sheet.{kindAt, firstAt, secondAt, countAt, trees}
 use Rattle.kinds.specs.Walk.{NodeAt, TreesAt, KindAndName, KindsAndNames}
 use Rattle.kinds.specs.declared.Fields.the-variants.{Included}
 use Rattle.kinds.specs.declared.NestingLevel.{NestingLevel}
 use Rattle.kinds.proofs.NodeLaws.{node-inner, walk-inner, first-some, first-within, first-node, other-trees, walk-here, walk-first, walk-rest}
 use Rattle.static_str.specs.Output.{Wrote}
-use Rattle.static_str.specs.Parts.{opening, closing, childrenLevel, childrenText, fieldsBelow, passed, maxNodeText, OwnLength, PassedLength, TreesLength}
+use Rattle.static_str.specs.Parts.{opening, closing, childrenText, fieldsBelow, passed, maxNodeText, OwnLength, PassedLength, TreesLength}
 use Rattle.static_str.specs.declared.Below.{Below}
 use Rattle.static_str.proofs.OutputLaws.{ToWrite, to-write, room-for, then-write, all-written, written-length}
 use Rattle.static_str.proofs.PartLaws.{closing-none}
-use Rattle.static_str.proofs.PrintLaws.{trees-text, trees-length, no-text, included-text}
+use Rattle.static_str.proofs.PrintLaws.{trees-text, trees-length, no-text, included-text, held-shown}
 use Rattle.static_str.proofs.PassLaws.{pass-trees, pass-some, pass-within, pass-text}
 
 -- `left` of the `n` nodes from `from` on are left, from `at` on, and each has a kind and a name among `m` bytes.
@@ -98,11 +99,11 @@ module _ {s w : List ℕ} {v : NestingLevel} {before all out : List ℕ} {start 
       room-to-fill = room-for inner (closes ++ others) opened
 
       -- a pointer or an atomic that no tree follows: what it holds comes next, at its own level
-      module _ (lo : 26 ≤ kindAt w at) (hi : kindAt w at ≤ 27) (e : countAt w at ≡ left) (u : NestingLevel) (f : childrenLevel (kindAt w at) v ≡ Included u) where
+      module _ (lo : 26 ≤ kindAt w at) (hi : kindAt w at ≤ 27) (e : countAt w at ≡ left) (u : NestingLevel) (f : u ≡ insideKind (kindAt w at) v) where
         held-text : inner ++ (closes ++ others) ≡ print u (trees s w (left - 1) (at + 4))
         held-text =
             ap₂ _++_
-            (included-text s w v at u f ∙ ap (λ (j : ℕ). print u (trees s w (j - 1) (at + 4))) e)
+            (included-text s w v at u (held-shown (kindAt w at) v u lo hi f) ∙ ap (λ (j : ℕ). print u (trees s w (j - 1) (at + 4))) e)
             (ap₂ _++_ (closing-none (kindAt w at) (secondAt w at) (λ d. omega arith) (λ d. omega arith) (rw (ne-eqb (kindAt w at) 29 (λ d. omega arith), ne-eqb (kindAt w at) 30 (λ d. omega arith)))) (no-text s w v (left - countAt w at) (at + 4 * countAt w at) (omega arith)))
             ∙ append-nil (print u (trees s w (left - 1) (at + 4)))
 
