@@ -14,7 +14,8 @@ use Rattle.kinds.specs.Parse.{value, noNumber, parseNumber, maxU64, maxU8}
 use Rattle.kinds.specs.Container.{endByte}
 use Rattle.kinds.specs.Primitive.{code, codes, isObject}
 use Rattle.kinds.specs.declared.ErrorKind.{ErrorKind}
-use Rattle.expect.specs.Agree.{ExpectedIs, anyObject, containerOf, openingByte, opening, closing}
+use Rattle.kinds.specs.Kind.{containerOf}
+use Rattle.expect.specs.Agree.{ExpectedIs, anyObject, openingByte, opening, closing}
 use Rattle.expect.specs.declared.Expected as X
 
 -- What follows a match, and what follows none.
