@@ -1,0 +1,5 @@
+-- The statements, and below them the laws that they rest on.
+pub mod PrintBounds
+pub mod SheetPrints
+pub mod LongestLaws
+pub mod PrintLaws
