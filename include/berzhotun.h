@@ -64,8 +64,9 @@ extern "C" {
 #define BERZHOTUN_MAX_WORDS 8008
 #define BERZHOTUN_MAX_NAMES 2000
 
-/* The most bytes that any sheet prints: a name of 2,000, 1,999 bitfields with type, and b255. */
-#define BERZHOTUN_MAX_PRINT 49983
+/* The most bytes that any sheet prints: 2,000 bitfields with type around an empty struct with a
+ * name of 2,000. */
+#define BERZHOTUN_MAX_PRINT 50003
 
 /* The words and name bytes that reading a text of `text_len` bytes needs, and fills. */
 #define BERZHOTUN_WORDS_FOR(text_len) (4 + 4 * ((size_t)(text_len) + 1))

@@ -10,6 +10,7 @@ pub mod OpeningLaws
 pub mod PrintsAlike
 pub mod RoundTrip
 pub mod FollowLaws
+pub mod ReadLaws
 pub mod ShownLaws
 pub mod FitLaws
 pub mod DigitLaws

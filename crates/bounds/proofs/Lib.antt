@@ -1,0 +1,7 @@
+-- The statements, and below them the laws that they rest on.
+pub mod PrintBounds
+pub mod ReadBounds
+pub mod SheetPrints
+pub mod LongestLaws
+pub mod PrintLaws
+pub mod RoomLaws

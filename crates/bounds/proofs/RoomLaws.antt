@@ -1,0 +1,139 @@
+-- When reading has room, and what a text of pointers gives.
+use Prim.Native.Nat.{ℕ, zero, suc, _+_, _*_, _-_, _≤_, _<_}
+use native.Mathlib.Omega.{arith}
+use mathlib.Core.Path.{_≡_, refl, sym, ap, ap₂, _∙_}
+use mathlib.Core.List.{List, [], _∷_, _++_}
+use mathlib.Core.Bool.{Bool, true, false, cond, _&&_}
+use mathlib.Core.Option.{Option, some, none}
+use borrow.Author.Tests.{le-ltb, le-leb, lt-leb}
+use lib.Dec.{leb}
+use lib.ListN.{length, getD, replicate, length-replicate}
+use Rattle.kinds.specs.Byte.{byte, among}
+use Rattle.kinds.specs.Parse as P
+use Rattle.kinds.specs.Parse.{Parsed, empty, encoding, Whole, tree, start, begin, held, parseInner, parse, isQualifier, qualifiers, stripLeadingQualifiers, encodingOrNone, parseEncodingOrNone, whole, fromStr, fromStartOfStr}
+use Rattle.kinds.specs.Sheet.{sheetOf, headerOf}
+use Rattle.kinds.specs.Tree as T
+use Rattle.kinds.specs.Tree.{Label, Trees, end, node, pointer, count}
+use Rattle.kinds.specs.declared.Refusal.{Refusal}
+use Rattle.kinds.specs.declared.Refusal.the-variants.{ListTooShort}
+use Rattle.parse.specs.EncodingBox.{maxText, used, hasRoom, turnedAway, padded, filled, sheetWords, unlessAway, wordsAfter, wholeTree, wholeReading, startReading, answerOr, fromStrAnswer, fromStrWords, fromStartAnswer}
+use Rattle.parse.specs.declared.Reading.{Reading}
+use Rattle.parse.specs.declared.Reading.the-variants.{Tree, Refused}
+use Rattle.bounds.specs.Extremes.{pointers}
+use Rattle.bounds.specs.Limits.{wordsFor, namesFor}
+
+and-false : (a : Bool) → (a && false) ≡ false
+and-false true = refl
+and-false false = refl
+
+module _ (text words names : List ℕ) (l : length text ≤ maxText) where
+  pub has-room : wordsFor (length text) ≤ length words → namesFor (length text) ≤ length names → turnedAway text words names ≡ none
+  unfolding turnedAway hasRoom
+  has-room w n = rw (le-ltb maxText (length text) l, le-leb (used (length text)) (length words) (omega arith), le-leb (length text) (length names) (omega arith))
+
+  words-short : length words < wordsFor (length text) → turnedAway text words names ≡ some ListTooShort
+  unfolding turnedAway hasRoom
+  words-short w = rw (le-ltb maxText (length text) l, lt-leb (used (length text)) (length words) (omega arith))
+
+  names-short : length names < namesFor (length text) → turnedAway text words names ≡ some ListTooShort
+  unfolding turnedAway hasRoom
+  names-short n = rw (le-ltb maxText (length text) l, lt-leb (length text) (length names) (omega arith), and-false (leb (used (length text)) (length words)))
+
+  pub whole-enough : wordsFor (length text) ≤ length words → namesFor (length text) ≤ length names → fromStrAnswer text words names ≡ wholeReading (fromStr text)
+  unfolding fromStrAnswer answerOr
+  whole-enough w n = rw (has-room w n)
+
+  pub start-enough : wordsFor (length text) ≤ length words → namesFor (length text) ≤ length names → fromStartAnswer text words names ≡ startReading (fromStartOfStr text)
+  unfolding fromStartAnswer answerOr
+  start-enough w n = rw (has-room w n)
+
+  pub whole-short-words : length words < wordsFor (length text) → fromStrAnswer text words names ≡ Refused ListTooShort
+  unfolding fromStrAnswer answerOr
+  whole-short-words w = rw (words-short w)
+
+  pub start-short-words : length words < wordsFor (length text) → fromStartAnswer text words names ≡ Refused ListTooShort
+  unfolding fromStartAnswer answerOr
+  start-short-words w = rw (words-short w)
+
+  pub whole-short-names : length names < namesFor (length text) → fromStrAnswer text words names ≡ Refused ListTooShort
+  unfolding fromStrAnswer answerOr
+  whole-short-names n = rw (names-short n)
+
+  pub start-short-names : length names < namesFor (length text) → fromStartAnswer text words names ≡ Refused ListTooShort
+  unfolding fromStartAnswer answerOr
+  start-short-names n = rw (names-short n)
+
+-- ---- A text of pointers.
+
+-- As many pointers, each to the next, and the last to None.
+pointersTo : ℕ → Trees
+pointersTo zero = node T.none end end
+pointersTo (suc n) = node pointer (pointersTo n) end
+
+to-count : (n : ℕ) → count (pointersTo n) ≡ n + 1
+unfolding pointersTo count
+to-count zero = refl
+to-count (suc n) = omega (arith, to-count n)
+
+-- Such a text is read as that.
+Read : ℕ → Parsed → Type 0
+Read zero q = q ≡ empty
+Read (suc n) q = q ≡ encoding pointer (pointersTo n) []
+
+caret : start (byte "^") ≡ P.indirection pointer
+unfolding start P.inSingles P.singles P.inOthers P.others
+caret = refl
+
+hold : (n : ℕ) (q : Parsed) → Read n q → held pointer (replicate n (byte "^")) q ≡ encoding pointer (pointersTo n) []
+unfolding Read held pointersTo
+hold zero q e = ap (held pointer []) e
+hold (suc n) q e = ap (held pointer (replicate (suc n) (byte "^"))) e
+
+read-pointers : (f n : ℕ) → n ≤ f → Read n (parseInner f (replicate n (byte "^")))
+unfolding Read parseInner begin
+read-pointers zero zero h = refl
+read-pointers zero (suc n) h = absurd (omega arith)
+read-pointers (suc f) zero h = refl
+read-pointers (suc f) (suc n) h = rw caret (hold n (parseInner f (replicate n (byte "^"))) (read-pointers f n (omega arith)))
+
+no-qualifiers : (n : ℕ) → stripLeadingQualifiers (replicate n (byte "^")) ≡ replicate n (byte "^")
+unfolding stripLeadingQualifiers isQualifier among qualifiers
+no-qualifiers zero = refl
+no-qualifiers (suc n) = refl
+
+-- What whole-text reading makes of it.
+record WholeIs (t : Trees) (q : Whole) : Type 0 where
+  the-tree : wholeTree q ≡ some t
+  accepted : wholeReading q ≡ Tree
+
+whole-of : (k n : ℕ) (q : Parsed) → Read n q → WholeIs (pointersTo n) (whole k (encodingOrNone q))
+unfolding Read encodingOrNone whole wholeTree wholeReading pointersTo
+whole-of k zero q e = rw e (record { the-tree = refl; accepted = refl })
+whole-of k (suc n) q e = rw e (record { the-tree = refl; accepted = refl })
+
+whole-pointers : (n : ℕ) → WholeIs (pointersTo n) (fromStr (pointers n))
+unfolding pointers fromStr parseEncodingOrNone parse
+whole-pointers n =
+    let s = replicate n (byte "^") in
+    rw (no-qualifiers n) (whole-of (length s) n (parseInner (length s + length s) s) (read-pointers (length s + length s) n (omega (arith, length-replicate n (byte "^")))))
+
+pub pointers-length : (n : ℕ) → length (pointers n) ≡ n
+unfolding pointers
+pointers-length n = length-replicate n (byte "^")
+
+-- The header of a sheet that is written over the front of a list.
+words-used : (k : ℕ) (t : Trees) (words : List ℕ) → getD (filled k (sheetWords (some t)) words) 3 0 ≡ 4 + 4 * count t
+unfolding filled padded sheetWords sheetOf headerOf
+words-used k t words = refl
+
+pub pointers-fill : (n : ℕ) (words names : List ℕ) → n ≤ maxText → wordsFor n ≤ length words → namesFor n ≤ length names
+    → (length (pointers n) ≡ n) × (fromStrAnswer (pointers n) words names ≡ Tree) × (getD (fromStrWords (pointers n) words names) 3 0 ≡ wordsFor n)
+unfolding fromStrWords wordsAfter unlessAway
+pointers-fill n words names l w h =
+    let e = pointers-length n in
+    let r = whole-pointers n in
+    let room = has-room (pointers n) words names (omega arith) (omega arith) (omega arith) in (
+      e,
+      whole-enough (pointers n) words names (omega arith) (omega arith) (omega arith) ∙ r .accepted,
+      rw (room, r .the-tree) (words-used (used (length (pointers n))) (pointersTo n) words ∙ omega (arith, to-count n)),
+    )

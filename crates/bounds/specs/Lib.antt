@@ -1,0 +1,3 @@
+-- What the bounds are stated with.
+pub mod Limits
+pub mod Extremes
