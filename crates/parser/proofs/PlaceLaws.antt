@@ -84,6 +84,11 @@ part-remains s at h = ap₂ (λ (o : ℕ) (t : List ℕ). ((s .ptr .0, o), t)) f
     further : at + s .ptr .1 ≡ s .ptr .1 + (length (now s) - length (drop at (now s)))
     further = omega (arith, length-drop at (now s))
 
+-- Its bytes are those from there on.
+pub remains-bytes : {p : ℕ × ℕ} {t : List ℕ} (s : RefT (List ℕ)) (at : ℕ) → (p, t) ≡ remainingAt s at → t ≡ drop at (now s)
+unfolding remainingAt endOf
+remains-bytes s at e = ap (λ (x : (ℕ × ℕ) × List ℕ). x .1) e
+
 pub end-remains : (s : RefT (List ℕ)) (at : ℕ) → length (now s) ≤ at → remainingAt s (length (now s)) ≡ remainingAt s at
 unfolding remainingAt
 end-remains s at h = ap (endOf s) (drop-length (now s) ∙ sym (drop-of-length-le (now s) h))

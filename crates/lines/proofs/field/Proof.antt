@@ -1,9 +1,8 @@
 -- `lines::field` meets its contract. Assumes nothing.
-use Prim.Native.Nat.{ℕ}
-use mathlib.Core.Path.{sym, ap}
-use lib.ListN.{take}
+use mathlib.Core.Path.{sym}
 use lib.Seq.{length-take-le}
 use borrow.Author.Needs.{needs}
+use Rattle.lines.proofs.FieldLaws.{front-is}
 use Rattle.lines.proofs.field.Statement.{statement}
 use Rattle.lines.proofs.field.Tie as tie
 
@@ -14,7 +13,7 @@ slice-aggregate-result : tie.Need-slice-aggregate-result
 slice-aggregate-result c = sym (length-take-le (c .before .place-of .result) (c .before .before .before .args .s .now) (c .before .place-of .ensures .1))
 
 returns : tie.Need-returns
-returns c = ap (λ (n : ℕ). take n (c .before .before .before .args .s .now)) (c .before .place-of .ensures .0)
+returns c = front-is (c .before .before .before .args .s) _ _ (c .before .place-of .ensures .0)
 
 pub field-spec : {M : Type 1} → statement M
 field-spec = tie.close (tie.spec place-of-requires slice-aggregate-result returns)

@@ -4,6 +4,7 @@ use lib.ListN.{take}
 use Rattle.kinds.proofs.ListLaws.{part-rest}
 use Rattle.tool.proofs.ShowLaws.{take-none}
 use borrow.Author.Needs.{needs}
+use Rattle.lines.proofs.FieldLaws.{front-bytes}
 use Rattle.tool.proofs.show.part.Statement.{statement}
 use Rattle.tool.proofs.show.part.Tie as tie
 
@@ -20,7 +21,7 @@ front-requires : tie.Need-front-requires
 front-requires c κs = search needs
 
 returns : tie.Need-returns
-returns c = c .front .ensures ∙ ap (take (c .before .before .before .before .args .n)) (part-rest (c .before .before .before .before .args .s .now) (c .before .before .before .before .args .from))
+returns c = front-bytes _ _ (c .front .ensures) ∙ ap (take (c .before .before .before .before .args .n)) (part-rest (c .before .before .before .before .args .s .now) (c .before .before .before .before .args .from))
 
 front-requires-2 : tie.Need-front-requires-2
 front-requires-2 c κs = search needs

@@ -2,6 +2,7 @@
 use Rattle.lines.proofs.PutLaws.{put-same, put-append}
 use Rattle.tool.proofs.ShowLaws.{text-whole, text-cut}
 use borrow.Author.Needs.{needs}
+use Rattle.lines.proofs.FieldLaws.{front-bytes}
 use Rattle.tool.proofs.show.put_text.Statement.{statement}
 use Rattle.tool.proofs.show.put_text.Tie as tie
 
@@ -30,7 +31,7 @@ same-length-2 : tie.Need-same-length-2
 same-length-2 c = search needs
 
 returns-2 : tie.Need-returns-2
-returns-2 c = put-same (text-cut (c .before .before .before .before .before .before .before .before .before .before .before .before .before .args .text .now) _ (c .before .before .before .before .before .before .before .before .front .ensures) (c .before .before .before .before .before .before .before .before .before .before .if1 .left)) (put-append _ _ (c .before .before .before .before .before .before .before .put-shown2 .ensures) (c .before .before .put-bytes .ensures))
+returns-2 c = put-same (text-cut (c .before .before .before .before .before .before .before .before .before .before .before .before .before .args .text .now) _ (front-bytes _ _ (c .before .before .before .before .before .before .before .before .front .ensures)) (c .before .before .before .before .before .before .before .before .before .before .if1 .left)) (put-append _ _ (c .before .before .before .before .before .before .before .put-shown2 .ensures) (c .before .before .put-bytes .ensures))
 
 pub put-text-spec : {M : Type 1} → statement M
 put-text-spec =
