@@ -17,7 +17,7 @@ use Rattle.documents.specs.Differences.{AllHold, guideDifferences, gccDi
 use Rattle.documents.specs.Gcc as C
 use Rattle.documents.specs.Gcc.{Integral, complex, longDouble}
 use Rattle.documents.specs.Guide.{Meaning, Types, Qualifier, code, table, letter, letters, encode, isType, pointerTo, example, exampleName, twelvePointers, rootObject}
-use Rattle.documents.specs.Translation.{one, label, trees, withoutBlock, MeantBy, GuideText, TextOf, bitFieldTree, olderBitFieldTree, gccExample, gccOlderExample}
+use Rattle.documents.specs.Translation.{one, label, trees, withoutLongDouble, countsFit, withoutBlock, MeantBy, GuideText, TextOf, bitFieldTree, olderBitFieldTree, gccExample, gccOlderExample}
 use Rattle.documents.proofs.DifferencesHold.{guide-rows, gcc-rows, clang-rows}
 use Rattle.documents.proofs.GccLaws.{bit-field, older-bit-field, examples, complexes}
 use Rattle.documents.proofs.GuideCodes.{code-print, code-read, alone, type-read}
@@ -40,12 +40,14 @@ guide-codes m = record { prints = code-print m; reads = code-read m }
 pub guide-codes-only : (b p : ℕ) → b < 256 → readTree (b ∷ []) ≡ node (primitive p) end end → MeantBy b p
 guide-codes-only = alone
 
--- A type that the guide defines prints as the guide encodes it.
-pub guide-prints : (t : Types) → isType t ≡ true → print Top (trees t) ≡ encode zero t
+-- A type that the guide defines prints as the guide encodes it, unless a long double is in it.
+pub guide-prints : (t : Types) → isType t ≡ true → withoutLongDouble t ≡ true → print Top (trees t) ≡ encode zero t
 guide-prints = type-print
 
--- Its encoding is read as the type's tree without the dropped fields, unless an unknown type stands directly after an object.
-pub guide-reads : (t : Types) → isType t ≡ true → withoutBlock (encode zero t) ≡ true → readTree (encode zero t) ≡ shown Top (trees t)
+-- Its encoding is read as the type's tree without the dropped fields, if its counts are such as the crate reads, unless an unknown type stands
+-- directly after an object.
+pub guide-reads : (t : Types) → isType t ≡ true → withoutLongDouble t ≡ true → countsFit t ≡ true → withoutBlock (encode zero t) ≡ true
+    → readTree (encode zero t) ≡ shown Top (trees t)
 guide-reads = type-read
 
 -- ---- The guide's qualifiers.
@@ -77,7 +79,9 @@ pub guide-dropped-fields : (s : List ℕ) (fs : Trees) → print Top (node point
 guide-dropped-fields = two-pointers
 
 -- The guide's struct `example`, behind no pointer, one and two.
-pub guide-example : GuideText example example (bytes "{example=@*i}") × GuideText (pointerTo example) (pointerTo example) (bytes "^{example=@*i}") × GuideText (pointerTo (pointerTo example)) (pointerTo (pointerTo exampleName)) (bytes "^^{example}")
+pub guide-example : GuideText example example (bytes "{example=@*i}")
+    × GuideText (pointerTo example) (pointerTo example) (bytes "^{example=@*i}")
+    × GuideText (pointerTo (pointerTo example)) (pointerTo (pointerTo exampleName)) (bytes "^^{example}")
 guide-example = example-texts
 
 -- The guide's array of twelve pointers to float, and its object.

@@ -19,12 +19,12 @@ use Rattle.agreement.proofs.Agreement.{reads-back}
 use Rattle.agreement.proofs.ByteLaws.{each}
 use Rattle.documents.specs.Guide as G
 use Rattle.documents.specs.Guide.{Meaning, Types, only, code, encode, isNone, isOne, defined, isType}
-use Rattle.documents.specs.Translation.{label, trees, withoutBlock, MeantBy}
+use Rattle.documents.specs.Translation.{label, trees, withoutLongDouble, countsFit, withoutBlock, MeantBy}
 use Rattle.documents.proofs.GuidePrint.{type-print}
 use Rattle.documents.proofs.GuideSound.{type-sound}
 
-pub type-read : (t : Types) → isType t ≡ true → withoutBlock (encode zero t) ≡ true → readTree (encode zero t) ≡ shown Top (trees t)
-type-read t h b = ap readTree (sym (type-print t h)) ∙ reads-back (trees t) (type-sound t h b)
+pub type-read : (t : Types) → isType t ≡ true → withoutLongDouble t ≡ true → countsFit t ≡ true → withoutBlock (encode zero t) ≡ true → readTree (encode zero t) ≡ shown Top (trees t)
+type-read t h d f b = ap readTree (sym (type-print t h d)) ∙ reads-back (trees t) (type-sound t h d f b)
 
 -- A byte alone has nothing after it.
 nothing-after : (a : Bool) → (not (a && false) && true) ≡ true
@@ -32,12 +32,12 @@ nothing-after true = refl
 nothing-after false = refl
 
 pub code-print : (m : Meaning) → print Top (node (label m) end end) ≡ code m ∷ []
-unfolding trees encode isType isOne isNone defined
-code-print m = type-print (only m) refl
+unfolding trees encode isType isOne isNone defined withoutLongDouble
+code-print m = type-print (only m) refl refl
 
 pub code-read : (m : Meaning) → readTree (code m ∷ []) ≡ node (label m) end end
-unfolding trees encode isType isOne isNone defined withoutBlock unknownNext shown keep
-code-read m = type-read (only m) refl (nothing-after (eqb (code m) (byte "@")))
+unfolding trees encode isType isOne isNone defined withoutLongDouble countsFit withoutBlock unknownNext shown keep
+code-read m = type-read (only m) refl refl refl (nothing-after (eqb (code m) (byte "@")))
 
 -- ---- The bytes that are read alone as a primitive.
 
