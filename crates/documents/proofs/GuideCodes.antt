@@ -7,7 +7,8 @@ use mathlib.Core.Logic.{inl, inr}
 use lib.Dec.{eqb}
 use Rattle.kinds.proofs.TableLaws.{everyBelow, passBelow}
 use Rattle.kinds.specs.Byte.{byte, bytes, among, isDigit}
-use Rattle.kinds.specs.Parse.{singles, others, inOthers, inSingles, start, leaf, parseComplex, parseObject, parseNumber, parseBits, parseName, held, item, contained, begin, nextItem, parseInner, parse, qualifiers, isQualifier, stripLeadingQualifiers, encodingOrNone, parseEncodingOrNone, whole, fromStr}
+use Rattle.kinds.specs.Parse.{singles, others, inOthers, inSingles, start, leaf, parseComplex, parseObject, parseNumber, parseBits, parseName, held, item, contained, begin}
+use Rattle.kinds.specs.Parse.{nextItem, parseInner, parse, qualifiers, isQualifier, stripLeadingQualifiers, encodingOrNone, parseEncodingOrNone, whole, fromStr}
 use Rattle.kinds.specs.Print.{print}
 use Rattle.kinds.specs.Sound.{unknownNext}
 use Rattle.kinds.specs.Tree as T

@@ -1,9 +1,9 @@
 -- Apple's Objective-C Runtime Programming Guide, "Type Encodings": its two tables, and the encoding of a type.
 use Prim.Native.Nat.{ℕ, zero, suc}
 use mathlib.Core.Bool.{Bool, true, false, _&&_, _||_, not}
-use mathlib.Core.List.{List, [], _∷_, _++_}
+use mathlib.Core.List.{List, [], _∷_, _++_, map}
 use lib.Dec.{leb, eqb}
-use Rattle.kinds.specs.Byte.{byte, bytes}
+use Rattle.kinds.specs.Byte.{byte, bytes, among}
 use Rattle.documents.specs.Decimal.{decimal}
 
 -- ---- The table of codes.
@@ -30,7 +30,7 @@ pub data Meaning : Type 0 where
   selector : Meaning
   unknown : Meaning
 
--- The rows of one byte. The table's remark that a long counts as 32 bits wide is on widths, which 01 does not take up.
+-- The rows of one byte.
 unfoldable pub code : Meaning → ℕ
 code char = byte "c"
 code int = byte "i"
@@ -63,6 +63,14 @@ table =
     ∷ row float ∷ row double ∷ row bool ∷ row void ∷ row string
     ∷ row object ∷ row class ∷ row selector ∷ row unknown ∷ []
 
+-- The table's remark on a long: its width in bits in 64-bit programs.
+abbrev pub longBits : ℕ
+longBits = 32
+
+-- The bytes that begin an encoding: these codes, and those of the rows of arrays, structures, unions, bit fields and pointers.
+unfoldable pub begins : ℕ → Bool
+begins b = among b (map (λ r. r .0) table) || among b (bytes "[{(b^")
+
 -- ---- The table of qualifiers, in its order.
 
 pub data Qualifier : Type 0 where
@@ -82,6 +90,9 @@ letter out = byte "o"
 letter bycopy = byte "O"
 letter byref = byte "R"
 letter oneway = byte "V"
+
+abbrev pub qualifierTable : List Qualifier
+qualifierTable = const ∷ «in» ∷ inout ∷ out ∷ bycopy ∷ byref ∷ oneway ∷ []
 
 -- The letters of qualifiers one after the other.
 unfoldable pub letters : List Qualifier → List ℕ
