@@ -14,7 +14,8 @@ use Rattle.kinds.specs.Expect.{Expected, remaining, mismatch, _then_, expectByt
 use Rattle.kinds.specs.Parse.{noNumber, parseNumber, integral}
 use Rattle.kinds.specs.Primitive.{codes, code, isObject, equivalent}
 use Rattle.kinds.specs.Print.{decimal, printNode, print}
-use Rattle.kinds.specs.Sound.{validCount, isNone, withoutNone, isCloser, closes, afterChildren, clearNode, clear}
+use Rattle.kinds.specs.Sound.{validCount}
+use Rattle.agreement.specs.Sound.{isNone, withoutNone, isCloser, closes, afterChildren, clearNode, clear}
 use Rattle.kinds.specs.Tree.{Label, Trees, end, node, primitive, bitField, typedBitField, pointer, atomic, array, struct, union, none, inside, shows, kind, name, isContainer, isEnd, isOne}
 use Rattle.kinds.specs.declared.ErrorKind.the-variants.{ExpectedInteger}
 use Rattle.kinds.specs.declared.NestingLevel.{NestingLevel}

@@ -9,7 +9,7 @@ use Rattle.kinds.specs.Compare.{lengthOrOffset, bits, compareLabels, compareChi
 use Rattle.kinds.specs.Expect.{Expected, remaining, mismatch, _then_, expectEncoding, isEmpty, equivalentToStr}
 use Rattle.kinds.specs.Primitive.{isObject}
 use Rattle.kinds.specs.Print.{fields, printNode, print}
-use Rattle.kinds.specs.Sound.{isNone, withoutNone, sound}
+use Rattle.agreement.specs.Sound.{isNone, withoutNone, sound}
 use Rattle.kinds.specs.Tree.{Label, Trees, end, node, primitive, bitField, typedBitField, pointer, atomic, array, struct, union, none, inside, shows, kind, name, isContainer, isEnd}
 use Rattle.kinds.specs.declared.ContainerKind.the-variants.{Struct, Union}
 use Rattle.kinds.specs.declared.NestingLevel.{NestingLevel}

@@ -16,7 +16,8 @@ use Rattle.kinds.specs.Name.{verifyName}
 use Rattle.kinds.specs.Parse.{maxU64, container}
 use Rattle.kinds.specs.Primitive.{equivalent}
 use Rattle.kinds.specs.Print.{decimal, fields, printNode, print}
-use Rattle.kinds.specs.Sound.{validCount, isNone, withoutNone, isCloser, closes, afterChildren, clearNode, clear}
+use Rattle.kinds.specs.Sound.{validCount}
+use Rattle.agreement.specs.Sound.{isNone, withoutNone, isCloser, closes, afterChildren, clearNode, clear}
 use Rattle.kinds.specs.Tree.{Label, Trees, end, node, pointer, atomic, array, inside, kind, name, isContainer, isEnd}
 use Rattle.kinds.specs.declared.ContainerKind.{ContainerKind}
 use Rattle.kinds.specs.declared.ContainerKind.the-variants.{Struct, Union}

@@ -12,7 +12,8 @@ use Rattle.kinds.specs.Expect.{Expected, remaining, mismatch, _then_, expectByt
 use Rattle.kinds.specs.Parse.{maxU64, maxU8, integral}
 use Rattle.kinds.specs.Primitive.{codes, code, isObject, equivalent}
 use Rattle.kinds.specs.Print.{decimal, printNode, print}
-use Rattle.kinds.specs.Sound.{validCount, isIntegral, isNone, isCloser, closes, unknownNext, afterChildren, clearNode, clear}
+use Rattle.kinds.specs.Sound.{validCount}
+use Rattle.agreement.specs.Sound.{isIntegral, isNone, isCloser, closes, unknownNext, afterChildren, clearNode, clear}
 use Rattle.kinds.specs.Tree.{Trees, end, node, primitive, bitField, typedBitField, kind, name, isContainer}
 use Rattle.kinds.specs.declared.NestingLevel.{NestingLevel}
 use Rattle.kinds.specs.declared.NestingLevel.the-variants.{Top}

@@ -12,7 +12,7 @@ use Rattle.kinds.specs.Expect.{Expected, remaining, mismatch, _then_, expectByt
 use Rattle.kinds.specs.Parse.{integral}
 use Rattle.kinds.specs.Primitive.{codes, code, isObject, equivalent}
 use Rattle.kinds.specs.Print.{decimal, fields, printNode}
-use Rattle.kinds.specs.Sound.{isNone, isCloser, closes}
+use Rattle.agreement.specs.Sound.{isNone, isCloser, closes}
 use Rattle.kinds.specs.Tree.{Label, primitive, bitField, typedBitField, pointer, atomic, array, struct, union, none, kind}
 use Rattle.kinds.specs.declared.NestingLevel.{NestingLevel}
 use Rattle.kinds.proofs.TableLaws.{both, everyBelow, passBelow, same-bytes}

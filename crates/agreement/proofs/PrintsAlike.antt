@@ -9,7 +9,7 @@ use lib.ListN.{length}
 use Rattle.kinds.specs.Byte.{among}
 use Rattle.kinds.specs.Parse.{encoded, encodingOrNone, parseEncodingOrNone, parseInner, parse, qualifiers, isQualifier, stripLeadingQualifiers, fromStr, whole}
 use Rattle.kinds.specs.Print.{printNode, print}
-use Rattle.kinds.specs.Sound.{isNone, clear, sound}
+use Rattle.agreement.specs.Sound.{isNone, clear, sound}
 use Rattle.kinds.specs.Tree.{Label, Trees, end, node, none, inside, shows, keep, shown, isEnd, isOne}
 use Rattle.kinds.specs.declared.NestingLevel.the-variants.{Top}
 use Rattle.agreement.specs.ReadTree.{trees, readTree}

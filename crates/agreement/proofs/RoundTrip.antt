@@ -14,7 +14,8 @@ use Rattle.kinds.specs.Name.{isNameByte, verifyName}
 use Rattle.kinds.specs.Parse.{maxU64, maxU8, Parsed, parseNumber, container, encoding, items, parseInner, parseItems, held, item, parseName, checkName, named, integral, start, begin, singles, others, inSingles, inOthers, leaf, parseComplex, parseObject, parseBits, parseBitField, untyped, typed, singleKind, nextItem, addItem, contained, closeItem}
 use Rattle.kinds.specs.Primitive.{codes, code}
 use Rattle.kinds.specs.Print.{decimal, fields, printNode, print}
-use Rattle.kinds.specs.Sound.{validCount, isIntegral, isNone, withoutNone, isCloser, closes, unknownNext, afterChildren, clearNode, clear}
+use Rattle.kinds.specs.Sound.{validCount}
+use Rattle.agreement.specs.Sound.{isIntegral, isNone, withoutNone, isCloser, closes, unknownNext, afterChildren, clearNode, clear}
 use Rattle.kinds.specs.Tree.{Label, Trees, end, node, primitive, bitField, typedBitField, pointer, atomic, array, struct, union, none, inside, shows, keep, shown, kind, isEnd, isOne}
 use Rattle.kinds.specs.declared.ContainerKind.{ContainerKind}
 use Rattle.kinds.specs.declared.ContainerKind.the-variants.{Struct, Union}

@@ -9,7 +9,8 @@ use Rattle.kinds.specs.Name.{isNameByte, verifyName}
 use Rattle.kinds.specs.Parse.{moreDigits, bounded, parseNumber, singles, others, inOthers, inSingles, start, leaf, parseComplex, parseQuoted, parseObject, integral, singleKind, typed, untyped, parseBitField, parseBits, checkName, parseName, held, closeItem, item, contained, addItem, begin, nextItem, parseInner, parseItems, parse, qualifiers, isQualifier, stripLeadingQualifiers, encodingOrNone, parseEncodingOrNone, whole, fromStr}
 use Rattle.kinds.specs.Primitive.{kindOf, codes, code}
 use Rattle.kinds.specs.Print.{digits, decimal, fields, printNode, print}
-use Rattle.kinds.specs.Sound.{validLabel, validCount, valid, goodName, goodNames, isIntegral, isNone, withoutNone, isCloser, closes, unknownNext, afterChildren, clearNode, clear, sound}
+use Rattle.kinds.specs.Sound.{validLabel, validCount, valid, goodName, goodNames}
+use Rattle.agreement.specs.Sound.{isIntegral, isNone, withoutNone, isCloser, closes, unknownNext, afterChildren, clearNode, clear, sound}
 use Rattle.kinds.specs.Tree.{Label, Trees, end, node, primitive, bitField, typedBitField, pointer, struct, none, isEnd, isOne, kind, keep, shown}
 use Rattle.kinds.specs.declared.NestingLevel.the-variants.{Top}
 use Rattle.kinds.specs.declared.Primitive.the-variants as P

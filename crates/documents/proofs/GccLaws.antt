@@ -12,7 +12,8 @@ use Rattle.kinds.specs.Primitive as K
 use Rattle.kinds.specs.Primitive.{kindOf}
 use Rattle.kinds.specs.Print as P
 use Rattle.kinds.specs.Print.{printNode, print}
-use Rattle.kinds.specs.Sound.{validLabel, validCount, valid, goodName, goodNames, isIntegral, isNone, withoutNone, unknownNext, afterChildren, clearNode, clear, sound}
+use Rattle.kinds.specs.Sound.{validLabel, validCount, valid, goodName, goodNames}
+use Rattle.agreement.specs.Sound.{isIntegral, isNone, withoutNone, unknownNext, afterChildren, clearNode, clear, sound}
 use Rattle.kinds.specs.Tree.{Trees, end, node, primitive, bitField, typedBitField, isEnd, isOne, kind, keep, shown}
 use Rattle.kinds.specs.declared.NestingLevel.the-variants.{Top}
 use Rattle.kinds.specs.declared.Primitive.the-variants as Variant

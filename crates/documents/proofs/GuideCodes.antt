@@ -10,7 +10,7 @@ use Rattle.kinds.specs.Byte.{byte, bytes, among, isDigit}
 use Rattle.kinds.specs.Parse.{singles, others, inOthers, inSingles, start, leaf, parseComplex, parseObject, parseNumber, parseBits, parseName, held, item, contained, begin}
 use Rattle.kinds.specs.Parse.{nextItem, parseInner, parse, qualifiers, isQualifier, stripLeadingQualifiers, encodingOrNone, parseEncodingOrNone, whole, fromStr}
 use Rattle.kinds.specs.Print.{print}
-use Rattle.kinds.specs.Sound.{unknownNext}
+use Rattle.agreement.specs.Sound.{unknownNext}
 use Rattle.kinds.specs.Tree as T
 use Rattle.kinds.specs.Tree.{Label, Trees, end, node, primitive, keep, shown}
 use Rattle.kinds.specs.declared.NestingLevel.the-variants.{Top}

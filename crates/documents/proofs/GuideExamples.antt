@@ -7,7 +7,7 @@ use Rattle.kinds.specs.Byte.{byte, bytes}
 use Rattle.kinds.specs.Print.{fields, printNode, print}
 use Rattle.kinds.specs.Tree.{Trees, end, node, pointer, struct, keep, shown}
 use Rattle.kinds.specs.declared.NestingLevel.the-variants.{Top, Within}
-use Rattle.kinds.specs.Sound.{unknownNext}
+use Rattle.agreement.specs.Sound.{unknownNext}
 use Rattle.agreement.specs.ReadTree.{readTree}
 use Rattle.documents.specs.Decimal.{digits, decimal}
 use Rattle.documents.specs.Guide as G

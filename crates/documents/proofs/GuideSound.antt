@@ -10,8 +10,9 @@ use Rattle.kinds.specs.Name.{isNameByte, allNameBytes, verifyName}
 use Rattle.kinds.specs.Parse.{maxU64, maxU8}
 use Rattle.kinds.specs.Print as K
 use Rattle.kinds.specs.Print.{printNode, print}
-use Rattle.kinds.specs.Sound as S
-use Rattle.kinds.specs.Sound.{validLabel, validCount, valid, goodName, goodNames, withoutNone, unknownNext, afterChildren, clearNode, clear, sound}
+use Rattle.agreement.specs.Sound as S
+use Rattle.kinds.specs.Sound.{validLabel, validCount, valid, goodName, goodNames}
+use Rattle.agreement.specs.Sound.{withoutNone, unknownNext, afterChildren, clearNode, clear, sound}
 use Rattle.kinds.specs.Tree as T
 use Rattle.kinds.specs.Tree.{Label, Trees, end, node, inside, isEnd}
 use Rattle.kinds.specs.declared.NestingLevel.{NestingLevel}

@@ -8,7 +8,7 @@ use lib.Dec.{leb, eqb}
 use Rattle.kinds.specs.Byte.{byte, bytes}
 use Rattle.kinds.specs.Primitive.{kindOf}
 use Rattle.kinds.specs.Print.{print}
-use Rattle.kinds.specs.Sound.{unknownNext}
+use Rattle.agreement.specs.Sound.{unknownNext}
 use Rattle.kinds.specs.Tree as T
 use Rattle.kinds.specs.Tree.{Label, Trees, end, node, primitive}
 use Rattle.kinds.specs.declared.Primitive.{Primitive}

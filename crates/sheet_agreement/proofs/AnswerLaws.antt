@@ -12,7 +12,8 @@ use Rattle.kinds.specs.Expect.{equivalentToStr}
 use Rattle.kinds.specs.Print.{print}
 use Rattle.kinds.specs.Sheet.{isSheet, treeOf}
 use Rattle.kinds.specs.Size.{size}
-use Rattle.kinds.specs.Sound.{valid, goodNames, sound, clear}
+use Rattle.kinds.specs.Sound.{valid, goodNames}
+use Rattle.agreement.specs.Sound.{sound, clear}
 use Rattle.kinds.specs.Tree.{Trees, isOne}
 use Rattle.kinds.specs.declared.NestingLevel.the-variants.{Top}
 use Rattle.kinds.specs.declared.Refusal.the-variants as R

@@ -13,7 +13,7 @@ use Rattle.kinds.specs.Parse as P
 use Rattle.kinds.specs.Parse.{Whole, tree, fromStr, FromStart, treeThen, fromStartOfStr}
 use Rattle.kinds.specs.Sheet.{Holds, headerOf, sheetOf, namesOf, treeOf}
 use Rattle.kinds.specs.Print.{print}
-use Rattle.kinds.specs.Sound.{sound}
+use Rattle.agreement.specs.Sound.{sound}
 use Rattle.kinds.specs.Tree.{Label, Trees, end, node, count, isEnd, isOne, shown}
 use Rattle.kinds.specs.declared.NestingLevel.the-variants.{Top}
 use Rattle.kinds.specs.declared.Refusal.{Refusal}

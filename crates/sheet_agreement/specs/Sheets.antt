@@ -8,7 +8,8 @@ use Rattle.kinds.specs.Compare.{compareEncodings}
 use Rattle.kinds.specs.Expect.{equivalentToStr}
 use Rattle.kinds.specs.Sheet.{isSheet, treeOf}
 use Rattle.kinds.specs.Size.{size}
-use Rattle.kinds.specs.Sound.{goodNames, sound}
+use Rattle.kinds.specs.Sound.{goodNames}
+use Rattle.agreement.specs.Sound.{sound}
 use Rattle.kinds.specs.Tree.{Trees, shown}
 use Rattle.kinds.specs.declared.NestingLevel.the-variants.{Top}
 use Rattle.kinds.specs.declared.Compared.the-variants.{Decided}
