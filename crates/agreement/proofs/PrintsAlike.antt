@@ -30,7 +30,8 @@ unfolding mayFollow
 unqualified t g = not-qualified (print Top t) (rw append-nil at (trees-follow Top t [] g refl))
 
 -- What the print of a tree is read as.
-encoded-tree : (l : Label) (cs : Trees) → isNone l ≡ false → fit (node l cs end) ≡ true → clear Top (node l cs end) [] ≡ true → encodingOrNone (parse (print Top (node l cs end))) ≡ encoded l (keep (shows l Top) (shown (inside l Top) cs)) []
+encoded-tree : (l : Label) (cs : Trees) → isNone l ≡ false → fit (node l cs end) ≡ true → clear Top (node l cs end) [] ≡ true
+    → encodingOrNone (parse (print Top (node l cs end))) ≡ encoded l (keep (shows l Top) (shown (inside l Top) cs)) []
 unfolding encodingOrNone parse print mayFollow
 encoded-tree l cs o g c =
     let t = print Top (node l cs end) in
