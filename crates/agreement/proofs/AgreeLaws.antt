@@ -14,17 +14,19 @@ use Rattle.kinds.specs.Expect.{Expected, remaining, mismatch, _then_, expectByt
 use Rattle.kinds.specs.Parse.{noNumber, parseNumber, integral}
 use Rattle.kinds.specs.Primitive.{codes, code, isObject, equivalent}
 use Rattle.kinds.specs.Print.{decimal, printNode, print}
-use Rattle.kinds.specs.Sound.{validCount, isNone, withoutNone, isCloser, closes, afterChildren, clearNode, clear}
+use Rattle.kinds.specs.Sound.{validCount}
+use Rattle.agreement.specs.Sound.{isNone, withoutNone, isCloser, closes, afterChildren, clearNode, clear}
 use Rattle.kinds.specs.Tree.{Label, Trees, end, node, primitive, bitField, typedBitField, pointer, atomic, array, struct, union, none, inside, shows, kind, name, isContainer, isEnd, isOne}
 use Rattle.kinds.specs.declared.ErrorKind.the-variants.{ExpectedInteger}
 use Rattle.kinds.specs.declared.NestingLevel.{NestingLevel}
 use Rattle.kinds.proofs.TableLaws.{both}
-use Rattle.agreement.proofs.ByteLaws.{not-false, Each, each, apart, every, passes}
+use Rattle.agreement.proofs.ByteLaws.{not-false, Each, each, apart, every, passes, _also_}
 use Rattle.agreement.proofs.DigitLaws.{startsDigit, read-decimal, within-limit, beyond-limit}
 use Rattle.agreement.proofs.FitLaws.{fitLabel, fit, fit-parts}
 use Rattle.agreement.proofs.FollowLaws.{mayFollow}
 use Rattle.agreement.proofs.RoundTrip.{integrals, isEnd-end, isNone-none, integral-label, ClearTree, clear-parts, print-one}
-use Rattle.agreement.proofs.OpeningLaws.{sameOpening, unlike, kind-bound, then-remaining, byte-mismatch, byte-matches, node-mismatch-head, fails-digit, fails-integral, node-mismatch-closes, node-opens, unlike-mismatch}
+use Rattle.agreement.proofs.OpeningLaws.{sameOpening, unlike, kind-bound, then-remaining, byte-mismatch, byte-matches, node-mismatch-head, fails-digit, fails-integral}
+use Rattle.agreement.proofs.OpeningLaws.{node-mismatch-closes, node-opens, unlike-mismatch}
 
 -- No print that goes on with `rest` matches here: no closer is next, and either `rest` begins with a closer or is empty, or a digit is next, or a bitfield's type and size are.
 unfoldable pub stuck : List ℕ → List ℕ → Bool
@@ -50,7 +52,8 @@ unfolding _then_ stuck
 closed c h ra rb true (remaining s) a = rw a (matched ra rb (expectByte c (c ∷ rb)) (byte-matches c rb))
 closed c h ra rb true mismatch a = absurd a
 closed c h ra rb false (remaining []) a = absurd (false≢true a)
-closed c h ra rb false (remaining (b ∷ s)) a = missed ra rb (expectByte c (b ∷ s)) (byte-mismatch c b s (apart (λ x. not (isCloser x)) b c (both (not (isCloser b)) (closes (c ∷ ra) || (isDigit b || (integral b && startsDigit s))) a .0) (ap not h)))
+closed c h ra rb false (remaining (b ∷ s)) a = missed ra rb (expectByte c (b ∷ s))
+    (byte-mismatch c b s (apart (λ x. not (isCloser x)) b c (both (not (isCloser b)) (closes (c ∷ ra) || (isDigit b || (integral b && startsDigit s))) a .0) (ap not h)))
 closed c h ra rb false mismatch a = tt
 
 one-code : (x b : ℕ) (t : List ℕ) → (expectBytes (x ∷ []) (b ∷ t) ≡ mismatch) ⊎ (expectBytes (x ∷ []) (b ∷ t) ≡ remaining t)
@@ -63,10 +66,18 @@ one-code x b t = go (eqb b x) refl
 
 integral-code : (p b : ℕ) (t : List ℕ) → among p integrals ≡ true → (expectPrimitive p (b ∷ t) ≡ mismatch) ⊎ (expectPrimitive p (b ∷ t) ≡ remaining t)
 unfolding expectPrimitive integrals among isObject code codes
-integral-code p b t h = each (λ q. (expectPrimitive q (b ∷ t) ≡ mismatch) ⊎ (expectPrimitive q (b ∷ t) ≡ remaining t)) integrals (one-code (byte "c") b t, (one-code (byte "s") b t, (one-code (byte "i") b t, (one-code (byte "l") b t, (one-code (byte "q") b t, (one-code (byte "C") b t, (one-code (byte "S") b t, (one-code (byte "I") b t, (one-code (byte "L") b t, (one-code (byte "Q") b t, (one-code (byte "B") b t, tt))))))))))) p h
+integral-code p b t h = each (λ q. (expectPrimitive q (b ∷ t) ≡ mismatch) ⊎ (expectPrimitive q (b ∷ t) ≡ remaining t)) integrals
+    (o (byte "c") also o (byte "s") also o (byte "i") also o (byte "l") also o (byte "q")
+    also o (byte "C") also o (byte "S") also o (byte "I") also o (byte "L") also o (byte "Q") also o (byte "B") also tt)
+    p
+    h
+  where
+    o : (x : ℕ) → (expectBytes (x ∷ []) (b ∷ t) ≡ mismatch) ⊎ (expectBytes (x ∷ []) (b ∷ t) ≡ remaining t)
+    o x = one-code x b t
 
 -- At the code of an integral primitive a node does not match, or takes the code alone.
-over-integral : (l : Label) (v : NestingLevel) (e : Bool) (inner : List ℕ → Expected) (b : ℕ) (t : List ℕ) → fitLabel l ≡ true → isNone l ≡ false → integral b ≡ true → (expectNode l v e inner (b ∷ t) ≡ mismatch) ⊎ (expectNode l v e inner (b ∷ t) ≡ remaining t)
+over-integral : (l : Label) (v : NestingLevel) (e : Bool) (inner : List ℕ → Expected) (b : ℕ) (t : List ℕ) → fitLabel l ≡ true → isNone l ≡ false → integral b ≡ true
+    → (expectNode l v e inner (b ∷ t) ≡ mismatch) ⊎ (expectNode l v e inner (b ∷ t) ≡ remaining t)
 unfolding expectNode
 over-integral l v e inner b t a o h = go (among (kind l) integrals) refl
   where
@@ -149,7 +160,8 @@ MatchFirst end = Unit {0}
 MatchFirst (node l cs ts) = MatchOne l cs
 
 abbrev pub MatchFields : Trees → Type 0
-MatchFields ts = (us : Trees) (v : NestingLevel) (ra rb : List ℕ) → fit ts ≡ true → clear v ts ra ≡ true → withoutNone ts ≡ true → closes ra ≡ true → fit us ≡ true → clear v us rb ≡ true → withoutNone us ≡ true → closes rb ≡ true → mayFollow rb ≡ true → Agrees ra rb (compareEncodings false v ts us) (expectEncoding v ts (print v us ++ rb))
+MatchFields ts = (us : Trees) (v : NestingLevel) (ra rb : List ℕ) → fit ts ≡ true → clear v ts ra ≡ true → withoutNone ts ≡ true → closes ra ≡ true → fit us ≡ true → clear v us rb ≡ true
+    → withoutNone us ≡ true → closes rb ≡ true → mayFollow rb ≡ true → Agrees ra rb (compareEncodings false v ts us) (expectEncoding v ts (print v us ++ rb))
 
 pub stuck-open : (ra s : List ℕ) → closes ra ≡ true → closes s ≡ false → stuck ra s ≡ true
 unfolding stuck closes
@@ -212,11 +224,14 @@ Alike l cs = fitLabel l ≡ true → (m : Label) → fitLabel m ≡ true → amo
 
 against-none : (l : Label) (cs : Trees) → isNone l ≡ false → Matches l cs none
 unfolding expectTree printTree printNode kind
-against-none l cs o ds v ra rb a b h = missed-by ra rb (compareTree v l cs none ds) (expectTree v l cs rb) (other-kind v l none cs ds (none-kind (kind l) (kind-bound l (a .okLabel) o))) (node-mismatch-closes l v (isEnd cs) (λ t. expectEncoding (inside l v) cs t) rb (a .okLabel) o (none-closes v ds rb b))
+against-none l cs o ds v ra rb a b h = missed-by ra rb (compareTree v l cs none ds) (expectTree v l cs rb) (other-kind v l none cs ds (none-kind (kind l) (kind-bound l (a .okLabel) o)))
+    (node-mismatch-closes l v (isEnd cs) (λ t. expectEncoding (inside l v) cs t) rb (a .okLabel) o (none-closes v ds rb b))
 
 match-unlike : (l m : Label) (cs : Trees) → isNone l ≡ false → isNone m ≡ false → among (kind m) (sameOpening (kind l)) ≡ false → Matches l cs m
 unfolding expectTree printTree
-match-unlike l m cs o q e ds v ra rb a b h = missed-by ra rb (compareTree v l cs m ds) (expectTree v l cs (printTree v m ds ++ rb)) (other-kind v l m cs ds (unlike (kind l) (kind m) (kind-bound l (a .okLabel) o) (kind-bound m (b .okLabel) q) e .0)) (unlike-mismatch l m v (isEnd cs) (λ t. expectEncoding (inside l v) cs t) (print (inside m v) ds) rb (a .okLabel) o (b .okLabel) q e)
+match-unlike l m cs o q e ds v ra rb a b h = missed-by ra rb (compareTree v l cs m ds) (expectTree v l cs (printTree v m ds ++ rb))
+    (other-kind v l m cs ds (unlike (kind l) (kind m) (kind-bound l (a .okLabel) o) (kind-bound m (b .okLabel) q) e .0))
+    (unlike-mismatch l m v (isEnd cs) (λ t. expectEncoding (inside l v) cs t) (print (inside m v) ds) rb (a .okLabel) o (b .okLabel) q e)
 
 pub match-alike : (l : Label) (cs : Trees) → isNone l ≡ false → Alike l cs → MatchOne l cs
 match-alike l cs o same m ds v ra rb a b h = go (isNone m) refl ds v ra rb a b h
@@ -242,7 +257,8 @@ none-none cs ds v ra rb a b h = rw (isEnd-end cs (a .okCount), isEnd-end ds (b .
 
 none-tree : (cs : Trees) (m : Label) → isNone m ≡ false → Matches none cs m
 unfolding expectTree printTree expectNode kind
-none-tree cs m q ds v ra rb a b h = rw (other-kind v none m cs ds (kind-none (kind m) (kind-bound m (b .okLabel) q))) (stuck-open ra (printTree v m ds ++ rb) (none-closes v cs ra a) (node-opens m v (print (inside m v) ds) rb (b .okLabel) q))
+none-tree cs m q ds v ra rb a b h = rw (other-kind v none m cs ds (kind-none (kind m) (kind-bound m (b .okLabel) q)))
+    (stuck-open ra (printTree v m ds ++ rb) (none-closes v cs ra a) (node-opens m v (print (inside m v) ds) rb (b .okLabel) q))
 
 pub match-none : (cs : Trees) → MatchOne none cs
 match-none cs m = go (isNone m) refl
@@ -293,10 +309,12 @@ unfolding expectEncoding expectTree
 expect-one v l xs s = then-remaining (expectNode l v (isEnd xs) (λ t. expectEncoding (inside l v) xs t) s)
 
 -- An only child.
-pub match-child : (cs : Trees) → MatchFirst cs → (ds : Trees) (v : NestingLevel) (ra rb : List ℕ) → isOne cs ≡ true → isOne ds ≡ true → fit cs ≡ true → fit ds ≡ true → clear v cs ra ≡ true → clear v ds rb ≡ true → mayFollow rb ≡ true → Agrees ra rb (compareEncodings false v cs ds) (expectEncoding v cs (print v ds ++ rb))
+pub match-child : (cs : Trees) → MatchFirst cs → (ds : Trees) (v : NestingLevel) (ra rb : List ℕ) → isOne cs ≡ true → isOne ds ≡ true → fit cs ≡ true → fit ds ≡ true → clear v cs ra ≡ true
+    → clear v ds rb ≡ true → mayFollow rb ≡ true → Agrees ra rb (compareEncodings false v cs ds) (expectEncoding v cs (print v ds ++ rb))
 unfolding isOne isEnd printTree print
 match-child end first ds v ra rb o q a b c d h = absurd (false≢true o)
 match-child (node l xs (node m ys zs)) first ds v ra rb o q a b c d h = absurd (false≢true o)
 match-child (node l xs end) first end v ra rb o q a b c d h = absurd (false≢true q)
 match-child (node l xs end) first (node m ys (node n us ws)) v ra rb o q a b c d h = absurd (false≢true q)
-match-child (node l xs end) first (node m ys end) v ra rb o q a b c d h = rw (compare-one v l xs m ys, print-one v m ys rb, expect-one v l xs (printTree v m ys ++ rb)) (first m ys v ra rb (node-ok v l xs end ra a c) (node-ok v m ys end rb b d) h)
+match-child (node l xs end) first (node m ys end) v ra rb o q a b c d h = rw (compare-one v l xs m ys, print-one v m ys rb, expect-one v l xs (printTree v m ys ++ rb))
+    (first m ys v ra rb (node-ok v l xs end ra a c) (node-ok v m ys end rb b d) h)

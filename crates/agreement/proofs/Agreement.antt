@@ -1,5 +1,5 @@
 -- The agreement of what is read, printed, measured and compared: the statements over the definitions of kinds and of this crate.
--- Sound trees and shown parts are those of kinds (Sound.antt, Tree.antt). The work is in the files below this one.
+-- Sound trees are those of specs/Sound.antt, shown parts those of kinds (Tree.antt). The work is in the files below this one.
 use Prim.Native.Nat.{ℕ}
 use mathlib.Core.Path.{_≡_}
 use mathlib.Core.Bool.{true}
@@ -10,7 +10,7 @@ use Rattle.kinds.specs.Compare.{equivalentTo}
 use Rattle.kinds.specs.Expect.{equivalentToStr}
 use Rattle.kinds.specs.Parse.{tree, treeThen, fromStr, fromStartOfStr}
 use Rattle.kinds.specs.Print.{print}
-use Rattle.kinds.specs.Sound.{sound}
+use Rattle.agreement.specs.Sound.{sound}
 use Rattle.kinds.specs.Tree.{Label, Trees, end, node, shown}
 use Rattle.kinds.specs.declared.NestingLevel.the-variants.{Top}
 use Rattle.agreement.specs.MarkedCases.{AllHold, markedCases}

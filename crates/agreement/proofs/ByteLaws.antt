@@ -14,6 +14,15 @@ pub not-false : (a : Bool) → not a ≡ true → a ≡ false
 not-false true h = absurd (false≢true h)
 not-false false h = refl
 
+infixr 20 _also_
+infixl 20 _next_
+-- The members of a family one after the other, from the first on; and from the last back.
+abbrev pub _also_ : {A B : Type 0} → A → B → A × B
+a also b = (a, b)
+
+abbrev pub _next_ : {A B : Type 0} → A → B → A × B
+a next b = (a, b)
+
 -- A family over the numbers below `n`.
 abbrev pub Below : (ℕ → Type 0) → ℕ → Type 0
 Below P zero = Unit {0}

@@ -9,7 +9,7 @@ use Rattle.kinds.specs.Compare.{lengthOrOffset, bits, compareLabels, compareChi
 use Rattle.kinds.specs.Expect.{Expected, remaining, mismatch, _then_, expectEncoding, isEmpty, equivalentToStr}
 use Rattle.kinds.specs.Primitive.{isObject}
 use Rattle.kinds.specs.Print.{fields, printNode, print}
-use Rattle.kinds.specs.Sound.{isNone, withoutNone, sound}
+use Rattle.agreement.specs.Sound.{isNone, withoutNone, sound}
 use Rattle.kinds.specs.Tree.{Label, Trees, end, node, primitive, bitField, typedBitField, pointer, atomic, array, struct, union, none, inside, shows, kind, name, isContainer, isEnd}
 use Rattle.kinds.specs.declared.ContainerKind.the-variants.{Struct, Union}
 use Rattle.kinds.specs.declared.NestingLevel.{NestingLevel}
@@ -21,7 +21,8 @@ use Rattle.agreement.proofs.FollowLaws.{mayFollow, trees-follow}
 use Rattle.agreement.proofs.RoundTrip.{isNone-none, clear-parts}
 use Rattle.agreement.proofs.PrintsAlike.{unqualified}
 use Rattle.agreement.proofs.OpeningLaws.{tried, sameOpening, node-mismatch-closes}
-use Rattle.agreement.proofs.AgreeLaws.{stuck, Agrees, missed, stuck-on, compareTree, expectTree, printTree, MatchOne, MatchFirst, MatchFields, stuck-open, labelOf, Alike, match-alike, alike-from, match-none, node-ok, match-child}
+use Rattle.agreement.proofs.AgreeLaws.{stuck, Agrees, missed, stuck-on, compareTree, expectTree, printTree, MatchOne, MatchFirst, MatchFields, stuck-open, labelOf, Alike}
+use Rattle.agreement.proofs.AgreeLaws.{match-alike, alike-from, match-none, node-ok, match-child}
 use Rattle.agreement.proofs.LeafLaws.{bits-bits, bits-typed, typed-bits, typed-typed, match-primitive}
 use Rattle.agreement.proofs.HolderLaws.{pointer-pair, atomic-pair, array-pair, trees-open, container-pair}
 
@@ -45,7 +46,8 @@ match-one l cs first fields = go (isNone l) refl
     go false e = match-alike l cs e (alike-one l cs first fields e)
 
 -- The trees after the first.
-onward : (v : NestingLevel) (ts : Trees) (ra rb rest : List ℕ) (t : Bool) (w : Expected) (t' : Bool) → fit ts ≡ true → withoutNone ts ≡ true → Agrees (print v ts ++ ra) rest t w → Agrees ra rb t' (expectEncoding v ts rest) → Agrees ra rb (t && t') (w then (λ x. expectEncoding v ts x))
+onward : (v : NestingLevel) (ts : Trees) (ra rb rest : List ℕ) (t : Bool) (w : Expected) (t' : Bool) → fit ts ≡ true → withoutNone ts ≡ true → Agrees (print v ts ++ ra) rest t w
+    → Agrees ra rb t' (expectEncoding v ts rest) → Agrees ra rb (t && t') (w then (λ x. expectEncoding v ts x))
 unfolding _then_
 onward v ts ra rb rest true (remaining s) t' g n a b = rw a b
 onward v ts ra rb rest true mismatch t' g n a b = absurd a
@@ -59,14 +61,18 @@ fields-end (node l cs ts) v ra rb a c n q b d m p h = stuck-open ra (print v (no
 
 fields-node : (l : Label) (cs ts : Trees) → MatchOne l cs → MatchFields ts → MatchFields (node l cs ts)
 unfolding compareEncodings expectEncoding print withoutNone _then_ expectTree printTree compareTree
-fields-node l cs ts one fields end v ra rb a c n q b d m p h = missed ra rb (expectTree v l cs rb then (λ x. expectEncoding v ts x)) (rw (node-mismatch-closes l v (isEnd cs) (λ t. expectEncoding (inside l v) cs t) rb (fit-parts l cs ts a .0) (not-false (isNone l) (both (not (isNone l)) (withoutNone ts) n .0)) p))
+fields-node l cs ts one fields end v ra rb a c n q b d m p h = missed ra rb (expectTree v l cs rb then (λ x. expectEncoding v ts x))
+    (rw (node-mismatch-closes l v (isEnd cs) (λ t. expectEncoding (inside l v) cs t) rb (fit-parts l cs ts a .0) (not-false (isNone l) (both (not (isNone l)) (withoutNone ts) n .0)) p))
 fields-node l cs ts one fields (node k ds us) v ra rb a c n q b d m p h =
     let t = print v us ++ rb in
     let n' = both (not (isNone l)) (withoutNone ts) n .1 in
     let m' = both (not (isNone k)) (withoutNone us) m .1 in
     let a' = fit-parts l cs ts a .3 in
     let b' = fit-parts k ds us b .3 in
-    rw (append-assoc (printNode k v (print (inside k v) ds)) (print v us) rb, sym (and-assoc (compareLabels l k) (compareChildren (isContainer l) (shows l v) (isEnd cs || isEnd ds) (compareEncodings false (inside l v) cs ds)) (compareEncodings false v ts us)))
+    rw (
+      append-assoc (printNode k v (print (inside k v) ds)) (print v us) rb,
+      sym (and-assoc (compareLabels l k) (compareChildren (isContainer l) (shows l v) (isEnd cs || isEnd ds) (compareEncodings false (inside l v) cs ds)) (compareEncodings false v ts us)),
+    )
     (onward v ts ra rb t (compareTree v l cs k ds) (expectTree v l cs (printTree v k ds ++ t)) (compareEncodings false v ts us) a' n'
     (one k ds v (print v ts ++ ra) t (node-ok v l cs ts ra a c) (node-ok v k ds us rb b d) (trees-follow v us rb b' h))
     (fields us v ra rb a' (clear-parts v l cs ts ra c .1) n' q b' (clear-parts v k ds us rb d .1) m' p h))

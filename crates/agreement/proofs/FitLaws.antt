@@ -5,7 +5,8 @@ use mathlib.Core.List.{[]}
 use lib.Dec.{leb, ltb}
 use Rattle.kinds.specs.Name.{verifyName}
 use Rattle.kinds.specs.Parse.{maxU64, maxU8}
-use Rattle.kinds.specs.Sound.{validLabel, validCount, valid, goodName, goodNames, clear, sound}
+use Rattle.kinds.specs.Sound.{validLabel, validCount, valid, goodName, goodNames}
+use Rattle.agreement.specs.Sound.{clear, sound}
 use Rattle.kinds.specs.Tree.{Label, Trees, end, node, primitive, bitField, typedBitField, pointer, atomic, array, struct, union, none, isOne}
 use Rattle.kinds.specs.declared.NestingLevel.the-variants.{Top}
 use Rattle.kinds.proofs.TableLaws.{both}

@@ -16,7 +16,8 @@ use Rattle.kinds.specs.Name.{verifyName}
 use Rattle.kinds.specs.Parse.{maxU64, container}
 use Rattle.kinds.specs.Primitive.{equivalent}
 use Rattle.kinds.specs.Print.{decimal, fields, printNode, print}
-use Rattle.kinds.specs.Sound.{validCount, isNone, withoutNone, isCloser, closes, afterChildren, clearNode, clear}
+use Rattle.kinds.specs.Sound.{validCount}
+use Rattle.agreement.specs.Sound.{isNone, withoutNone, isCloser, closes, afterChildren, clearNode, clear}
 use Rattle.kinds.specs.Tree.{Label, Trees, end, node, pointer, atomic, array, inside, kind, name, isContainer, isEnd}
 use Rattle.kinds.specs.declared.ContainerKind.{ContainerKind}
 use Rattle.kinds.specs.declared.ContainerKind.the-variants.{Struct, Union}
@@ -29,7 +30,8 @@ use Rattle.agreement.proofs.FitLaws.{fitLabel, fit, fit-parts}
 use Rattle.agreement.proofs.FollowLaws.{mayFollow, no-digit, closer-follows, bracket-follows, trees-follow}
 use Rattle.agreement.proofs.RoundTrip.{lacks-equals, lacks-closer, body, container-text, array-text, read-back}
 use Rattle.agreement.proofs.OpeningLaws.{byte-mismatch, byte-matches, node-opens}
-use Rattle.agreement.proofs.AgreeLaws.{Agrees, matched, closed, compareTree, expectTree, printTree, Matches, MatchFirst, MatchFields, missed-by, eqb-swap, number-matches, number-mismatch, match-child}
+use Rattle.agreement.proofs.AgreeLaws.{Agrees, matched, closed, compareTree, expectTree, printTree, Matches, MatchFirst, MatchFields, missed-by, eqb-swap, number-matches}
+use Rattle.agreement.proofs.AgreeLaws.{number-mismatch, match-child}
 
 -- Pointers and atomics.
 pub pointer-pair : (cs : Trees) → MatchFirst cs → Matches pointer cs pointer
@@ -55,8 +57,11 @@ array-pair n k cs first ds v ra rb a b h = rw (array-text k v (print v ds) rb) (
     d = no-digit t (trees-follow v ds (byte "]" ∷ rb) (b .okBelow) f)
 
     go : (y : Bool) → eqb n k ≡ y → Agrees ra rb ((eqb n k && true) && compareEncodings false v cs ds) (expectNumber maxU64 n (decimal k ++ t) then (λ u. expectEncoding v cs u then (λ w. expectByte (byte "]") w)))
-    go true e = rw (e, number-matches maxU64 n k t (leb-true n maxU64 (a .okLabel)) d e) (closed (byte "]") refl ra rb (compareEncodings false v cs ds) (expectEncoding v cs t) (match-child cs first ds v (byte "]" ∷ ra) (byte "]" ∷ rb) (a .okCount) (b .okCount) (a .okBelow) (b .okBelow) (a .okClear) (b .okClear) f))
-    go false e = missed-by ra rb ((eqb n k && true) && compareEncodings false v cs ds) (expectNumber maxU64 n (decimal k ++ t) then (λ u. expectEncoding v cs u then (λ w. expectByte (byte "]") w))) (rw e) (rw (number-mismatch maxU64 n k t d e))
+    go true e = rw (e, number-matches maxU64 n k t (leb-true n maxU64 (a .okLabel)) d e)
+        (closed (byte "]") refl ra rb (compareEncodings false v cs ds) (expectEncoding v cs t)
+        (match-child cs first ds v (byte "]" ∷ ra) (byte "]" ∷ rb) (a .okCount) (b .okCount) (a .okBelow) (b .okBelow) (a .okClear) (b .okClear) f))
+    go false e = missed-by ra rb ((eqb n k && true) && compareEncodings false v cs ds) (expectNumber maxU64 n (decimal k ++ t) then (λ u. expectEncoding v cs u then (λ w. expectByte (byte "]") w)))
+        (rw e) (rw (number-mismatch maxU64 n k t d e))
 
 -- Containers.
 then-then : (w : Expected) (f g : List ℕ → Expected) → (w then (λ t. f t then g)) ≡ ((w then f) then g)
@@ -71,11 +76,13 @@ names-match c [] (y ∷ t) u a b = byte-mismatch c y (t ++ (c ∷ u)) (not-false
 names-match c (x ∷ s) [] u a b = rw (byte-mismatch x c u (eqb-swap x c (not-false (eqb x c) (both (not (eqb x c)) (lacks c s) a .0))))
 names-match c (x ∷ s) (y ∷ t) u a b = go (eqb x y) refl (names-match c s t u (both (not (eqb x c)) (lacks c s) a .1) (both (not (eqb y c)) (lacks c t) b .1))
   where
-    go : (z : Bool) → eqb x y ≡ z → (expectBytes s (t ++ (c ∷ u)) then (λ w. expectByte c w)) ≡ cond (sameBytes s t) (remaining u) mismatch → ((expectByte x (y ∷ (t ++ (c ∷ u))) then (λ w. expectBytes s w)) then (λ w. expectByte c w)) ≡ cond (eqb x y && sameBytes s t) (remaining u) mismatch
+    go : (z : Bool) → eqb x y ≡ z → (expectBytes s (t ++ (c ∷ u)) then (λ w. expectByte c w)) ≡ cond (sameBytes s t) (remaining u) mismatch
+        → ((expectByte x (y ∷ (t ++ (c ∷ u))) then (λ w. expectBytes s w)) then (λ w. expectByte c w)) ≡ cond (eqb x y && sameBytes s t) (remaining u) mismatch
     go true e ih = rw (e, eqb-true x y e, byte-matches y (t ++ (c ∷ u))) ih
     go false e ih = rw (e, byte-mismatch x y (t ++ (c ∷ u)) (eqb-swap x y e))
 
-compare-containers : (k : ContainerKind) (v : NestingLevel) (s : List ℕ) (cs : Trees) (t : List ℕ) (ds : Trees) → compareTree v (container k s) cs (container k t) ds ≡ (sameBytes s t && cond (showsFields v) ((isEnd cs || isEnd ds) || compareEncodings false Within cs ds) true)
+compare-containers : (k : ContainerKind) (v : NestingLevel) (s : List ℕ) (cs : Trees) (t : List ℕ) (ds : Trees)
+    → compareTree v (container k s) cs (container k t) ds ≡ (sameBytes s t && cond (showsFields v) ((isEnd cs || isEnd ds) || compareEncodings false Within cs ds) true)
 unfolding compareTree compareLabels equivalent kind lengthOrOffset bits name isContainer compareChildren
 compare-containers Struct v s cs t ds = refl
 compare-containers Union v s cs t ds = refl
@@ -105,7 +112,9 @@ pub trees-open : (v : NestingLevel) (m : Label) (ds us : Trees) (r : List ℕ) �
 unfolding print withoutNone
 trees-open v m ds us r g w = rw append-assoc (node-opens m v (print (inside m v) ds) (print v us ++ r) (fit-parts m ds us g .0) (not-false (isNone m) (both (not (isNone m)) (withoutNone us) w .0)))
 
-fields-pair : (k : ContainerKind) (cs : Trees) → MatchFields cs → (ds : Trees) (ra rb : List ℕ) → fit cs ≡ true → (withoutNone cs && clear Within cs (endByte k ∷ ra)) ≡ true → fit ds ≡ true → (withoutNone ds && clear Within ds (endByte k ∷ rb)) ≡ true → Agrees ra rb ((isEnd cs || isEnd ds) || compareEncodings false Within cs ds) (expectFields k (isEnd cs) (λ t. expectEncoding Within cs t) (print Within ds ++ (endByte k ∷ rb)))
+fields-pair : (k : ContainerKind) (cs : Trees) → MatchFields cs → (ds : Trees) (ra rb : List ℕ) → fit cs ≡ true → (withoutNone cs && clear Within cs (endByte k ∷ ra)) ≡ true → fit ds ≡ true
+    → (withoutNone ds && clear Within ds (endByte k ∷ rb)) ≡ true
+    → Agrees ra rb ((isEnd cs || isEnd ds) || compareEncodings false Within cs ds) (expectFields k (isEnd cs) (λ t. expectEncoding Within cs t) (print Within ds ++ (endByte k ∷ rb)))
 unfolding isEnd expectFields print orElse closes
 fields-pair k end fields ds ra rb a c b d =
     let d' = both (withoutNone ds) (clear Within ds (endByte k ∷ rb)) d in
@@ -119,7 +128,10 @@ fields-pair k (node l xs ts) fields (node m ys us) ra rb a c b d =
     (closed (endByte k) (kind-closes k) ra rb (compareEncodings false Within (node l xs ts) (node m ys us)) (expectEncoding Within (node l xs ts) t)
     (fields (node m ys us) Within (endByte k ∷ ra) (endByte k ∷ rb) a (c' .1) (c' .0) (kind-closes k) b (d' .1) (d' .0) (kind-closes k) (closer-follows k rb)))
 
-shown-pair : (k : ContainerKind) (s : List ℕ) (cs : Trees) → MatchFields cs → (t : List ℕ) (ds : Trees) (ra rb : List ℕ) → verifyName s ≡ true → verifyName t ≡ true → fit cs ≡ true → (withoutNone cs && clear Within cs (endByte k ∷ ra)) ≡ true → fit ds ≡ true → (withoutNone ds && clear Within ds (endByte k ∷ rb)) ≡ true → Agrees ra rb (sameBytes s t && ((isEnd cs || isEnd ds) || compareEncodings false Within cs ds)) (expectBytes s (t ++ (byte "=" ∷ (print Within ds ++ (endByte k ∷ rb)))) then (λ x. expectByte (byte "=") x then (λ u. expectFields k (isEnd cs) (λ w. expectEncoding Within cs w) u)))
+shown-pair : (k : ContainerKind) (s : List ℕ) (cs : Trees) → MatchFields cs → (t : List ℕ) (ds : Trees) (ra rb : List ℕ) → verifyName s ≡ true → verifyName t ≡ true → fit cs ≡ true
+    → (withoutNone cs && clear Within cs (endByte k ∷ ra)) ≡ true → fit ds ≡ true → (withoutNone ds && clear Within ds (endByte k ∷ rb)) ≡ true
+    → Agrees ra rb (sameBytes s t && ((isEnd cs || isEnd ds) || compareEncodings false Within cs ds))
+    (expectBytes s (t ++ (byte "=" ∷ (print Within ds ++ (endByte k ∷ rb)))) then (λ x. expectByte (byte "=") x then (λ u. expectFields k (isEnd cs) (λ w. expectEncoding Within cs w) u)))
 unfolding _then_
 shown-pair k s cs fields t ds ra rb n m a c b d = rw (then-then (expectBytes s (t ++ (byte "=" ∷ z))) (λ x. expectByte (byte "=") x) f, names-match (byte "=") s t z (lacks-equals s n) (lacks-equals t m)) (go (sameBytes s t) refl)
   where
@@ -140,10 +152,16 @@ hidden-pair k s t ra rb n m = rw (names-match (endByte k) s t rb (lacks-closer k
     go true = refl
     go false = tt
 
-named-pair : (k : ContainerKind) (s : List ℕ) (cs : Trees) → MatchFields cs → (t : List ℕ) (ds : Trees) (v : NestingLevel) (ra rb : List ℕ) → verifyName s ≡ true → verifyName t ≡ true → fit cs ≡ true → cond (showsFields v) (withoutNone cs && clear Within cs (endByte k ∷ ra)) true ≡ true → fit ds ≡ true → cond (showsFields v) (withoutNone ds && clear Within ds (endByte k ∷ rb)) true ≡ true → Agrees ra rb (compareTree v (container k s) cs (container k t) ds) (expectTree v (container k s) cs (printNode (container k t) v (print Within ds) ++ rb))
+named-pair : (k : ContainerKind) (s : List ℕ) (cs : Trees) → MatchFields cs → (t : List ℕ) (ds : Trees) (v : NestingLevel) (ra rb : List ℕ) → verifyName s ≡ true → verifyName t ≡ true → fit cs ≡ true
+    → cond (showsFields v) (withoutNone cs && clear Within cs (endByte k ∷ ra)) true ≡ true → fit ds ≡ true → cond (showsFields v) (withoutNone ds && clear Within ds (endByte k ∷ rb)) true ≡ true
+    → Agrees ra rb (compareTree v (container k s) cs (container k t) ds) (expectTree v (container k s) cs (printNode (container k t) v (print Within ds) ++ rb))
 unfolding body expectContainer
-named-pair k s cs fields t ds Top ra rb n m a c b d = rw (container-text k Top t (print Within ds) rb, compare-containers k Top s cs t ds, expect-opened k Top s cs (t ++ (byte "=" ∷ (print Within ds ++ (endByte k ∷ rb))))) (shown-pair k s cs fields t ds ra rb n m a c b d)
-named-pair k s cs fields t ds Within ra rb n m a c b d = rw (container-text k Within t (print Within ds) rb, compare-containers k Within s cs t ds, expect-opened k Within s cs (t ++ (byte "=" ∷ (print Within ds ++ (endByte k ∷ rb))))) (shown-pair k s cs fields t ds ra rb n m a c b d)
+named-pair k s cs fields t ds Top ra rb n m a c b d = rw
+    (container-text k Top t (print Within ds) rb, compare-containers k Top s cs t ds, expect-opened k Top s cs (t ++ (byte "=" ∷ (print Within ds ++ (endByte k ∷ rb)))))
+    (shown-pair k s cs fields t ds ra rb n m a c b d)
+named-pair k s cs fields t ds Within ra rb n m a c b d = rw
+    (container-text k Within t (print Within ds) rb, compare-containers k Within s cs t ds, expect-opened k Within s cs (t ++ (byte "=" ∷ (print Within ds ++ (endByte k ∷ rb)))))
+    (shown-pair k s cs fields t ds ra rb n m a c b d)
 named-pair k s cs fields t ds Bottom ra rb n m a c b d = rw (container-text k Bottom t (print Within ds) rb, compare-containers k Bottom s cs t ds, expect-opened k Bottom s cs (t ++ (endByte k ∷ rb))) (hidden-pair k s t ra rb n m)
 
 pub container-pair : (k : ContainerKind) (s : List ℕ) (cs : Trees) → MatchFields cs → (t : List ℕ) → Matches (container k s) cs (container k t)

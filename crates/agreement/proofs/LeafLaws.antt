@@ -12,18 +12,20 @@ use Rattle.kinds.specs.Expect.{Expected, remaining, mismatch, _then_, expectByt
 use Rattle.kinds.specs.Parse.{maxU64, maxU8, integral}
 use Rattle.kinds.specs.Primitive.{codes, code, isObject, equivalent}
 use Rattle.kinds.specs.Print.{decimal, printNode, print}
-use Rattle.kinds.specs.Sound.{validCount, isIntegral, isNone, isCloser, closes, unknownNext, afterChildren, clearNode, clear}
+use Rattle.kinds.specs.Sound.{validCount}
+use Rattle.agreement.specs.Sound.{isIntegral, isNone, isCloser, closes, unknownNext, afterChildren, clearNode, clear}
 use Rattle.kinds.specs.Tree.{Trees, end, node, primitive, bitField, typedBitField, kind, name, isContainer}
 use Rattle.kinds.specs.declared.NestingLevel.{NestingLevel}
 use Rattle.kinds.specs.declared.NestingLevel.the-variants.{Top}
 use Rattle.kinds.proofs.TableLaws.{both}
-use Rattle.agreement.proofs.ByteLaws.{not-false, each, every, passes}
+use Rattle.agreement.proofs.ByteLaws.{not-false, each, every, passes, _also_}
 use Rattle.agreement.proofs.DigitLaws.{startsDigit, decimal-start}
 use Rattle.agreement.proofs.FitLaws.{fitLabel}
 use Rattle.agreement.proofs.FollowLaws.{mayFollow, no-digit, startsTyped, no-typed, startsQuote, no-quote}
 use Rattle.agreement.proofs.RoundTrip.{integrals, code-no-digit, isEnd-end, integral-child, typed-text, typed-child}
 use Rattle.agreement.proofs.OpeningLaws.{tried, sameOpening, unlike, tried-object, tried-one, byte-mismatch, byte-matches, node-mismatch-closes, unlike-mismatch}
-use Rattle.agreement.proofs.AgreeLaws.{stuck, Agrees, missed, compareTree, expectTree, printTree, Matches, kind-below, matched-by, missed-by, Alike, eqb-swap, number-matches, number-mismatch, no-number-mismatch, expect-one}
+use Rattle.agreement.proofs.AgreeLaws.{stuck, Agrees, missed, compareTree, expectTree, printTree, Matches, kind-below, matched-by, missed-by, Alike, eqb-swap}
+use Rattle.agreement.proofs.AgreeLaws.{number-matches, number-mismatch, no-number-mismatch, expect-one}
 
 -- Bitfields.
 pub bits-bits : (n k : ℕ) (cs : Trees) → Matches (bitField n) cs (bitField k)
@@ -75,7 +77,11 @@ code-nothing p a = node-mismatch-closes (primitive p) Top true (λ t. remaining 
 typed-inner : (n p : ℕ) (s : List ℕ) → among p integrals ≡ true → startsTyped s ≡ false → (expectPrimitive p s then (λ w. expectNumber maxU8 n w)) ≡ mismatch
 unfolding integrals startsTyped expectPrimitive among isObject code codes integral _then_
 typed-inner n p [] a h = rw (code-nothing p (integral-bound p a))
-typed-inner n p (b ∷ t) a h = each (λ q. (expectPrimitive q (b ∷ t) then (λ w. expectNumber maxU8 n w)) ≡ mismatch) integrals (z (byte "c") refl, (z (byte "s") refl, (z (byte "i") refl, (z (byte "l") refl, (z (byte "q") refl, (z (byte "C") refl, (z (byte "S") refl, (z (byte "I") refl, (z (byte "L") refl, (z (byte "Q") refl, (z (byte "B") refl, tt))))))))))) p a
+typed-inner n p (b ∷ t) a h = each (λ q. (expectPrimitive q (b ∷ t) then (λ w. expectNumber maxU8 n w)) ≡ mismatch) integrals
+    (z (byte "c") refl also z (byte "s") refl also z (byte "i") refl also z (byte "l") refl also z (byte "q") refl
+    also z (byte "C") refl also z (byte "S") refl also z (byte "I") refl also z (byte "L") refl also z (byte "Q") refl also z (byte "B") refl also tt)
+    p
+    a
   where
     z : (x : ℕ) → integral x ≡ true → (expectBytes (x ∷ []) (b ∷ t) then (λ w. expectNumber maxU8 n w)) ≡ mismatch
     z x i = code-then n x b t i h
@@ -137,7 +143,9 @@ typed-labels o n k j = rw (and-true (eqb n j))
 code-matches : (p q : ℕ) (x : List ℕ) → among p integrals ≡ true → eqb p q ≡ true → expectPrimitive p (code q ++ x) ≡ remaining x
 code-matches p q x a e = subst (λ y. expectPrimitive p (code y ++ x) ≡ remaining x) (eqb-true p q e) (code-self p x (integral-not-object p a))
 
-typed-codes : (o n k j p q : ℕ) (v : NestingLevel) (ra rb : List ℕ) → o ≤ maxU64 → n ≤ maxU8 → among p integrals ≡ true → among q integrals ≡ true → mayFollow rb ≡ true → Agrees ra rb ((eqb o k && eqb n j) && equivalent p q) (expectNumber maxU64 o (decimal k ++ (code q ++ (decimal j ++ rb))) then (λ u. expectEncoding v (node (primitive p) end end) u then (λ w. expectNumber maxU8 n w)))
+typed-codes : (o n k j p q : ℕ) (v : NestingLevel) (ra rb : List ℕ) → o ≤ maxU64 → n ≤ maxU8 → among p integrals ≡ true → among q integrals ≡ true → mayFollow rb ≡ true
+    → Agrees ra rb ((eqb o k && eqb n j) && equivalent p q)
+    (expectNumber maxU64 o (decimal k ++ (code q ++ (decimal j ++ rb))) then (λ u. expectEncoding v (node (primitive p) end end) u then (λ w. expectNumber maxU8 n w)))
 unfolding _then_
 typed-codes o n k j p q v ra rb lo ln a b h = first (eqb o k) refl
   where
@@ -156,11 +164,15 @@ typed-codes o n k j p q v ra rb lo ln a b h = first (eqb o k) refl
 
     second : (y : Bool) → eqb p q ≡ y → Agrees ra rb (eqb n j && equivalent p q) (expectPrimitive p (code q ++ x) then (λ w. expectNumber maxU8 n w))
     second true e = rw (equivalent-self p q e, code-matches p q x a e) (third (eqb n j) refl)
-    second false e = missed-by ra rb (eqb n j && equivalent p q) (expectPrimitive p (code q ++ x) then (λ w. expectNumber maxU8 n w)) (rw (unlike p q (bound p a) (bound q b) (other-integral p q a e) .0) (and-false (eqb n j))) (rw (other-code p q x a b e))
+    second false e = missed-by ra rb (eqb n j && equivalent p q) (expectPrimitive p (code q ++ x) then (λ w. expectNumber maxU8 n w))
+        (rw (unlike p q (bound p a) (bound q b) (other-integral p q a e) .0) (and-false (eqb n j))) (rw (other-code p q x a b e))
 
-    first : (y : Bool) → eqb o k ≡ y → Agrees ra rb ((eqb o k && eqb n j) && equivalent p q) (expectNumber maxU64 o (decimal k ++ (code q ++ x)) then (λ u. expectEncoding v (node (primitive p) end end) u then (λ w. expectNumber maxU8 n w)))
+    first : (y : Bool) → eqb o k ≡ y → Agrees ra rb ((eqb o k && eqb n j) && equivalent p q)
+        (expectNumber maxU64 o (decimal k ++ (code q ++ x)) then (λ u. expectEncoding v (node (primitive p) end end) u then (λ w. expectNumber maxU8 n w)))
     first true e = rw (e, number-matches maxU64 o k (code q ++ x) lo d e, expect-code v p (code q ++ x)) (second (eqb p q) refl)
-    first false e = missed-by ra rb ((eqb o k && eqb n j) && equivalent p q) (expectNumber maxU64 o (decimal k ++ (code q ++ x)) then (λ u. expectEncoding v (node (primitive p) end end) u then (λ w. expectNumber maxU8 n w))) (rw e) (rw (number-mismatch maxU64 o k (code q ++ x) d e))
+    first false e = missed-by ra rb ((eqb o k && eqb n j) && equivalent p q)
+        (expectNumber maxU64 o (decimal k ++ (code q ++ x)) then (λ u. expectEncoding v (node (primitive p) end end) u then (λ w. expectNumber maxU8 n w))) (rw e)
+        (rw (number-mismatch maxU64 o k (code q ++ x) d e))
 
 pub typed-typed : (o n k j : ℕ) (cs : Trees) → Matches (typedBitField o n) cs (typedBitField k j)
 unfolding expectTree printTree expectNode expectByte _then_ compareTree isContainer compareChildren fitLabel validCount clearNode
@@ -168,7 +180,8 @@ typed-typed o n k j cs ds v ra rb a b h =
     let i = integral-child cs (a .okCount) (a .okBelow) (both (isIntegral cs) (clear v cs (afterChildren (typedBitField o n) ra)) (a .okClear) .0) in
     let i' = integral-child ds (b .okCount) (b .okBelow) (both (isIntegral ds) (clear v ds (afterChildren (typedBitField k j) rb)) (b .okClear) .0) in
     let a' = both (leb o maxU64) (leb n maxU8) (a .okLabel) in
-    rw (typed-text k j v (print v ds) rb, i' .1, typed-child v (i' .0) (decimal j ++ rb), i .1, compare-codes v (i .0) (i' .0), typed-labels o n k j) (typed-codes o n k j (i .0) (i' .0) v ra rb (leb-true o maxU64 (a' .0)) (leb-true n maxU8 (a' .1)) (i .2) (i' .2) h)
+    rw (typed-text k j v (print v ds) rb, i' .1, typed-child v (i' .0) (decimal j ++ rb), i .1, compare-codes v (i .0) (i' .0), typed-labels o n k j)
+    (typed-codes o n k j (i .0) (i' .0) v ra rb (leb-true o maxU64 (a' .0)) (leb-true n maxU8 (a' .1)) (i .2) (i' .2) h)
 
 -- Primitives.
 not-block : (r : List ℕ) → unknownNext r ≡ false → expectBytes (bytes "@?") (byte "@" ∷ r) ≡ mismatch
@@ -181,9 +194,12 @@ unfolding startsQuote className
 after-quote [] h = refl
 after-quote (b ∷ r) h = rw (h, className)
 
-object-text : (r : List ℕ) (q : ℕ) → among q (20 ∷ 19 ∷ 21 ∷ []) ≡ true → not (eqb q 19 && unknownNext r) ≡ true → orElse (expectBytes (code 20) (code q ++ r)) (orElse (expectBytes (code 19) (code q ++ r)) (expectBytes (code 21) (code q ++ r))) ≡ remaining r
+object-text : (r : List ℕ) (q : ℕ) → among q (20 ∷ 19 ∷ 21 ∷ []) ≡ true → not (eqb q 19 && unknownNext r) ≡ true
+    → orElse (expectBytes (code 20) (code q ++ r)) (orElse (expectBytes (code 19) (code q ++ r)) (expectBytes (code 21) (code q ++ r))) ≡ remaining r
 unfolding code codes expectBytes expectByte _then_ orElse
-object-text r q a = each (λ x. not (eqb x 19 && unknownNext r) ≡ true → orElse (expectBytes (code 20) (code x ++ r)) (orElse (expectBytes (code 19) (code x ++ r)) (expectBytes (code 21) (code x ++ r))) ≡ remaining r) (20 ∷ 19 ∷ 21 ∷ []) ((λ h. refl), ((λ h. rw (not-block r (not-false (unknownNext r) h))), ((λ h. refl), tt))) q a
+object-text r q a = each (λ x. not (eqb x 19 && unknownNext r) ≡ true
+    → orElse (expectBytes (code 20) (code x ++ r)) (orElse (expectBytes (code 19) (code x ++ r)) (expectBytes (code 21) (code x ++ r))) ≡ remaining r) (20 ∷ 19 ∷ 21 ∷ [])
+    ((λ h. refl), ((λ h. rw (not-block r (not-false (unknownNext r) h))), ((λ h. refl), tt))) q a
 
 expect-object : (p q : ℕ) (r : List ℕ) → isObject p ≡ true → among q (20 ∷ 19 ∷ 21 ∷ []) ≡ true → not (eqb q 19 && unknownNext r) ≡ true → startsQuote r ≡ false → expectPrimitive p (code q ++ r) ≡ remaining r
 unfolding expectPrimitive _then_

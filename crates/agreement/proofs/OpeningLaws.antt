@@ -12,7 +12,7 @@ use Rattle.kinds.specs.Expect.{Expected, remaining, mismatch, _then_, expectByt
 use Rattle.kinds.specs.Parse.{integral}
 use Rattle.kinds.specs.Primitive.{codes, code, isObject, equivalent}
 use Rattle.kinds.specs.Print.{decimal, fields, printNode}
-use Rattle.kinds.specs.Sound.{isNone, isCloser, closes}
+use Rattle.agreement.specs.Sound.{isNone, isCloser, closes}
 use Rattle.kinds.specs.Tree.{Label, primitive, bitField, typedBitField, pointer, atomic, array, struct, union, none, kind}
 use Rattle.kinds.specs.declared.NestingLevel.{NestingLevel}
 use Rattle.kinds.proofs.TableLaws.{both, everyBelow, passBelow, same-bytes}
@@ -133,7 +133,8 @@ primitive-mismatch p s l h = go (isObject p) refl
     go false e = code-mismatch p s e (rw (code-opens p l) (h p (tried-self p e)))
 
 -- Where no opening that is tried for it is there, a node does not match.
-node-mismatch : (l : Label) (v : NestingLevel) (e : Bool) (inner : List ℕ → Expected) (s : List ℕ) → fitLabel l ≡ true → isNone l ≡ false → ((k : ℕ) → among k (tried (kind l)) ≡ true → expectBytes (opening k) s ≡ mismatch) → expectNode l v e inner s ≡ mismatch
+node-mismatch : (l : Label) (v : NestingLevel) (e : Bool) (inner : List ℕ → Expected) (s : List ℕ) → fitLabel l ≡ true → isNone l ≡ false
+    → ((k : ℕ) → among k (tried (kind l)) ≡ true → expectBytes (opening k) s ≡ mismatch) → expectNode l v e inner s ≡ mismatch
 unfolding expectNode fitLabel isNone kind tried among isObject opening openings codes _then_
 node-mismatch (primitive p) v e inner s a o h = primitive-mismatch p s (ltb-true p 24 a) h
 node-mismatch (bitField n) v e inner s a o h = rw (one-byte-mismatch (byte "b") s (h 24 refl))
@@ -172,7 +173,8 @@ head-mismatch-end test (x ∷ s) h = refl
 unfoldable pub fails : (ℕ → Bool) → ℕ → Bool
 fails test k = every (λ i. headFails test (opening i)) (tried k)
 
-pub node-mismatch-head : (test : ℕ → Bool) (l : Label) (v : NestingLevel) (e : Bool) (inner : List ℕ → Expected) (b : ℕ) (t : List ℕ) → fitLabel l ≡ true → isNone l ≡ false → fails test (kind l) ≡ true → test b ≡ true → expectNode l v e inner (b ∷ t) ≡ mismatch
+pub node-mismatch-head : (test : ℕ → Bool) (l : Label) (v : NestingLevel) (e : Bool) (inner : List ℕ → Expected) (b : ℕ) (t : List ℕ) → fitLabel l ≡ true → isNone l ≡ false
+    → fails test (kind l) ≡ true → test b ≡ true → expectNode l v e inner (b ∷ t) ≡ mismatch
 unfolding fails
 node-mismatch-head test l v e inner b t a o f h = node-mismatch l v e inner (b ∷ t) a o (λ k m. head-mismatch test (opening k) (passes (λ i. headFails test (opening i)) (tried (kind l)) f k m) b t h)
 
@@ -210,7 +212,10 @@ node-opens l v c r a o =
     let p = print-opens l v c r a o in
     rw (p .1) (head-closes (opening (kind l)) (p .0) (opening-closer (kind l) (kind-bound l a o)))
 
-pub unlike-mismatch : (l m : Label) (v : NestingLevel) (e : Bool) (inner : List ℕ → Expected) (c r : List ℕ) → fitLabel l ≡ true → isNone l ≡ false → fitLabel m ≡ true → isNone m ≡ false → among (kind m) (sameOpening (kind l)) ≡ false → expectNode l v e inner (printNode m v c ++ r) ≡ mismatch
+pub unlike-mismatch : (l m : Label) (v : NestingLevel) (e : Bool) (inner : List ℕ → Expected) (c r : List ℕ) → fitLabel l ≡ true → isNone l ≡ false → fitLabel m ≡ true → isNone m ≡ false
+    → among (kind m) (sameOpening (kind l)) ≡ false → expectNode l v e inner (printNode m v c ++ r) ≡ mismatch
 unlike-mismatch l m v e inner c r a o b q s =
     let p = print-opens m v c r b q in
-    rw (p .1) (node-mismatch l v e inner (opening (kind m) ++ p .0) a o (λ k h. differing-mismatch (opening k) (opening (kind m)) (p .0) (passes (λ i. differing (opening i) (opening (kind m))) (tried (kind l)) (unlike (kind l) (kind m) (kind-bound l a o) (kind-bound m b q) s .1) k h)))
+    rw (p .1) (node-mismatch l v e inner (opening (kind m) ++ p .0) a o
+    (λ k h. differing-mismatch (opening k) (opening (kind m)) (p .0)
+    (passes (λ i. differing (opening i) (opening (kind m))) (tried (kind l)) (unlike (kind l) (kind m) (kind-bound l a o) (kind-bound m b q) s .1) k h)))

@@ -9,7 +9,7 @@ use lib.ListN.{length}
 use Rattle.kinds.specs.Byte.{among}
 use Rattle.kinds.specs.Parse.{encoded, encodingOrNone, parseEncodingOrNone, parseInner, parse, qualifiers, isQualifier, stripLeadingQualifiers, fromStr, whole}
 use Rattle.kinds.specs.Print.{printNode, print}
-use Rattle.kinds.specs.Sound.{isNone, clear, sound}
+use Rattle.agreement.specs.Sound.{isNone, clear, sound}
 use Rattle.kinds.specs.Tree.{Label, Trees, end, node, none, inside, shows, keep, shown, isEnd, isOne}
 use Rattle.kinds.specs.declared.NestingLevel.the-variants.{Top}
 use Rattle.agreement.specs.ReadTree.{trees, readTree}
@@ -30,7 +30,8 @@ unfolding mayFollow
 unqualified t g = not-qualified (print Top t) (rw append-nil at (trees-follow Top t [] g refl))
 
 -- What the print of a tree is read as.
-encoded-tree : (l : Label) (cs : Trees) → isNone l ≡ false → fit (node l cs end) ≡ true → clear Top (node l cs end) [] ≡ true → encodingOrNone (parse (print Top (node l cs end))) ≡ encoded l (keep (shows l Top) (shown (inside l Top) cs)) []
+encoded-tree : (l : Label) (cs : Trees) → isNone l ≡ false → fit (node l cs end) ≡ true → clear Top (node l cs end) [] ≡ true
+    → encodingOrNone (parse (print Top (node l cs end))) ≡ encoded l (keep (shows l Top) (shown (inside l Top) cs)) []
 unfolding encodingOrNone parse print mayFollow
 encoded-tree l cs o g c =
     let t = print Top (node l cs end) in

@@ -11,17 +11,20 @@ use Rattle.kinds.specs.Byte.{byte, bytes, among, isDigit}
 use Rattle.kinds.specs.Container.{startByte, endByte}
 use Rattle.kinds.specs.Level.{showsFields}
 use Rattle.kinds.specs.Name.{isNameByte, verifyName}
-use Rattle.kinds.specs.Parse.{maxU64, maxU8, Parsed, parseNumber, container, encoding, items, parseInner, parseItems, held, item, parseName, checkName, named, integral, start, begin, singles, others, inSingles, inOthers, leaf, parseComplex, parseObject, parseBits, parseBitField, untyped, typed, singleKind, nextItem, addItem, contained, closeItem}
+use Rattle.kinds.specs.Parse.{maxU64, maxU8, Parsed, parseNumber, container, encoding, items, parseInner, parseItems, held, item, parseName, checkName, named, integral, start}
+use Rattle.kinds.specs.Parse.{begin, singles, others, inSingles, inOthers, leaf, parseComplex, parseObject, parseBits, parseBitField, untyped, typed, singleKind, nextItem, addItem}
+use Rattle.kinds.specs.Parse.{contained, closeItem}
 use Rattle.kinds.specs.Primitive.{codes, code}
 use Rattle.kinds.specs.Print.{decimal, fields, printNode, print}
-use Rattle.kinds.specs.Sound.{validCount, isIntegral, isNone, withoutNone, isCloser, closes, unknownNext, afterChildren, clearNode, clear}
+use Rattle.kinds.specs.Sound.{validCount}
+use Rattle.agreement.specs.Sound.{isIntegral, isNone, withoutNone, isCloser, closes, unknownNext, afterChildren, clearNode, clear}
 use Rattle.kinds.specs.Tree.{Label, Trees, end, node, primitive, bitField, typedBitField, pointer, atomic, array, struct, union, none, inside, shows, keep, shown, kind, isEnd, isOne}
 use Rattle.kinds.specs.declared.ContainerKind.{ContainerKind}
 use Rattle.kinds.specs.declared.ContainerKind.the-variants.{Struct, Union}
 use Rattle.kinds.specs.declared.NestingLevel.{NestingLevel}
 use Rattle.kinds.specs.declared.NestingLevel.the-variants.{Top, Within, Bottom}
 use Rattle.kinds.proofs.TableLaws.{both}
-use Rattle.agreement.proofs.ByteLaws.{not-false, below, each, lacks, name-lacks}
+use Rattle.agreement.proofs.ByteLaws.{not-false, below, each, lacks, name-lacks, _also_, _next_}
 use Rattle.agreement.proofs.DigitLaws.{startsDigit, decimal-start, read-decimal, within-limit}
 use Rattle.agreement.proofs.FitLaws.{fitLabel, fit, fit-parts}
 use Rattle.agreement.proofs.FollowLaws.{mayFollow, no-digit, startsTyped, no-typed, startsQuote, no-quote, closer-follows, bracket-follows, trees-follow}
@@ -33,8 +36,13 @@ plain-object (b ∷ r) u q = rw (u, q, parseObject)
 
 read-primitive : (f : ℕ) (r : List ℕ) → mayFollow r ≡ true → (p : ℕ) → p < 24 → not (eqb p 19 && unknownNext r) ≡ true → parseInner (suc f) (code p ++ r) ≡ encoding (primitive p) end r
 unfolding code codes parseInner begin start inSingles inOthers singles others leaf parseComplex parseObject
-read-primitive f r h p l = below (λ q. not (eqb q 19 && unknownNext r) ≡ true → parseInner (suc f) (code q ++ r) ≡ encoding (primitive q) end r) 24
-    ((((((((((((((((((((((((tt, λ _. refl), λ _. refl), λ _. refl), λ _. refl), λ _. refl), λ _. refl), λ _. refl), λ _. refl), λ _. refl), λ _. refl), λ _. refl), λ _. refl), λ _. refl), λ _. refl), λ _. refl), λ _. refl), λ _. refl), λ _. refl), λ _. refl), λ u. plain-object r (not-false (unknownNext r) u) (no-quote r h)), λ _. refl), λ _. refl), λ _. refl), λ _. refl) p l
+read-primitive f r h p l =
+    below (λ q. not (eqb q 19 && unknownNext r) ≡ true → parseInner (suc f) (code q ++ r) ≡ encoding (primitive q) end r) 24
+    (tt next (λ _. refl) next (λ _. refl) next (λ _. refl) next (λ _. refl) next (λ _. refl) next (λ _. refl) next (λ _. refl) next (λ _. refl) next (λ _. refl) next (λ _. refl)
+    next (λ _. refl) next (λ _. refl) next (λ _. refl) next (λ _. refl) next (λ _. refl) next (λ _. refl) next (λ _. refl) next (λ _. refl) next (λ _. refl)
+    next (λ u. plain-object r (not-false (unknownNext r) u) (no-quote r h)) next (λ _. refl) next (λ _. refl) next (λ _. refl) next (λ _. refl))
+    p
+    l
 
 small-bits : (n : ℕ) (s : List ℕ) → n ≤ maxU8 → untyped n s ≡ encoding (bitField n) end s
 unfolding untyped leaf
@@ -59,13 +67,18 @@ unfolding startsDigit parseBitField
 is-typed o b [] i h = absurd (false≢true h)
 is-typed o b (c ∷ s) i h = rw (i, h, parseBitField)
 
-typed-at : (o n : ℕ) (r : List ℕ) → n ≤ maxU8 → mayFollow r ≡ true → (b : ℕ) → integral b ≡ true → parseBitField o (b ∷ (decimal n ++ r)) ≡ encoding (typedBitField o n) (node (primitive (singleKind (start b))) end end) r
+typed-at : (o n : ℕ) (r : List ℕ) → n ≤ maxU8 → mayFollow r ≡ true → (b : ℕ) → integral b ≡ true
+    → parseBitField o (b ∷ (decimal n ++ r)) ≡ encoding (typedBitField o n) (node (primitive (singleKind (start b))) end end) r
 unfolding typed
 typed-at o n r l h b i = is-typed o b (decimal n ++ r) i (decimal-start n r) ∙ ap (typed o (singleKind (start b))) (read-decimal maxU8 n r (no-digit r h) ∙ within-limit maxU8 n r l)
 
 typed-rest : (o n p : ℕ) (r : List ℕ) → n ≤ maxU8 → mayFollow r ≡ true → among p integrals ≡ true → parseBitField o (code p ++ (decimal n ++ r)) ≡ encoding (typedBitField o n) (node (primitive p) end end) r
 unfolding integrals code codes start inSingles inOthers singles others singleKind integral among
-typed-rest o n p r l h a = each (λ q. parseBitField o (code q ++ (decimal n ++ r)) ≡ encoding (typedBitField o n) (node (primitive q) end end) r) integrals (go (byte "c") refl, (go (byte "s") refl, (go (byte "i") refl, (go (byte "l") refl, (go (byte "q") refl, (go (byte "C") refl, (go (byte "S") refl, (go (byte "I") refl, (go (byte "L") refl, (go (byte "Q") refl, (go (byte "B") refl, tt))))))))))) p a
+typed-rest o n p r l h a = each (λ q. parseBitField o (code q ++ (decimal n ++ r)) ≡ encoding (typedBitField o n) (node (primitive q) end end) r) integrals
+    (go (byte "c") refl also go (byte "s") refl also go (byte "i") refl also go (byte "l") refl also go (byte "q") refl
+    also go (byte "C") refl also go (byte "S") refl also go (byte "I") refl also go (byte "L") refl also go (byte "Q") refl also go (byte "B") refl also tt)
+    p
+    a
   where
     go : (b : ℕ) → integral b ≡ true → parseBitField o (b ∷ (decimal n ++ r)) ≡ encoding (typedBitField o n) (node (primitive (singleKind (start b))) end end) r
     go = typed-at o n r l h
@@ -74,7 +87,8 @@ pub code-no-digit : (r : List ℕ) (p : ℕ) → among p integrals ≡ true → 
 unfolding integrals code codes startsDigit isDigit
 code-no-digit r p a = each (λ q. startsDigit (code q ++ r) ≡ false) integrals (refl, (refl, (refl, (refl, (refl, (refl, (refl, (refl, (refl, (refl, (refl, tt))))))))))) p a
 
-read-typed : (f o n p : ℕ) (r : List ℕ) → o ≤ maxU64 → n ≤ maxU8 → mayFollow r ≡ true → among p integrals ≡ true → parseInner (suc f) (byte "b" ∷ (decimal o ++ (code p ++ (decimal n ++ r)))) ≡ encoding (typedBitField o n) (node (primitive p) end end) r
+read-typed : (f o n p : ℕ) (r : List ℕ) → o ≤ maxU64 → n ≤ maxU8 → mayFollow r ≡ true → among p integrals ≡ true
+    → parseInner (suc f) (byte "b" ∷ (decimal o ++ (code p ++ (decimal n ++ r)))) ≡ encoding (typedBitField o n) (node (primitive p) end end) r
 unfolding parseInner begin start inSingles inOthers singles others parseBits
 read-typed f o n p r k l h a = rw (read-decimal maxU64 o (code p ++ (decimal n ++ r)) (code-no-digit (decimal n ++ r) p a), within-limit maxU64 o (code p ++ (decimal n ++ r)) k) (typed-rest o n p r l h a)
 
@@ -136,7 +150,8 @@ name-only k acc [] u a b = name-end k acc u ∙ ap (λ y. checkName k y (endByte
 name-only k acc (x ∷ s) u a b =
     let a' = both (not (eqb x (byte "="))) (lacks (byte "=") s) a in
     let b' = both (not (eqb x (endByte k))) (lacks (endByte k) s) b in
-    rw (not-false (eqb x (byte "=")) (a' .0), not-false (eqb x (endByte k)) (b' .0), parseName) (name-only k (acc ++ (x ∷ [])) s u (a' .1) (b' .1) ∙ ap (λ y. checkName k y (endByte k ∷ u) (endByte k ∷ u)) (append-assoc acc (x ∷ []) s))
+    rw (not-false (eqb x (byte "=")) (a' .0), not-false (eqb x (endByte k)) (b' .0), parseName)
+    (name-only k (acc ++ (x ∷ [])) s u (a' .1) (b' .1) ∙ ap (λ y. checkName k y (endByte k ∷ u) (endByte k ∷ u)) (append-assoc acc (x ∷ []) s))
 
 name-checked : (k : ContainerKind) (s here rest : List ℕ) → verifyName s ≡ true → checkName k s here rest ≡ named s rest
 unfolding checkName
@@ -176,14 +191,16 @@ abbrev pub ClearTree : Label → NestingLevel → Trees → List ℕ → Type 0
 ClearTree l v cs r = cond (shows l v) (clearNode l cs r && clear (inside l v) cs (afterChildren l r)) true ≡ true
 
 abbrev pub TreeRead : Label → Trees → Type 0
-TreeRead l cs = (v : NestingLevel) (r : List ℕ) (f : ℕ) → fitLabel l ≡ true → validCount l cs ≡ true → fit cs ≡ true → ClearTree l v cs r → isNone l ≡ false → mayFollow r ≡ true → 2 * length (printNode l v (print (inside l v) cs) ++ r) ≤ f → parseInner f (printNode l v (print (inside l v) cs) ++ r) ≡ encoding l (keep (shows l v) (shown (inside l v) cs)) r
+TreeRead l cs = (v : NestingLevel) (r : List ℕ) (f : ℕ) → fitLabel l ≡ true → validCount l cs ≡ true → fit cs ≡ true → ClearTree l v cs r → isNone l ≡ false → mayFollow r ≡ true
+    → 2 * length (printNode l v (print (inside l v) cs) ++ r) ≤ f → parseInner f (printNode l v (print (inside l v) cs) ++ r) ≡ encoding l (keep (shows l v) (shown (inside l v) cs)) r
 
 abbrev pub FirstRead : Trees → Type 0
 FirstRead end = Unit {0}
 FirstRead (node l cs ts) = TreeRead l cs
 
 abbrev pub FieldsRead : Trees → Type 0
-FieldsRead ts = (v : NestingLevel) (k : ContainerKind) (r : List ℕ) (f : ℕ) → fit ts ≡ true → clear v ts (endByte k ∷ r) ≡ true → withoutNone ts ≡ true → 2 * length (print v ts ++ (endByte k ∷ r)) < f → parseItems f k (print v ts ++ (endByte k ∷ r)) ≡ items (shown v ts) r
+FieldsRead ts = (v : NestingLevel) (k : ContainerKind) (r : List ℕ) (f : ℕ) → fit ts ≡ true → clear v ts (endByte k ∷ r) ≡ true → withoutNone ts ≡ true
+    → 2 * length (print v ts ++ (endByte k ∷ r)) < f → parseItems f k (print v ts ++ (endByte k ∷ r)) ≡ items (shown v ts) r
 
 fields-read-end : (f : ℕ) (k : ContainerKind) (r : List ℕ) → parseItems (suc (suc f)) k (endByte k ∷ r) ≡ items end r
 unfolding parseInner begin start inSingles inOthers singles others nextItem
@@ -206,18 +223,21 @@ none-parts v ds r g c = (isEnd-end ds (fit-parts none ds end g .1), both (closes
 abbrev ChildRead : (List ℕ → Parsed → Trees → Type 0) → Trees → NestingLevel → List ℕ → ℕ → Type 0
 ChildRead Q cs v r f = fit cs ≡ true → clear v cs r ≡ true → 2 * length (print v cs ++ r) ≤ f → Q (print v cs ++ r) (parseInner f (print v cs ++ r)) (shown v cs)
 
-child-tree : (Q : List ℕ → Parsed → Trees → Type 0) (m : Label) (ds : Trees) → TreeRead m ds → isNone m ≡ false → (v : NestingLevel) (r : List ℕ) (f : ℕ) → mayFollow r ≡ true → ((s : List ℕ) (l : Label) (xs : Trees) → Q s (encoding l xs r) (node l xs end)) → ChildRead Q (node m ds end) v r f
+child-tree : (Q : List ℕ → Parsed → Trees → Type 0) (m : Label) (ds : Trees) → TreeRead m ds → isNone m ≡ false → (v : NestingLevel) (r : List ℕ) (f : ℕ) → mayFollow r ≡ true
+    → ((s : List ℕ) (l : Label) (xs : Trees) → Q s (encoding l xs r) (node l xs end)) → ChildRead Q (node m ds end) v r f
 unfolding shown print
 child-tree Q m ds one o v r f h tree g c n =
     let g' = fit-parts m ds end g in
     rw (print-one v m ds r, one v r f (g' .0) (g' .1) (g' .2) (clear-parts v m ds end r c .0) o h (rw (print-one v m ds r) at n)) (tree (printNode m v (print (inside m v) ds) ++ r) m (keep (shows m v) (shown (inside m v) ds)))
 
-child-none : (Q : List ℕ → Parsed → Trees → Type 0) (ds : Trees) (v : NestingLevel) (r : List ℕ) (f : ℕ) → (closes r ≡ true → 2 * length r ≤ f → Q r (parseInner f r) (node none end end)) → ChildRead Q (node none ds end) v r f
+child-none : (Q : List ℕ → Parsed → Trees → Type 0) (ds : Trees) (v : NestingLevel) (r : List ℕ) (f : ℕ) → (closes r ≡ true → 2 * length r ≤ f → Q r (parseInner f r) (node none end end))
+    → ChildRead Q (node none ds end) v r f
 unfolding print printNode shown keep
 child-none Q ds v r f nothing g c n = rw (none-parts v ds r g c .0) (nothing (none-parts v ds r g c .1) n)
 
 -- An only child is read, or it is None and `r` stands in its place.
-child-read : (Q : List ℕ → Parsed → Trees → Type 0) (cs : Trees) → FirstRead cs → isOne cs ≡ true → (v : NestingLevel) (r : List ℕ) (f : ℕ) → mayFollow r ≡ true → ((s : List ℕ) (l : Label) (xs : Trees) → Q s (encoding l xs r) (node l xs end)) → (closes r ≡ true → 2 * length r ≤ f → Q r (parseInner f r) (node none end end)) → ChildRead Q cs v r f
+child-read : (Q : List ℕ → Parsed → Trees → Type 0) (cs : Trees) → FirstRead cs → isOne cs ≡ true → (v : NestingLevel) (r : List ℕ) (f : ℕ) → mayFollow r ≡ true
+    → ((s : List ℕ) (l : Label) (xs : Trees) → Q s (encoding l xs r) (node l xs end)) → (closes r ≡ true → 2 * length r ≤ f → Q r (parseInner f r) (node none end end)) → ChildRead Q cs v r f
 unfolding isOne isEnd
 child-read Q end one o v r f h tree nothing = absurd (false≢true o)
 child-read Q (node m ds (node x ys zs)) one o v r f h tree nothing = absurd (false≢true o)
@@ -265,7 +285,9 @@ unfolding fitLabel validCount printNode clearNode shown keep
 tree-read-primitive p cs v r zero a b g c o h n = absurd (omega (arith, code-length r p (ltb-true p 24 a)))
 tree-read-primitive p cs v r (suc f) a b g c o h n = rw (isEnd-end cs b) (read-primitive f r h p (ltb-true p 24 a) (both (not (eqb p 19 && unknownNext r)) (clear v cs (afterChildren (primitive p) r)) c .0))
 
-open-fields : (k : ContainerKind) (s : List ℕ) (cs : Trees) → FieldsRead cs → (r : List ℕ) (f : ℕ) → verifyName s ≡ true → fit cs ≡ true → (withoutNone cs && clear Within cs (endByte k ∷ r)) ≡ true → 2 * length (startByte k ∷ (s ++ (byte "=" ∷ (print Within cs ++ (endByte k ∷ r))))) ≤ suc f → parseInner (suc f) (startByte k ∷ (s ++ (byte "=" ∷ (print Within cs ++ (endByte k ∷ r))))) ≡ encoding (container k s) (shown Within cs) r
+open-fields : (k : ContainerKind) (s : List ℕ) (cs : Trees) → FieldsRead cs → (r : List ℕ) (f : ℕ) → verifyName s ≡ true → fit cs ≡ true → (withoutNone cs && clear Within cs (endByte k ∷ r)) ≡ true
+    → 2 * length (startByte k ∷ (s ++ (byte "=" ∷ (print Within cs ++ (endByte k ∷ r))))) ≤ suc f
+    → parseInner (suc f) (startByte k ∷ (s ++ (byte "=" ∷ (print Within cs ++ (endByte k ∷ r))))) ≡ encoding (container k s) (shown Within cs) r
 unfolding contained
 open-fields k s cs many r f a g c n =
     let t = print Within cs ++ (endByte k ∷ r) in
@@ -273,7 +295,8 @@ open-fields k s cs many r f a g c n =
     open-named k f (s ++ (byte "=" ∷ t)) s t (name-until k [] s t (lacks-equals s a) (lacks-closer k s a) ∙ name-checked k s (byte "=" ∷ t) t a)
     ∙ ap (contained k s) (many Within k r f g (c' .1) (c' .0) (omega (arith, length-append s (byte "=" ∷ t))))
 
-open-hidden : (k : ContainerKind) (s r : List ℕ) (f : ℕ) → verifyName s ≡ true → 2 * length (startByte k ∷ (s ++ (endByte k ∷ r))) ≤ suc f → parseInner (suc f) (startByte k ∷ (s ++ (endByte k ∷ r))) ≡ encoding (container k s) end r
+open-hidden : (k : ContainerKind) (s r : List ℕ) (f : ℕ) → verifyName s ≡ true → 2 * length (startByte k ∷ (s ++ (endByte k ∷ r))) ≤ suc f
+    → parseInner (suc f) (startByte k ∷ (s ++ (endByte k ∷ r))) ≡ encoding (container k s) end r
 unfolding contained
 open-hidden k s r zero a n = absurd (omega (arith, length-append s (endByte k ∷ r)))
 open-hidden k s r (suc zero) a n = absurd (omega (arith, length-append s (endByte k ∷ r)))
@@ -281,7 +304,9 @@ open-hidden k s r (suc (suc f)) a n =
     open-named k (suc (suc f)) (s ++ (endByte k ∷ r)) s (endByte k ∷ r) (name-only k [] s r (lacks-equals s a) (lacks-closer k s a) ∙ name-checked k s (endByte k ∷ r) (endByte k ∷ r) a)
     ∙ ap (contained k s) (fields-read-end f k r)
 
-tree-read-container : (k : ContainerKind) (s : List ℕ) (cs : Trees) → FieldsRead cs → (v : NestingLevel) (r : List ℕ) (f : ℕ) → verifyName s ≡ true → fit cs ≡ true → cond (showsFields v) (withoutNone cs && clear Within cs (endByte k ∷ r)) true ≡ true → 2 * length (printNode (container k s) v (print Within cs) ++ r) ≤ f → parseInner f (printNode (container k s) v (print Within cs) ++ r) ≡ encoding (container k s) (keep (showsFields v) (shown Within cs)) r
+tree-read-container : (k : ContainerKind) (s : List ℕ) (cs : Trees) → FieldsRead cs → (v : NestingLevel) (r : List ℕ) (f : ℕ) → verifyName s ≡ true → fit cs ≡ true
+    → cond (showsFields v) (withoutNone cs && clear Within cs (endByte k ∷ r)) true ≡ true → 2 * length (printNode (container k s) v (print Within cs) ++ r) ≤ f
+    → parseInner f (printNode (container k s) v (print Within cs) ++ r) ≡ encoding (container k s) (keep (showsFields v) (shown Within cs)) r
 unfolding body keep
 tree-read-container k s cs many v r zero a g c n = absurd (omega (arith, ap length (container-text k v s (print Within cs) r)))
 tree-read-container k s cs many Top r (suc f) a g c n = rw (container-text k Top s (print Within cs) r) (open-fields k s cs many r f a g c (rw (container-text k Top s (print Within cs) r) at n))

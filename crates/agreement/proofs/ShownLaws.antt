@@ -84,7 +84,8 @@ unfolding expectEncoding shown
 expect-shown v end s = refl
 expect-shown v (node l cs ts) s =
     ap₂ (λ x y. x then y)
-    (kept (λ (x : Matcher). expectNode l v (x .0) (x .1) s) (matcher (inside l v)) (shows l v) cs (shown (inside l v) cs) (expect-hidden l v s) (ap₂ (λ x y. (x, y)) (end-shown (inside l v) cs) (fun-ext (λ t. expect-shown (inside l v) cs t))))
+    (kept (λ (x : Matcher). expectNode l v (x .0) (x .1) s) (matcher (inside l v)) (shows l v) cs (shown (inside l v) cs) (expect-hidden l v s)
+    (ap₂ (λ x y. (x, y)) (end-shown (inside l v) cs) (fun-ext (λ t. expect-shown (inside l v) cs t))))
     (fun-ext (λ t. expect-shown v ts t))
 
 -- Tree against tree, the first: of the children, whether there are any and whether they match.
@@ -104,7 +105,8 @@ compare-shown v end us = refl
 compare-shown v (node l cs ts) end = refl
 compare-shown v (node l cs ts) (node m ds us) =
     ap₂ (λ x y. compareLabels l m && (x && y))
-    (kept (compared l v (isEnd ds)) (λ u. (isEnd u, compareEncodings false (inside l v) u ds)) (shows l v) cs (shown (inside l v) cs) (compare-hidden l v (isEnd ds)) (ap₂ (λ x y. (x, y)) (end-shown (inside l v) cs) (compare-shown (inside l v) cs ds)))
+    (kept (compared l v (isEnd ds)) (λ u. (isEnd u, compareEncodings false (inside l v) u ds)) (shows l v) cs (shown (inside l v) cs) (compare-hidden l v (isEnd ds))
+    (ap₂ (λ x y. (x, y)) (end-shown (inside l v) cs) (compare-shown (inside l v) cs ds)))
     (compare-shown v ts us)
 
 -- The levels of a valid node depend on its kind alone: `levels k` is a node with those of kind `k`.
@@ -174,11 +176,15 @@ compare-shown-second v (node m ds us) (node l cs ts) a b = go (compareLabels m l
     now : Trees → Compared
     now u = (isEnd u, compareEncodings false (inside m v) ds u)
 
-    go : (y : Bool) → compareLabels m l ≡ y → compareEncodings false (inside m v) ds (shown (inside m v) cs) ≡ compareEncodings false (inside m v) ds cs → compareEncodings false v us (shown v ts) ≡ compareEncodings false v us ts → (compareLabels m l && (compared-second m v (isEnd ds) (now (keep (shows l v) (shown (inside l v) cs))) && compareEncodings false v us (shown v ts))) ≡ (compareLabels m l && (compared-second m v (isEnd ds) (now cs) && compareEncodings false v us ts))
+    go : (y : Bool) → compareLabels m l ≡ y → compareEncodings false (inside m v) ds (shown (inside m v) cs) ≡ compareEncodings false (inside m v) ds cs
+        → compareEncodings false v us (shown v ts) ≡ compareEncodings false v us ts
+        → (compareLabels m l && (compared-second m v (isEnd ds) (now (keep (shows l v) (shown (inside l v) cs))) && compareEncodings false v us (shown v ts))) ≡
+        (compareLabels m l && (compared-second m v (isEnd ds) (now cs) && compareEncodings false v us ts))
     go true e inner after =
         let q = levels-alike m l (a' .0) (b' .0) e v in
         ap₂ (λ x y. compareLabels m l && (x && y))
-        (kept (compared-second m v (isEnd ds)) now (shows l v) cs (shown (inside l v) cs) (λ h. second-hidden m v (isEnd ds) (q .1 ∙ h)) (ap₂ (λ x y. (x, y)) (end-shown (inside l v) cs) (subst (λ w. compareEncodings false (inside m v) ds (shown w cs) ≡ compareEncodings false (inside m v) ds cs) (q .0) inner)))
+        (kept (compared-second m v (isEnd ds)) now (shows l v) cs (shown (inside l v) cs) (λ h. second-hidden m v (isEnd ds) (q .1 ∙ h))
+        (ap₂ (λ x y. (x, y)) (end-shown (inside l v) cs) (subst (λ w. compareEncodings false (inside m v) ds (shown w cs) ≡ compareEncodings false (inside m v) ds cs) (q .0) inner)))
         after
     go false e inner after = rw e refl
 

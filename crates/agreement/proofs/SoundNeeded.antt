@@ -6,10 +6,13 @@ use mathlib.Core.Bool.{true, false, _&&_, false≢true}
 use mathlib.Core.List.{List, [], _∷_, _++_}
 use Rattle.kinds.specs.Byte.{bytes, among, sameBytes, isDigit}
 use Rattle.kinds.specs.Name.{isNameByte, verifyName}
-use Rattle.kinds.specs.Parse.{moreDigits, bounded, parseNumber, singles, others, inOthers, inSingles, start, leaf, parseComplex, parseQuoted, parseObject, integral, singleKind, typed, untyped, parseBitField, parseBits, checkName, parseName, held, closeItem, item, contained, addItem, begin, nextItem, parseInner, parseItems, parse, qualifiers, isQualifier, stripLeadingQualifiers, encodingOrNone, parseEncodingOrNone, whole, fromStr}
+use Rattle.kinds.specs.Parse.{moreDigits, bounded, parseNumber, singles, others, inOthers, inSingles, start, leaf, parseComplex, parseQuoted, parseObject, integral, singleKind}
+use Rattle.kinds.specs.Parse.{typed, untyped, parseBitField, parseBits, checkName, parseName, held, closeItem, item, contained, addItem, begin, nextItem, parseInner, parseItems}
+use Rattle.kinds.specs.Parse.{parse, qualifiers, isQualifier, stripLeadingQualifiers, encodingOrNone, parseEncodingOrNone, whole, fromStr}
 use Rattle.kinds.specs.Primitive.{kindOf, codes, code}
 use Rattle.kinds.specs.Print.{digits, decimal, fields, printNode, print}
-use Rattle.kinds.specs.Sound.{validLabel, validCount, valid, goodName, goodNames, isIntegral, isNone, withoutNone, isCloser, closes, unknownNext, afterChildren, clearNode, clear, sound}
+use Rattle.kinds.specs.Sound.{validLabel, validCount, valid, goodName, goodNames}
+use Rattle.agreement.specs.Sound.{isIntegral, isNone, withoutNone, isCloser, closes, unknownNext, afterChildren, clearNode, clear, sound}
 use Rattle.kinds.specs.Tree.{Label, Trees, end, node, primitive, bitField, typedBitField, pointer, struct, none, isEnd, isOne, kind, keep, shown}
 use Rattle.kinds.specs.declared.NestingLevel.the-variants.{Top}
 use Rattle.kinds.specs.declared.Primitive.the-variants as P
@@ -59,7 +62,10 @@ ambiguities =
     ∷ []
 
 pub all-ambiguous : AllAmbiguous ambiguities
-unfolding ambiguities sound isOne valid validLabel validCount goodNames goodName verifyName isNameByte isDigit clear clearNode afterChildren closes isCloser unknownNext among withoutNone isNone isIntegral kind print printNode fields code codes decimal digits isEnd kinds sameBytes keep shown readTree trees moreDigits bounded parseNumber singles others inOthers inSingles start leaf parseComplex parseQuoted parseObject integral singleKind typed untyped parseBitField parseBits checkName parseName held closeItem item contained addItem begin nextItem parseInner parseItems parse qualifiers isQualifier stripLeadingQualifiers encodingOrNone parseEncodingOrNone whole fromStr
+unfolding ambiguities sound isOne valid validLabel validCount goodNames goodName verifyName isNameByte isDigit clear clearNode afterChildren closes isCloser unknownNext
+    among withoutNone isNone isIntegral kind print printNode fields code codes decimal digits isEnd kinds sameBytes keep shown readTree trees moreDigits bounded parseNumber
+    singles others inOthers inSingles start leaf parseComplex parseQuoted parseObject integral singleKind typed untyped parseBitField parseBits checkName parseName held
+    closeItem item contained addItem begin nextItem parseInner parseItems parse qualifiers isQualifier stripLeadingQualifiers encodingOrNone parseEncodingOrNone whole fromStr
 all-ambiguous = ((refl, refl, refl, refl, refl), ((refl, refl, refl, refl, refl), ((refl, refl, refl, refl, refl), ((refl, refl, refl, refl, refl), tt))))
 
 -- So the two trees print alike and have other shown parts.
@@ -68,5 +74,6 @@ ambiguous-differs t s h e = false≢true (sym (h .4) ∙ ap (λ u. sameBytes (ki
 
 -- Sound: `{x=^}`, a pointer to None before the closing byte; and `{x=b0i3@}`.
 pub sound-allows : (sound (x (node pointer (first none end) end)) ≡ true) × (sound (x (node (typedBitField 0 3) (first int end) (first object end))) ≡ true)
-unfolding sound isOne valid validLabel validCount goodNames goodName verifyName isNameByte isDigit clear clearNode afterChildren closes isCloser unknownNext among withoutNone isNone isIntegral kind print printNode fields code codes decimal digits isEnd
+unfolding sound isOne valid validLabel validCount goodNames goodName verifyName isNameByte isDigit clear clearNode afterChildren closes isCloser unknownNext among
+    withoutNone isNone isIntegral kind print printNode fields code codes decimal digits isEnd
 sound-allows = (refl, refl)

@@ -5,19 +5,19 @@ use mathlib.Core.Path.{_≡_, refl}
 use mathlib.Core.Bool.{true}
 use mathlib.Core.List.{List, [], _∷_, _++_, map}
 use mathlib.Core.Logic.{_↔_}
-use Rattle.kinds.specs.Byte.{byte, bytes}
-use Rattle.kinds.specs.Parse.{maxU64, maxU8, isQualifier, stripLeadingQualifiers}
+use Rattle.kinds.specs.Byte.{byte, bytes, among}
+use Rattle.kinds.specs.Parse.{maxU64, maxU8, qualifiers, isQualifier, stripLeadingQualifiers}
 use Rattle.kinds.specs.Print.{print}
 use Rattle.kinds.specs.Tree.{Trees, end, node, primitive, pointer, struct, shown}
 use Rattle.kinds.specs.declared.NestingLevel.the-variants.{Top, Within}
 use Rattle.kinds.specs.declared.Primitive.the-variants.{FloatComplex, DoubleComplex, LongDoubleComplex, LongDouble}
 use Rattle.agreement.specs.ReadTree.{readTree}
 use Rattle.documents.specs.Decimal.{digits, decimal}
-use Rattle.documents.specs.Differences.{AllHold, guideDifferences, gccDifferences, clangDifferences}
+use Rattle.documents.specs.Differences.{AllHold, AllRefused, guideDifferences, gccDifferences, clangDifferences}
 use Rattle.documents.specs.Gcc as C
 use Rattle.documents.specs.Gcc.{Integral, complex, longDouble}
-use Rattle.documents.specs.Guide.{Meaning, Types, Qualifier, code, table, letter, letters, encode, isType, pointerTo, example, exampleName, twelvePointers, rootObject}
-use Rattle.documents.specs.Translation.{one, label, trees, withoutBlock, MeantBy, GuideText, TextOf, bitFieldTree, olderBitFieldTree, gccExample, gccOlderExample}
+use Rattle.documents.specs.Guide.{Meaning, Types, Qualifier, code, table, letter, letters, qualifierTable, encode, isType, pointerTo, example, exampleName, twelvePointers, rootObject}
+use Rattle.documents.specs.Translation.{one, label, trees, withoutLongDouble, countsFit, withoutBlock, MeantBy, GuideText, TextOf, bitFieldTree, olderBitFieldTree, gccExample, gccOlderExample}
 use Rattle.documents.proofs.DifferencesHold.{guide-rows, gcc-rows, clang-rows}
 use Rattle.documents.proofs.GccLaws.{bit-field, older-bit-field, examples, complexes}
 use Rattle.documents.proofs.GuideCodes.{code-print, code-read, alone, type-read}
@@ -40,12 +40,14 @@ guide-codes m = record { prints = code-print m; reads = code-read m }
 pub guide-codes-only : (b p : ℕ) → b < 256 → readTree (b ∷ []) ≡ node (primitive p) end end → MeantBy b p
 guide-codes-only = alone
 
--- A type that the guide defines prints as the guide encodes it.
-pub guide-prints : (t : Types) → isType t ≡ true → print Top (trees t) ≡ encode zero t
+-- A type that the guide defines prints as the guide encodes it, unless a long double is in it.
+pub guide-prints : (t : Types) → isType t ≡ true → withoutLongDouble t ≡ true → print Top (trees t) ≡ encode zero t
 guide-prints = type-print
 
--- Its encoding is read as the type's tree without the dropped fields, unless an unknown type stands directly after an object.
-pub guide-reads : (t : Types) → isType t ≡ true → withoutBlock (encode zero t) ≡ true → readTree (encode zero t) ≡ shown Top (trees t)
+-- Its encoding is read as the type's tree without the dropped fields, if its counts are such as the crate reads, unless an unknown type stands
+-- directly after an object.
+pub guide-reads : (t : Types) → isType t ≡ true → withoutLongDouble t ≡ true → countsFit t ≡ true → withoutBlock (encode zero t) ≡ true
+    → readTree (encode zero t) ≡ shown Top (trees t)
 guide-reads = type-read
 
 -- ---- The guide's qualifiers.
@@ -66,6 +68,15 @@ guide-qualifiers-only = other-kept
 pub guide-qualified : (qs : List Qualifier) (s : List ℕ) → readTree (letters qs ++ s) ≡ readTree s
 guide-qualified = qualified-read
 
+-- GCC's type specifiers are the same seven letters, in the same order, and are the bytes that are dropped.
+pub gcc-specifiers : C.specifiers ≡ letters qualifierTable
+unfolding C.specifiers letters letter
+gcc-specifiers = refl
+
+pub gcc-specifiers-dropped : (b : ℕ) → isQualifier b ≡ among b C.specifiers
+unfolding C.specifiers isQualifier qualifiers
+gcc-specifiers-dropped b = refl
+
 -- ---- The guide's dropped fields.
 
 -- A pointer to a struct keeps the fields, whatever its name and fields are.
@@ -77,7 +88,9 @@ pub guide-dropped-fields : (s : List ℕ) (fs : Trees) → print Top (node point
 guide-dropped-fields = two-pointers
 
 -- The guide's struct `example`, behind no pointer, one and two.
-pub guide-example : GuideText example example (bytes "{example=@*i}") × GuideText (pointerTo example) (pointerTo example) (bytes "^{example=@*i}") × GuideText (pointerTo (pointerTo example)) (pointerTo (pointerTo exampleName)) (bytes "^^{example}")
+pub guide-example : GuideText example example (bytes "{example=@*i}")
+    × GuideText (pointerTo example) (pointerTo example) (bytes "^{example=@*i}")
+    × GuideText (pointerTo (pointerTo example)) (pointerTo (pointerTo exampleName)) (bytes "^^{example}")
 guide-example = example-texts
 
 -- The guide's array of twelve pointers to float, and its object.
@@ -108,12 +121,12 @@ gcc-complex = complexes
 
 -- ---- Where the crate parts from the documents.
 
--- The crate's side of each difference from the guide, from GCC's manual and from clang's texts.
+-- Each difference from the guide and from GCC's manual, with the document's side where it has one, and from clang's texts.
 pub guide-differences : AllHold guideDifferences
 guide-differences = guide-rows
 
 pub gcc-differences : AllHold gccDifferences
 gcc-differences = gcc-rows
 
-pub clang-differences : AllHold clangDifferences
+pub clang-differences : AllRefused clangDifferences
 clang-differences = clang-rows

@@ -12,25 +12,23 @@ use Rattle.kinds.specs.Primitive as K
 use Rattle.kinds.specs.Primitive.{kindOf}
 use Rattle.kinds.specs.Print as P
 use Rattle.kinds.specs.Print.{printNode, print}
-use Rattle.kinds.specs.Sound.{validLabel, validCount, valid, goodName, goodNames, isIntegral, isNone, withoutNone, unknownNext, afterChildren, clearNode, clear, sound}
+use Rattle.kinds.specs.Sound.{validLabel, validCount, valid, goodName, goodNames}
+use Rattle.agreement.specs.Sound.{isIntegral, isNone, withoutNone, unknownNext, afterChildren, clearNode, clear, sound}
 use Rattle.kinds.specs.Tree.{Trees, end, node, primitive, bitField, typedBitField, isEnd, isOne, kind, keep, shown}
 use Rattle.kinds.specs.declared.NestingLevel.the-variants.{Top}
 use Rattle.kinds.specs.declared.Primitive.the-variants as Variant
 use Rattle.agreement.specs.ReadTree.{readTree}
 use Rattle.agreement.proofs.Agreement.{reads-back}
+use Rattle.agreement.proofs.RoundTrip.{integrals}
 use Rattle.documents.specs.Decimal.{digits, decimal}
 use Rattle.documents.specs.Gcc as C
 use Rattle.documents.specs.Gcc.{Integral}
 use Rattle.documents.specs.Translation.{one, typed, bitFieldTree, olderBitFieldTree, gccExample, gccOlderExample, TextOf}
 use Rattle.documents.proofs.DecimalLaws.{same-decimal}
 
--- The kinds that a bit-field may have.
-abbrev integrals : List ℕ
-integrals = 0 ∷ 1 ∷ 2 ∷ 3 ∷ 4 ∷ 5 ∷ 6 ∷ 7 ∷ 8 ∷ 9 ∷ 16 ∷ []
-
 -- A type's code is ours, and its kind is one that a bit-field may have.
 typed-code : (t : Integral) → (K.code (kindOf (typed t)) ≡ C.code t ∷ []) × (ltb (kindOf (typed t)) 24 ≡ true) × (among (kindOf (typed t)) integrals ≡ true) × (eqb (kindOf (typed t)) 19 ≡ false)
-unfolding K.code K.codes C.code among
+unfolding K.code K.codes C.code among integrals
 typed-code C.char = (refl, refl, refl, refl)
 typed-code C.unsignedChar = (refl, refl, refl, refl)
 typed-code C.short = (refl, refl, refl, refl)
@@ -47,8 +45,9 @@ pub bit-field-print : (position : ℕ) (t : Integral) (size : ℕ) → print Top
 unfolding print printNode C.bitField
 bit-field-print position t size = rw (typed-code t .0, same-decimal position, same-decimal size) (append-nil (byte "b" ∷ (decimal position ++ (C.code t ∷ decimal size))))
 
-bit-field-sound : (position p size : ℕ) → ltb p 24 ≡ true → among p integrals ≡ true → eqb p 19 ≡ false → position ≤ maxU64 → size ≤ maxU8 → sound (node (typedBitField position size) (node (primitive p) end end) end) ≡ true
-unfolding sound isOne isEnd valid validLabel validCount goodNames goodName clear clearNode isIntegral afterChildren kind
+bit-field-sound : (position p size : ℕ) → ltb p 24 ≡ true → among p integrals ≡ true → eqb p 19 ≡ false → position ≤ maxU64 → size ≤ maxU8
+    → sound (node (typedBitField position size) (node (primitive p) end end) end) ≡ true
+unfolding sound isOne isEnd valid validLabel validCount goodNames goodName clear clearNode isIntegral afterChildren kind integrals
 bit-field-sound position p size a b c h k = rw (le-leb position maxU64 h, le-leb size maxU8 k, a, b, c)
 
 -- A sound tree without dropped fields is the text-of of its print.
@@ -74,10 +73,12 @@ unfolding shown keep
 older-bit-field size h = text-of (olderBitFieldTree size) (C.olderBitField size) (older-sound size h) refl (older-print size)
 
 pub examples : TextOf gccExample C.example × TextOf gccOlderExample C.olderExample
-unfolding sound isOne isEnd valid validLabel validCount goodNames goodName clear clearNode isIntegral among afterChildren kind unknownNext withoutNone isNone verifyName shown keep print printNode P.fields K.code K.codes P.decimal P.digits C.example C.olderExample C.bitField C.olderBitField C.code decimal digits
+unfolding sound isOne isEnd valid validLabel validCount goodNames goodName clear clearNode isIntegral among afterChildren kind unknownNext withoutNone isNone verifyName
+    shown keep print printNode P.fields K.code K.codes P.decimal P.digits C.example C.olderExample C.bitField C.olderBitField C.code decimal digits
 examples = (text-of gccExample C.example refl refl refl, text-of gccOlderExample C.olderExample refl refl refl)
 
-pub complexes : TextOf (one Variant.FloatComplex) (C.complex (bytes "f")) × TextOf (one Variant.DoubleComplex) (C.complex (bytes "d")) × TextOf (one Variant.LongDoubleComplex) (C.complex C.longDouble) × TextOf (one Variant.LongDouble) C.longDouble
+pub complexes : TextOf (one Variant.FloatComplex) (C.complex (bytes "f")) × TextOf (one Variant.DoubleComplex) (C.complex (bytes "d"))
+    × TextOf (one Variant.LongDoubleComplex) (C.complex C.longDouble) × TextOf (one Variant.LongDouble) C.longDouble
 unfolding sound isOne isEnd valid validLabel validCount goodNames goodName clear clearNode shown keep print printNode K.code K.codes C.complex C.longDouble
 complexes = (
   text-of (one Variant.FloatComplex) (C.complex (bytes "f")) refl refl refl,

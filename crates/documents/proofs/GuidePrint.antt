@@ -1,9 +1,8 @@
 -- The tree of a type that the guide defines prints as the guide encodes the type.
-use Prim.Native.Nat.{ℕ, zero, suc, _-_, _^_}
+use Prim.Native.Nat.{ℕ, zero, suc}
 use mathlib.Core.Path.{_≡_, refl}
 use mathlib.Core.List.{List, [], _∷_, _++_, append-assoc}
 use mathlib.Core.Bool.{Bool, true, false, _&&_, _||_, not, false≢true}
-use lib.Dec.{leb}
 use Rattle.kinds.specs.Byte.{byte}
 use Rattle.kinds.proofs.TableLaws.{both}
 use Rattle.kinds.specs.Primitive as P
@@ -14,9 +13,9 @@ use Rattle.kinds.specs.Tree as T
 use Rattle.kinds.specs.declared.NestingLevel.{NestingLevel}
 use Rattle.kinds.specs.declared.NestingLevel.the-variants.{Top, Within, Bottom}
 use Rattle.documents.specs.Decimal.{decimal}
-use Rattle.documents.specs.Guide.{Meaning, Types, none, simple, array, structure, union, bitField, pointer, code, fields, encode, isOne, isName, withoutRecord, defined, isType}
+use Rattle.documents.specs.Guide.{Meaning, Types, none, simple, longDouble, array, structure, union, bitField, pointer, code, fields, encode, isOne, isName, withoutRecord, defined, isType}
 use Rattle.documents.specs.Guide as G
-use Rattle.documents.specs.Translation.{label, trees}
+use Rattle.documents.specs.Translation.{label, trees, withoutLongDouble}
 use Rattle.documents.proofs.DecimalLaws.{same-decimal}
 
 -- A code's node prints the code.
@@ -65,15 +64,22 @@ module _ (v : NestingLevel) (n : ℕ) where
   pointer-print t ts d e = rw (d, e)
 
 -- Without records the level does not matter.
-plain-print : (v : NestingLevel) (n : ℕ) (ts : Types) → withoutRecord ts ≡ true → print v (trees ts) ≡ encode n ts
-unfolding withoutRecord print trees encode
-plain-print v n none h = refl
-plain-print v n (simple m ts) h = simple-print v n m ts (plain-print v n ts h)
-plain-print v n (array count t ts) h = array-print v n count t ts (plain-print v n t (both (withoutRecord t) (withoutRecord ts) h .0)) (plain-print v n ts (both (withoutRecord t) (withoutRecord ts) h .1))
-plain-print v n (structure s fs ts) h = absurd (false≢true h)
-plain-print v n (union s fs ts) h = absurd (false≢true h)
-plain-print v n (bitField num ts) h = bit-field-print v n num ts (plain-print v n ts h)
-plain-print v n (pointer t ts) h = pointer-print v n t ts (plain-print (inside T.pointer v) (suc n) t (both (withoutRecord t) (withoutRecord ts) h .0)) (plain-print v n ts (both (withoutRecord t) (withoutRecord ts) h .1))
+plain-print : (v : NestingLevel) (n : ℕ) (ts : Types) → withoutRecord ts ≡ true → withoutLongDouble ts ≡ true → print v (trees ts) ≡ encode n ts
+unfolding withoutRecord withoutLongDouble print trees encode
+plain-print v n none h w = refl
+plain-print v n (simple m ts) h w = simple-print v n m ts (plain-print v n ts h w)
+plain-print v n (longDouble ts) h w = absurd (false≢true w)
+plain-print v n (array count t ts) h w =
+    let p = both (withoutRecord t) (withoutRecord ts) h in
+    let q = both (withoutLongDouble t) (withoutLongDouble ts) w in
+    array-print v n count t ts (plain-print v n t (p .0) (q .0)) (plain-print v n ts (p .1) (q .1))
+plain-print v n (structure s fs ts) h w = absurd (false≢true h)
+plain-print v n (union s fs ts) h w = absurd (false≢true h)
+plain-print v n (bitField num ts) h w = bit-field-print v n num ts (plain-print v n ts h w)
+plain-print v n (pointer t ts) h w =
+    let p = both (withoutRecord t) (withoutRecord ts) h in
+    let q = both (withoutLongDouble t) (withoutLongDouble ts) w in
+    pointer-print v n t ts (plain-print (inside T.pointer v) (suc n) t (p .0) (q .0)) (plain-print v n ts (p .1) (q .1))
 
 -- The level behind `n` pointers.
 abbrev pub level : ℕ → NestingLevel
@@ -103,13 +109,12 @@ module _ (v : NestingLevel) (n : ℕ) (same : (s : List ℕ) → K.fields v s �
   union-print s fs ts d e = rw (d, e, same (encode zero fs)) (closed (byte "(") (byte ")") s (fields n (encode zero fs)) (encode n ts))
 
 -- The parts of what the guide defines.
-pub array-parts : (r : Bool) (count : ℕ) (t ts : Types) → defined r (array count t ts) ≡ true → (leb count (2 ^ 64 - 1) ≡ true) × (isOne t ≡ true) × (defined r t ≡ true) × (defined r ts ≡ true)
+pub array-parts : (r : Bool) (count : ℕ) (t ts : Types) → defined r (array count t ts) ≡ true → (isOne t ≡ true) × (defined r t ≡ true) × (defined r ts ≡ true)
 unfolding defined
 array-parts r count t ts h =
-    let a = both (leb count (2 ^ 64 - 1) && isOne t) (defined r t && defined r ts) h in
-    let b = both (leb count (2 ^ 64 - 1)) (isOne t) (a .0) in
-    let c = both (defined r t) (defined r ts) (a .1) in
-    (b .0, b .1, c .0, c .1)
+    let a = both (isOne t) (defined r t && defined r ts) h in
+    let b = both (defined r t) (defined r ts) (a .1) in
+    (a .0, b .0, b .1)
 
 pub structure-parts : (r : Bool) (s : List ℕ) (fs ts : Types) → defined r (structure s fs ts) ≡ true → (isName s ≡ true) × (defined true fs ≡ true) × (defined r ts ≡ true)
 unfolding defined
@@ -127,27 +132,53 @@ pointer-parts r t ts h =
     (b .0, b .1, c .0, c .1)
 
 -- The fields of a record.
-fields-print : (ts : Types) → defined true ts ≡ true → print Within (trees ts) ≡ encode zero ts
-unfolding print trees encode defined K.fields fields
-fields-print none h = refl
-fields-print (simple m ts) h = simple-print Within zero m ts (fields-print ts h)
-fields-print (array count t ts) h = let p = array-parts true count t ts h in array-print Within zero count t ts (fields-print t (p .2)) (fields-print ts (p .3))
-fields-print (structure s fs ts) h = let p = structure-parts true s fs ts h in structure-print Within zero (λ c. refl) s fs ts (fields-print fs (p .1)) (fields-print ts (p .2))
-fields-print (union s fs ts) h = let p = structure-parts true s fs ts h in union-print Within zero (λ c. refl) s fs ts (fields-print fs (p .1)) (fields-print ts (p .2))
-fields-print (bitField num ts) h = bit-field-print Within zero num ts (fields-print ts (both (leb num 255) (defined true ts) h .1))
-fields-print (pointer t ts) h = let p = pointer-parts true t ts h in pointer-print Within zero t ts (plain-print Bottom (suc zero) t (p .1)) (fields-print ts (p .3))
+fields-print : (ts : Types) → defined true ts ≡ true → withoutLongDouble ts ≡ true → print Within (trees ts) ≡ encode zero ts
+unfolding withoutLongDouble print trees encode defined K.fields fields
+fields-print none h w = refl
+fields-print (simple m ts) h w = simple-print Within zero m ts (fields-print ts h w)
+fields-print (longDouble ts) h w = absurd (false≢true w)
+fields-print (array count t ts) h w =
+    let p = array-parts true count t ts h in
+    let q = both (withoutLongDouble t) (withoutLongDouble ts) w in
+    array-print Within zero count t ts (fields-print t (p .1) (q .0)) (fields-print ts (p .2) (q .1))
+fields-print (structure s fs ts) h w =
+    let p = structure-parts true s fs ts h in
+    let q = both (withoutLongDouble fs) (withoutLongDouble ts) w in
+    structure-print Within zero (λ c. refl) s fs ts (fields-print fs (p .1) (q .0)) (fields-print ts (p .2) (q .1))
+fields-print (union s fs ts) h w =
+    let p = structure-parts true s fs ts h in
+    let q = both (withoutLongDouble fs) (withoutLongDouble ts) w in
+    union-print Within zero (λ c. refl) s fs ts (fields-print fs (p .1) (q .0)) (fields-print ts (p .2) (q .1))
+fields-print (bitField num ts) h w = bit-field-print Within zero num ts (fields-print ts h w)
+fields-print (pointer t ts) h w =
+    let p = pointer-parts true t ts h in
+    let q = both (withoutLongDouble t) (withoutLongDouble ts) w in
+    pointer-print Within zero t ts (plain-print Bottom (suc zero) t (p .1) (q .0)) (fields-print ts (p .3) (q .1))
 
 -- Types behind `n` pointers.
-pub types-print : (n : ℕ) (ts : Types) → defined false ts ≡ true → print (level n) (trees ts) ≡ encode n ts
-unfolding print trees encode defined
-types-print n none h = refl
-types-print n (simple m ts) h = simple-print (level n) n m ts (types-print n ts h)
-types-print n (array count t ts) h = let p = array-parts false count t ts h in array-print (level n) n count t ts (types-print n t (p .2)) (types-print n ts (p .3))
-types-print n (structure s fs ts) h = let p = structure-parts false s fs ts h in structure-print (level n) n (same-fields n) s fs ts (fields-print fs (p .1)) (types-print n ts (p .2))
-types-print n (union s fs ts) h = let p = structure-parts false s fs ts h in union-print (level n) n (same-fields n) s fs ts (fields-print fs (p .1)) (types-print n ts (p .2))
-types-print n (bitField num ts) h = bit-field-print (level n) n num ts (types-print n ts (both (leb num 255) (defined false ts) h .1))
-types-print n (pointer t ts) h = let p = pointer-parts false t ts h in pointer-print (level n) n t ts (rw (one-more n) (types-print (suc n) t (p .2))) (types-print n ts (p .3))
+pub types-print : (n : ℕ) (ts : Types) → defined false ts ≡ true → withoutLongDouble ts ≡ true → print (level n) (trees ts) ≡ encode n ts
+unfolding withoutLongDouble print trees encode defined
+types-print n none h w = refl
+types-print n (simple m ts) h w = simple-print (level n) n m ts (types-print n ts h w)
+types-print n (longDouble ts) h w = absurd (false≢true w)
+types-print n (array count t ts) h w =
+    let p = array-parts false count t ts h in
+    let q = both (withoutLongDouble t) (withoutLongDouble ts) w in
+    array-print (level n) n count t ts (types-print n t (p .1) (q .0)) (types-print n ts (p .2) (q .1))
+types-print n (structure s fs ts) h w =
+    let p = structure-parts false s fs ts h in
+    let q = both (withoutLongDouble fs) (withoutLongDouble ts) w in
+    structure-print (level n) n (same-fields n) s fs ts (fields-print fs (p .1) (q .0)) (types-print n ts (p .2) (q .1))
+types-print n (union s fs ts) h w =
+    let p = structure-parts false s fs ts h in
+    let q = both (withoutLongDouble fs) (withoutLongDouble ts) w in
+    union-print (level n) n (same-fields n) s fs ts (fields-print fs (p .1) (q .0)) (types-print n ts (p .2) (q .1))
+types-print n (bitField num ts) h w = bit-field-print (level n) n num ts (types-print n ts h w)
+types-print n (pointer t ts) h w =
+    let p = pointer-parts false t ts h in
+    let q = both (withoutLongDouble t) (withoutLongDouble ts) w in
+    pointer-print (level n) n t ts (rw (one-more n) (types-print (suc n) t (p .2) (q .0))) (types-print n ts (p .3) (q .1))
 
-pub type-print : (t : Types) → isType t ≡ true → print Top (trees t) ≡ encode zero t
+pub type-print : (t : Types) → isType t ≡ true → withoutLongDouble t ≡ true → print Top (trees t) ≡ encode zero t
 unfolding isType
-type-print t h = types-print zero t (both (isOne t) (defined false t) h .1)
+type-print t h w = types-print zero t (both (isOne t) (defined false t) h .1) w

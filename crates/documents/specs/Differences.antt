@@ -1,9 +1,10 @@
--- Where the crate parts from the documents: the crate's side, as rows that hold of our definitions (docs/DIFFERENCES.md has both sides).
-use Prim.Native.Nat.{ℕ}
+-- Where the crate parts from the documents, as rows that hold of the definitions of both (docs/DIFFERENCES.md has them in words).
+use Prim.Native.Nat.{ℕ, zero, _^_}
 use mathlib.Core.Path.{_≡_}
-use mathlib.Core.List.{List, [], _∷_}
+use mathlib.Core.Bool.{true, false}
+use mathlib.Core.List.{List, [], _∷_, _++_}
 use mathlib.Core.Option.{Option, some, none}
-use Rattle.kinds.specs.Byte.{bytes}
+use Rattle.kinds.specs.Byte.{byte, bytes}
 use Rattle.kinds.specs.Parse.{Whole, tree, refusal, fromStr}
 use Rattle.kinds.specs.Print.{print}
 use Rattle.kinds.specs.Refusal.{errorNumber}
@@ -13,27 +14,53 @@ use Rattle.kinds.specs.Tree.{Label, Trees, end, node}
 use Rattle.kinds.specs.declared.NestingLevel.the-variants.{Top}
 use Rattle.kinds.specs.declared.Primitive.the-variants as P
 use Rattle.agreement.specs.ReadTree.{readTree}
-use Rattle.documents.specs.Translation.{one}
+use Rattle.documents.specs.Gcc as C
+use Rattle.documents.specs.Guide as G
+use Rattle.documents.specs.Guide.{Types, only, pointerTo, encode, begins, isType, letters}
+use Rattle.documents.specs.Translation.{one, trees}
 
 pub data Row : Type 0 where
-  -- The text is read as the tree.
+  -- The guide encodes the type as the first text, and the crate prints it as the second.
+  writes : Types → List ℕ → List ℕ → Row
+  -- The guide encodes the type as the text, and the crate reads the text as another tree.
+  readsOther : Types → List ℕ → Trees → Row
+  -- The guide encodes the type as the first text; the crate reads the second as well, and prints the first.
+  alsoReads : Types → List ℕ → List ℕ → Row
+  -- No type of the guide's would be encoded as the text, and the crate reads it as the tree.
+  noType : Types → List ℕ → Trees → Row
+  -- The guide does not define the type; the crate reads it from the first text and prints the second.
+  undefined : Types → List ℕ → List ℕ → Row
+  -- No encoding of the guide's begins with the text's first byte; the crate reads the text as the tree and prints the second text.
+  noCode : ℕ → List ℕ → Trees → List ℕ → Row
+  -- The guide's bits of a long, and the crate's bytes.
+  longIs : ℕ → ℕ → Row
+  -- The guide encodes the type as the text, which the crate refuses, with 01's number and the place.
+  refusesType : Types → List ℕ → ℕ → ℕ → Row
+  -- What the document's definitions give is the text, which the crate refuses.
+  refuses : List ℕ → List ℕ → ℕ → ℕ → Row
+  -- The crate reads the text as the tree.
   reads : List ℕ → Trees → Row
-  -- The text is read as a tree that prints the second text, or that has the size.
-  prints : List ℕ → List ℕ → Row
-  hasSize : List ℕ → ℕ → Row
-  -- The text is refused, with 01's number and the place.
-  refuses : List ℕ → ℕ → ℕ → Row
 
 unfoldable pub refusedWith : Whole → Option (ℕ × ℕ)
 refusedWith (tree l cs) = none
 refusedWith (refusal e place) = some (errorNumber e, place)
 
+-- The crate refuses the text.
+abbrev pub Refuses : List ℕ → ℕ → ℕ → Type 0
+Refuses s n place = refusedWith (fromStr s) ≡ some (n, place)
+
 -- What a row claims.
 abbrev pub Holds : Row → Type 0
+Holds (writes t g s) = (isType t ≡ true) × (encode zero t ≡ g) × (print Top (trees t) ≡ s)
+Holds (readsOther t s u) = (isType t ≡ true) × (encode zero t ≡ s) × (readTree s ≡ u)
+Holds (alsoReads t g s) = (isType t ≡ true) × (encode zero t ≡ g) × (print Top (readTree s) ≡ g)
+Holds (noType t s u) = (isType t ≡ false) × (encode zero t ≡ s) × (readTree s ≡ u)
+Holds (undefined t s p) = (isType t ≡ false) × (readTree s ≡ trees t) × (print Top (trees t) ≡ p)
+Holds (noCode b s u p) = (begins b ≡ false) × (readTree (b ∷ s) ≡ u) × (print Top u ≡ p)
+Holds (longIs bits n) = (G.longBits ≡ bits) × (size (readTree (encode zero (only G.long))) ≡ some n)
+Holds (refusesType t s n place) = (isType t ≡ true) × (encode zero t ≡ s) × Refuses s n place
+Holds (refuses d s n place) = (d ≡ s) × Refuses s n place
 Holds (reads s t) = readTree s ≡ t
-Holds (prints s t) = print Top (readTree s) ≡ t
-Holds (hasSize s n) = size (readTree s) ≡ some n
-Holds (refuses s n place) = refusedWith (fromStr s) ≡ some (n, place)
 
 abbrev pub AllHold : List Row → Type 0
 AllHold [] = Unit {0}
@@ -45,48 +72,61 @@ leaf l = node l end end
 abbrev pub holding : Label → Trees → Trees
 holding l t = node l t end
 
+-- The guide's structure of that name.
+abbrev pub structure : List ℕ → Types → Types
+structure s fs = G.structure s fs G.none
+
 -- Against the guide.
 unfoldable pub guideDifferences : List Row
 guideDifferences =
-    -- Read, and no code of the guide's: long double (in the guide `d`), complex types, atomics, blocks, class names, typed bitfields.
-    reads (bytes "D") (one P.LongDouble)
-    ∷ reads (bytes "jf") (one P.FloatComplex)
-    ∷ reads (bytes "Ai") (holding T.atomic (one P.Int))
-    ∷ reads (bytes "@?") (one P.Block)
-    ∷ reads (bytes "{x=@?}") (holding (T.struct (bytes "x")) (one P.Block))
-    ∷ prints (bytes "@\"\"") (bytes "@")
+    -- Long double.
+    writes (G.longDouble G.none) (bytes "d") (bytes "D")
+    -- Read, and no code of the guide's: long double, complex types, atomics, whose fields are dropped.
+    ∷ noCode (byte "D") (bytes "") (one P.LongDouble) (bytes "D")
+    ∷ noCode (byte "j") (bytes "f") (one P.FloatComplex) (bytes "jf")
+    ∷ noCode (byte "A") (bytes "i") (holding T.atomic (one P.Int)) (bytes "Ai")
+    ∷ noCode (byte "A") (bytes "{x=i}") (holding T.atomic (holding (T.struct (bytes "x")) (one P.Int))) (bytes "A{x}")
+    -- Read otherwise: an object and an unknown type as a block.
+    ∷ noType (G.simple G.object (only G.unknown)) (bytes "@?") (one P.Block)
+    ∷ readsOther (structure (bytes "x") (G.simple G.object (only G.unknown))) (bytes "{x=@?}") (holding (T.struct (bytes "x")) (one P.Block))
     ∷ reads (bytes "b0i0") (holding (T.typedBitField 0 0) (one P.Int))
-    -- Fields dropped where the guide does not say so: in a record, behind an atomic, of a union, of an array's item.
-    ∷ prints (bytes "{x=^{y=i}}") (bytes "{x=^{y}}")
-    ∷ prints (bytes "A{x=i}") (bytes "A{x}")
-    ∷ prints (bytes "^^(x=i)") (bytes "^^(x)")
-    ∷ prints (bytes "^^[2{x=i}]") (bytes "^^[2{x}]")
-    -- A long is 32 bits wide in the guide.
-    ∷ hasSize (bytes "l") 8
-    -- Texts that no type of the guide's has: a record without `=` at the top, fields behind two pointers, a name that begins with a digit,
-    -- surplus zeros, nothing where a type must stand.
-    ∷ prints (bytes "{x}") (bytes "{x=}")
-    ∷ prints (bytes "^^{x=i}") (bytes "^^{x}")
-    ∷ reads (bytes "{0}") (leaf (T.struct (bytes "0")))
-    ∷ prints (bytes "b00") (bytes "b0")
-    ∷ reads (bytes "") (leaf T.none)
-    ∷ reads (bytes "^") (holding T.pointer (leaf T.none))
-    ∷ reads (bytes "[0]") (holding (T.array 0) (leaf T.none))
-    -- Refused: a bit field of more than 255 bits, a qualifier that is not at the start.
-    ∷ refuses (bytes "b256") 11 4
-    ∷ refuses (bytes "^rc") 8 2
+    -- Fields dropped where the guide does not say so: in a record, of a union, of an array's item.
+    ∷ undefined (structure (bytes "x") (pointerTo (structure (bytes "y") (only G.int)))) (bytes "{x=^{y=i}}") (bytes "{x=^{y}}")
+    ∷ writes (pointerTo (pointerTo (G.union (bytes "x") (only G.int) G.none))) (bytes "^^(x)") (bytes "^^(x)")
+    ∷ writes (pointerTo (pointerTo (G.array 2 (structure (bytes "x") (only G.int)) G.none))) (bytes "^^[2{x}]") (bytes "^^[2{x}]")
+    ∷ longIs 32 8
+    -- Texts that the guide writes otherwise: without the class name, without `=` at the top, with fields behind two pointers, with surplus zeros.
+    ∷ alsoReads (only G.object) (bytes "@") (bytes "@\"\"")
+    ∷ alsoReads (structure (bytes "x") G.none) (bytes "{x=}") (bytes "{x}")
+    ∷ alsoReads (pointerTo (pointerTo (structure (bytes "x") (only G.int)))) (bytes "^^{x}") (bytes "^^{x=i}")
+    ∷ alsoReads (G.bitField 0 G.none) (bytes "b0") (bytes "b00")
+    -- A name that begins with a digit; nothing where a type must stand.
+    ∷ undefined (structure (bytes "0") G.none) (bytes "{0}") (bytes "{0=}")
+    ∷ noType G.none (bytes "") (leaf T.none)
+    ∷ noType (pointerTo G.none) (bytes "^") (holding T.pointer (leaf T.none))
+    ∷ noType (G.array 0 G.none G.none) (bytes "[0]") (holding (T.array 0) (leaf T.none))
+    -- Refused: a bit field of more than 255 bits, an array of 2^64 items, a qualifier that is not at the start.
+    ∷ refusesType (G.bitField 256 G.none) (bytes "b256") 11 4
+    ∷ refusesType (G.array (2 ^ 64) (only G.char) G.none) (bytes "[18446744073709551616c]") 11 21
+    ∷ refuses (byte "^" ∷ (letters (G.const ∷ []) ++ encode zero (only G.char))) (bytes "^rc") 8 2
     ∷ []
 
--- Against GCC's manual: vectors, 128-bit integers, complex integers, large bit-fields.
+-- Against GCC's manual: vectors, 128-bit integers, also as types of bit-fields, complex integers, large bit-fields.
 unfoldable pub gccDifferences : List Row
 gccDifferences =
-    refuses (bytes "!") 8 1
-    ∷ refuses (bytes "t") 8 1
-    ∷ refuses (bytes "T") 8 1
-    ∷ refuses (bytes "ji") 9 1
-    ∷ refuses (bytes "b0i256") 11 6
+    refuses (C.vector ∷ []) (bytes "!") 8 1
+    ∷ refuses (C.wideCode C.int128 ∷ []) (bytes "t") 8 1
+    ∷ refuses (C.wideCode C.unsignedInt128 ∷ []) (bytes "T") 8 1
+    ∷ refuses (C.wideBitField 0 C.int128 1) (bytes "b0t1") 15 2
+    ∷ refuses (C.wideBitField 0 C.unsignedInt128 1) (bytes "b0T1") 15 2
+    ∷ refuses (C.complex (C.code C.int ∷ [])) (bytes "ji") 9 1
+    ∷ refuses (C.bitField 0 C.int 256) (bytes "b0i256") 11 6
     ∷ []
 
--- Against clang's texts: quoted field names, names of C++ templates, and the space that stands for a half float.
-unfoldable pub clangDifferences : List Row
-clangDifferences = refuses (bytes "{x=\"a\"i}") 8 4 ∷ refuses (bytes "{a<b>=i}") 14 5 ∷ refuses (bytes " ") 8 1 ∷ []
+-- Against clang's texts, for which there is no document: quoted field names, names of C++ templates, the space that stands for a half float.
+unfoldable pub clangDifferences : List (List ℕ × ℕ × ℕ)
+clangDifferences = (bytes "{x=\"a\"i}", 8, 4) ∷ (bytes "{a<b>=i}", 14, 5) ∷ (bytes " ", 8, 1) ∷ []
+
+abbrev pub AllRefused : List (List ℕ × ℕ × ℕ) → Type 0
+AllRefused [] = Unit {0}
+AllRefused (r ∷ rs) = Refuses (r .0) (r .1) (r .2) × AllRefused rs

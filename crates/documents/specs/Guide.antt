@@ -1,9 +1,9 @@
 -- Apple's Objective-C Runtime Programming Guide, "Type Encodings": its two tables, and the encoding of a type.
-use Prim.Native.Nat.{ℕ, zero, suc, _-_, _^_}
+use Prim.Native.Nat.{ℕ, zero, suc}
 use mathlib.Core.Bool.{Bool, true, false, _&&_, _||_, not}
-use mathlib.Core.List.{List, [], _∷_, _++_}
+use mathlib.Core.List.{List, [], _∷_, _++_, map}
 use lib.Dec.{leb, eqb}
-use Rattle.kinds.specs.Byte.{byte, bytes}
+use Rattle.kinds.specs.Byte.{byte, bytes, among}
 use Rattle.documents.specs.Decimal.{decimal}
 
 -- ---- The table of codes.
@@ -30,7 +30,7 @@ pub data Meaning : Type 0 where
   selector : Meaning
   unknown : Meaning
 
--- The rows of one byte. The table's remark that a long counts as 32 bits wide is on widths, which 01 does not take up.
+-- The rows of one byte.
 unfoldable pub code : Meaning → ℕ
 code char = byte "c"
 code int = byte "i"
@@ -63,6 +63,14 @@ table =
     ∷ row float ∷ row double ∷ row bool ∷ row void ∷ row string
     ∷ row object ∷ row class ∷ row selector ∷ row unknown ∷ []
 
+-- The table's remark on a long: its width in bits in 64-bit programs.
+abbrev pub longBits : ℕ
+longBits = 32
+
+-- The bytes that begin an encoding: these codes, and those of the rows of arrays, structures, unions, bit fields and pointers.
+unfoldable pub begins : ℕ → Bool
+begins b = among b (map (λ r. r .0) table) || among b (bytes "[{(b^")
+
 -- ---- The table of qualifiers, in its order.
 
 pub data Qualifier : Type 0 where
@@ -83,6 +91,9 @@ letter bycopy = byte "O"
 letter byref = byte "R"
 letter oneway = byte "V"
 
+abbrev pub qualifierTable : List Qualifier
+qualifierTable = const ∷ «in» ∷ inout ∷ out ∷ bycopy ∷ byref ∷ oneway ∷ []
+
 -- The letters of qualifiers one after the other.
 unfoldable pub letters : List Qualifier → List ℕ
 letters [] = []
@@ -91,10 +102,11 @@ letters (q ∷ qs) = letter q ∷ letters qs
 -- ---- Types and their encoding.
 
 -- Types side by side: the first type and the types after it, or none. One type has `none` after it.
--- An array has a count and an item, a structure and a union a name and fields, a bit field a count of bits.
+-- An array has a count and an item, a structure and a union a name and fields, a bit field a count of bits. Long double has no row in the table.
 pub data Types : Type 0 where
   none : Types
   simple : Meaning → Types → Types
+  longDouble : Types → Types
   array : ℕ → Types → Types → Types
   structure : List ℕ → Types → Types → Types
   union : List ℕ → Types → Types → Types
@@ -107,11 +119,12 @@ fields zero s = byte "=" ∷ s
 fields (suc zero) s = byte "=" ∷ s
 fields (suc (suc n)) s = []
 
--- The encoding of types behind `n` pointers. The guide drops the fields of structures; that a union goes likewise, and that
--- an array's item is behind as many pointers as the array, is 01's reading of it ("Levels").
+-- The encoding of types behind `n` pointers. Long double is not supported and is encoded as a double. The guide drops the fields of
+-- structures; that a union goes likewise, and that an array's item is behind as many pointers as the array, is 01's reading of it ("Levels").
 unfoldable pub encode : ℕ → Types → List ℕ
 encode n none = []
 encode n (simple m ts) = code m ∷ encode n ts
+encode n (longDouble ts) = code double ∷ encode n ts
 encode n (array count t ts) = byte "[" ∷ (decimal count ++ (encode n t ++ (byte "]" ∷ encode n ts)))
 encode n (structure s fs ts) = byte "{" ∷ (s ++ (fields n (encode zero fs) ++ (byte "}" ∷ encode n ts)))
 encode n (union s fs ts) = byte "(" ∷ (s ++ (fields n (encode zero fs) ++ (byte ")" ∷ encode n ts)))
@@ -123,6 +136,7 @@ encode n (pointer t ts) = byte "^" ∷ (encode (suc n) t ++ encode n ts)
 unfoldable pub isNone : Types → Bool
 isNone none = true
 isNone (simple m ts) = false
+isNone (longDouble ts) = false
 isNone (array count t ts) = false
 isNone (structure s fs ts) = false
 isNone (union s fs ts) = false
@@ -132,6 +146,7 @@ isNone (pointer t ts) = false
 unfoldable pub isOne : Types → Bool
 isOne none = false
 isOne (simple m ts) = isNone ts
+isOne (longDouble ts) = isNone ts
 isOne (array count t ts) = isNone ts
 isOne (structure s fs ts) = isNone ts
 isOne (union s fs ts) = isNone ts
@@ -156,21 +171,23 @@ isName (b ∷ c ∷ s) = isLetter b && isWord (c ∷ s)
 unfoldable pub withoutRecord : Types → Bool
 withoutRecord none = true
 withoutRecord (simple m ts) = withoutRecord ts
+withoutRecord (longDouble ts) = withoutRecord ts
 withoutRecord (array count t ts) = withoutRecord t && withoutRecord ts
 withoutRecord (structure s fs ts) = false
 withoutRecord (union s fs ts) = false
 withoutRecord (bitField num ts) = withoutRecord ts
 withoutRecord (pointer t ts) = withoutRecord t && withoutRecord ts
 
--- Arrays and pointers have one item, names are names, counts fit in 64 bits and those of bits in 8. Of a pointer that is
--- or leads to a field of a record, the guide does not say which fields stay: `inRecord` holds for fields, and such a pointer leads to no record.
+-- Arrays and pointers have one item, and names are names. Of a pointer that is or leads to a field of a record, the guide does not say which
+-- fields stay: `inRecord` holds for fields, and such a pointer leads to no record.
 unfoldable pub defined : Bool → Types → Bool
 defined inRecord none = true
 defined inRecord (simple m ts) = defined inRecord ts
-defined inRecord (array count t ts) = (leb count (2 ^ 64 - 1) && isOne t) && (defined inRecord t && defined inRecord ts)
+defined inRecord (longDouble ts) = defined inRecord ts
+defined inRecord (array count t ts) = isOne t && (defined inRecord t && defined inRecord ts)
 defined inRecord (structure s fs ts) = isName s && (defined true fs && defined inRecord ts)
 defined inRecord (union s fs ts) = isName s && (defined true fs && defined inRecord ts)
-defined inRecord (bitField num ts) = leb num 255 && defined inRecord ts
+defined inRecord (bitField num ts) = defined inRecord ts
 defined inRecord (pointer t ts) = (isOne t && (not inRecord || withoutRecord t)) && (defined inRecord t && defined inRecord ts)
 
 -- One type that the guide defines.

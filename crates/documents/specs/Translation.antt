@@ -1,14 +1,14 @@
 -- The documents' types as our trees: what the theorems on them compare. Only this file names both.
-use Prim.Native.Nat.{ℕ, zero}
+use Prim.Native.Nat.{ℕ, zero, _-_, _^_}
 use mathlib.Core.Path.{_≡_}
-use mathlib.Core.Bool.{Bool, true, _&&_, not}
+use mathlib.Core.Bool.{Bool, true, false, _&&_, not}
 use mathlib.Core.List.{List, [], _∷_}
 use mathlib.Core.Logic.{_⊎_}
-use lib.Dec.{eqb}
+use lib.Dec.{leb, eqb}
 use Rattle.kinds.specs.Byte.{byte, bytes}
 use Rattle.kinds.specs.Primitive.{kindOf}
 use Rattle.kinds.specs.Print.{print}
-use Rattle.kinds.specs.Sound.{unknownNext}
+use Rattle.agreement.specs.Sound.{unknownNext}
 use Rattle.kinds.specs.Tree as T
 use Rattle.kinds.specs.Tree.{Label, Trees, end, node, primitive}
 use Rattle.kinds.specs.declared.Primitive.{Primitive}
@@ -53,11 +53,34 @@ one p = node (primitive (kindOf p)) end end
 unfoldable pub trees : Types → Trees
 trees G.none = end
 trees (G.simple m ts) = node (label m) end (trees ts)
+trees (G.longDouble ts) = node (primitive (kindOf P.LongDouble)) end (trees ts)
 trees (G.array count t ts) = node (T.array count) (trees t) (trees ts)
 trees (G.structure s fs ts) = node (T.struct s) (trees fs) (trees ts)
 trees (G.union s fs ts) = node (T.union s) (trees fs) (trees ts)
 trees (G.bitField num ts) = node (T.bitField num) end (trees ts)
 trees (G.pointer t ts) = node T.pointer (trees t) (trees ts)
+
+-- No long double is among the types: the guide writes `d` for it and the crate `D`.
+unfoldable pub withoutLongDouble : Types → Bool
+withoutLongDouble G.none = true
+withoutLongDouble (G.simple m ts) = withoutLongDouble ts
+withoutLongDouble (G.longDouble ts) = false
+withoutLongDouble (G.array count t ts) = withoutLongDouble t && withoutLongDouble ts
+withoutLongDouble (G.structure s fs ts) = withoutLongDouble fs && withoutLongDouble ts
+withoutLongDouble (G.union s fs ts) = withoutLongDouble fs && withoutLongDouble ts
+withoutLongDouble (G.bitField num ts) = withoutLongDouble ts
+withoutLongDouble (G.pointer t ts) = withoutLongDouble t && withoutLongDouble ts
+
+-- Counts fit in 64 bits, and those of bits in 8. The guide has no such limits; the crate refuses others (11).
+unfoldable pub countsFit : Types → Bool
+countsFit G.none = true
+countsFit (G.simple m ts) = countsFit ts
+countsFit (G.longDouble ts) = countsFit ts
+countsFit (G.array count t ts) = leb count (2 ^ 64 - 1) && (countsFit t && countsFit ts)
+countsFit (G.structure s fs ts) = countsFit fs && countsFit ts
+countsFit (G.union s fs ts) = countsFit fs && countsFit ts
+countsFit (G.bitField num ts) = leb num 255 && countsFit ts
+countsFit (G.pointer t ts) = countsFit t && countsFit ts
 
 -- No `?` stands directly after an `@`. The guide has no blocks: there `@?` is an object and then an unknown type, in the crate it is a block.
 unfoldable pub withoutBlock : List ℕ → Bool

@@ -1,5 +1,6 @@
 -- What the calls answer for good sheets, from the trees that they hold.
 use Prim.Native.Nat.{ℕ, _≤_}
+use native.Mathlib.Omega.{arith}
 use mathlib.Core.Bool.{Bool, true, false, cond, _&&_}
 use mathlib.Core.List.{List}
 use mathlib.Core.Path.{_≡_, refl, sym, ap, _∙_}
@@ -11,7 +12,8 @@ use Rattle.kinds.specs.Expect.{equivalentToStr}
 use Rattle.kinds.specs.Print.{print}
 use Rattle.kinds.specs.Sheet.{isSheet, treeOf}
 use Rattle.kinds.specs.Size.{size}
-use Rattle.kinds.specs.Sound.{valid, goodNames, sound, clear}
+use Rattle.kinds.specs.Sound.{valid, goodNames}
+use Rattle.agreement.specs.Sound.{sound, clear}
 use Rattle.kinds.specs.Tree.{Trees, isOne}
 use Rattle.kinds.specs.declared.NestingLevel.the-variants.{Top}
 use Rattle.kinds.specs.declared.Refusal.the-variants as R
@@ -28,7 +30,7 @@ use Rattle.static_str.specs.Outcome.{fitted, placed, textOf, orRefused, orKept,
 use Rattle.static_str.specs.declared.Printed.the-variants.{Bytes}
 use Rattle.agreement.specs.ShownAlike.{ShownAlike}
 use Rattle.agreement.proofs.Agreement.{shown-alike}
-use Rattle.sheet_agreement.specs.Sheets.{GoodSheet, SoundSheet, SheetsAlike, shownPart}
+use Rattle.sheet_agreement.specs.Sheets.{GoodSheet, SoundSheet, SheetsAlike, Answered, shownPart}
 
 pub sound-good : (w s : List ℕ) → SoundSheet w s → GoodSheet w s
 unfolding sound
@@ -95,9 +97,23 @@ module _ (w s : List ℕ) (h : GoodSheet w s) (cw cn : List ℕ) where
   unfolding compareAnswer againstOther equivalentTo
   compare-second = rw (h .sheet, h .good-names, right-true (isSheet cw cn), right-true (goodNames (treeOf cw cn)))
 
+-- With another good sheet, by levels and with all fields.
+pub compare-both : (all : Bool) (aw an bw bn : List ℕ) → GoodSheet aw an → GoodSheet bw bn → compareAnswer all aw an bw bn ≡ C.Decided (compareEncodings all Top (treeOf aw an) (treeOf bw bn))
+unfolding compareAnswer
+compare-both all aw an bw bn a b = rw (a .sheet, b .sheet, a .good-names, b .good-names)
+
 pub compare-good : (aw an bw bn : List ℕ) → GoodSheet aw an → GoodSheet bw bn → compareAnswer false aw an bw bn ≡ C.Decided (equivalentTo (treeOf aw an) (treeOf bw bn))
-unfolding againstOther
-compare-good aw an bw bn a b = compare-first aw an a bw bn ∙ rw (b .sheet, b .good-names)
+unfolding equivalentTo
+compare-good = compare-both false
+
+pub good-answers : (w s : List ℕ) → GoodSheet w s → Answered w s
+good-answers w s h = record {
+  lengths = length-answer w s h;
+  prints = print-answer w s h;
+  sizes = size-answer w s h;
+  trees = λ all cw cn g. (compare-both all w s cw cn h g, compare-both all cw cn w s g h);
+  texts = λ text l. text-decided w s h text (omega arith);
+}
 
 -- Where the other lists hold no sheet, the trees do not matter.
 where-sheet : (x g y z : Bool) → (x ≡ true → y ≡ z) → againstOther x g y ≡ againstOther x g z

@@ -22,7 +22,8 @@ pub sheets-alike : (aw an bw bn : List ℕ) → GoodSheet aw an → GoodSheet bw
 sheets-alike = answers-alike
 
 -- The printed text of a good sheet is what printing writes into an output with room: these bytes at the front and nothing beyond.
-pub printed-text : (words names out : List ℕ) → GoodSheet words names → length (textOf words names) ≤ length out → (encodingArray words names (length out) ≡ Bytes (length (textOf words names))) × (encodingOutput words names out ≡ textOf words names ++ drop (length (textOf words names)) out)
+pub printed-text : (words names out : List ℕ) → GoodSheet words names → length (textOf words names) ≤ length out
+    → (encodingArray words names (length out) ≡ Bytes (length (textOf words names))) × (encodingOutput words names out ≡ textOf words names ++ drop (length (textOf words names)) out)
 unfolding fitted placed
 printed-text words names out h room = (rw (print-answer words names h (length out), le-leb _ _ room), rw (print-output words names h out, le-leb _ _ room))
 
@@ -32,7 +33,8 @@ sheets-print-alike aw an bw bn a b = prints-alike (treeOf aw an) (treeOf bw bn) 
 
 -- Demand 3, comparisons: where the second sheet's printed text has at most 2,000 bytes, tree against tree (either call) and tree against that
 -- text give the same answer.
-pub sheets-compare-alike : (aw an bw bn : List ℕ) → SoundSheet aw an → SoundSheet bw bn → length (textOf bw bn) ≤ maxText → (answer : Bool) × (compareAnswer false aw an bw bn ≡ C.Decided answer) × (compared aw an (textOf bw bn) ≡ C.Decided answer)
+pub sheets-compare-alike : (aw an bw bn : List ℕ) → SoundSheet aw an → SoundSheet bw bn → length (textOf bw bn) ≤ maxText
+    → (answer : Bool) × (compareAnswer false aw an bw bn ≡ C.Decided answer) × (compared aw an (textOf bw bn) ≡ C.Decided answer)
 sheets-compare-alike aw an bw bn a b q =
     let x = sound-good aw an a in
     (equivalentTo (treeOf aw an) (treeOf bw bn), compare-good aw an bw bn x (sound-good bw bn b), text-decided aw an x (textOf bw bn) q ∙ ap C.Decided (sym (compares-alike (treeOf aw an) (treeOf bw bn) (a .sound-tree) (b .sound-tree))))
