@@ -6,4 +6,3 @@ pub mod PrintLaws
 pub mod PartLaws
 pub mod PassLaws
 pub mod TurnLaws
-pub mod SheetTextLaws

@@ -8,7 +8,7 @@ use lib.ListN.{length, drop}
 use Rattle.kinds.specs.declared.Refusal.the-variants.{OutputTooShort}
 use Rattle.static_str.specs.declared.Printed.the-variants.{Refused, Bytes}
 use Rattle.static_str.specs.Output.{written, Wrote}
-use Rattle.static_str.specs.Outcome.{fitted, placed}
+use Rattle.static_str.specs.Answer.{fitted, placed}
 
 module _ (text : List ℕ) (out : List ℕ) where
   pub fitted-short : length out < length text → Refused OutputTooShort ≡ fitted text (length out)

@@ -11,7 +11,7 @@ ghost use Rattle.kinds.specs.Print.{decimal, fields, print};
 ghost use Rattle.kinds.specs.Sheet.{countAt, isContainerKind, trees, maxNodes, maxNames};
 ghost use Rattle.kinds.specs.Walk.{NodeAt, TreesAt, KindsAndNames};
 ghost use Rattle.static_str.specs.Output.{Wrote};
-ghost use Rattle.static_str.specs.Outcome.{fitted, placed, encodingLen, encodingArray, encodingOutput};
+ghost use Rattle.static_str.specs.Answer.{fitted, placed, encodingLen, encodingArray, encodingOutput};
 ghost use Rattle.static_str.specs.Parts.{opening, closing, childrenText, maxNodeText, OwnLength, fieldsBelow, passed, PassedLength, TreesLength};
 use kinds::ARRAY;
 use kinds::ATOMIC;
@@ -424,21 +424,48 @@ fn print_trees(
     to
 }
 
+// Writes the code of a primitive at the front of the output.
+fn print_code(kind: u64, out: &mut [u8]) -> Printed
+    requires { ⌜ kind < 24 ⌝ }
+    ensures answers { λ r. ⌜ r ≡ fitted (code kind) (length (now (out .entry))) ⌝ }
+    ensures writes { λ _. ⌜ now (out .exit) ≡ placed (code kind) (now (out .entry)) ⌝ }
+{
+    let len = code_len(kind);
+    if out.len() < len {
+        return Printed::Refused(Refusal::OutputTooShort);
+    }
+    put_code(out, 0, kind);
+    Printed::Bytes(len)
+}
+
+// Writes the text of the tree of `n` nodes at the front of the output.
+fn print_tree(nodes: &[u64], names: &[u8], n: usize, out: &mut [u8]) -> Printed
+    requires { ⌜ TreesAt (now nodes) 0 n × (n ≤ maxNodes) ⌝ }
+    requires { ⌜ KindsAndNames (now nodes) maxNames 0 n × KindsAndNames (now nodes) (length (now names)) 0 n ⌝ }
+    ensures answers { λ r. ⌜ r ≡ fitted (print NestingLevel.Top (trees (now (names .entry)) (now (nodes .entry)) n 0)) (length (now (out .entry))) ⌝ }
+    ensures writes { λ _. ⌜ now (out .exit) ≡ placed (print NestingLevel.Top (trees (now (names .entry)) (now (nodes .entry)) n 0)) (now (out .entry)) ⌝ }
+{
+    let len = trees_len(&nodes[0..], 0, n, NestingLevel::new());
+    if out.len() < len {
+        return Printed::Refused(Refusal::OutputTooShort);
+    }
+    print_trees(&nodes[0..], &names[0..], 0, n, NestingLevel::new(), out, 0);
+    Printed::Bytes(len)
+}
+
 // The length of the text of the tree that the lists hold.
 pub fn static_encoding_str_len(words: &[u64], names: &[u8]) -> Printed
     ensures { λ r. ⌜ r ≡ encodingLen (now (words .entry)) (now (names .entry)) ⌝ }
 {
     match check(&words[0..], &names[0..]) {
-        Checked::NotASheet => Printed::Refused(Refusal::NotASheet),
-        Checked::BadName => Printed::Refused(Refusal::BadName),
-        Checked::Good => {
-            let kind = words[4];
-            if kind < PRIMITIVES {
-                return Printed::Bytes(code_len(kind));
-            }
-            let n = words[0] as usize;
-            Printed::Bytes(trees_len(&words[4..], 0, n, NestingLevel::new()))
-        }
+        Checked::Refused(why) => Printed::Refused(why),
+        Checked::Code(kind) => Printed::Bytes(code_len(kind)),
+        Checked::Nodes(first, n) => Printed::Bytes(trees_len(
+            &words[first..],
+            0,
+            n,
+            NestingLevel::new(),
+        )),
     }
 }
 
@@ -447,20 +474,9 @@ pub fn static_encoding_str_array(words: &[u64], names: &[u8], out: &mut [u8]) ->
     ensures answers { λ r. ⌜ r ≡ encodingArray (now (words .entry)) (now (names .entry)) (length (now (out .entry))) ⌝ }
     ensures writes { λ _. ⌜ now (out .exit) ≡ encodingOutput (now (words .entry)) (now (names .entry)) (now (out .entry)) ⌝ }
 {
-    match static_encoding_str_len(&words[0..], &names[0..]) {
-        Printed::Refused(refusal) => Printed::Refused(refusal),
-        Printed::Bytes(len) => {
-            if out.len() < len {
-                return Printed::Refused(Refusal::OutputTooShort);
-            }
-            let kind = words[4];
-            if kind < PRIMITIVES {
-                put_code(out, 0, kind);
-                return Printed::Bytes(len);
-            }
-            let n = words[0] as usize;
-            print_trees(&words[4..], &names[0..], 0, n, NestingLevel::new(), out, 0);
-            Printed::Bytes(len)
-        }
+    match check(&words[0..], &names[0..]) {
+        Checked::Refused(why) => Printed::Refused(why),
+        Checked::Code(kind) => print_code(kind, out),
+        Checked::Nodes(first, n) => print_tree(&words[first..], &names[0..], n, out),
     }
 }

@@ -5,12 +5,9 @@ use mathlib.Core.List.{List, _++_}
 use lib.Dec.{leb}
 use lib.ListN.{length, drop}
 use Rattle.kinds.specs.Print.{print}
-use Rattle.kinds.specs.Sheet.{treeOf}
 use Rattle.kinds.specs.declared.NestingLevel.the-variants.{Top}
 use Rattle.kinds.specs.declared.Refusal.the-variants as R
-use Rattle.sheet.specs.Check.{checked}
-use Rattle.sheet.specs.declared.Checked.{Checked}
-use Rattle.sheet.specs.declared.Checked.the-variants.{NotASheet, BadName, Good}
+use Rattle.sheet.specs.Answer.{ofSheet}
 use Rattle.static_str.specs.declared.Printed.{Printed}
 use Rattle.static_str.specs.declared.Printed.the-variants.{Refused, Bytes}
 
@@ -22,28 +19,14 @@ fitted text room = cond (leb (length text) room) (Bytes (length text)) (Refused 
 unfoldable pub placed : List ℕ → List ℕ → List ℕ
 placed text out = cond (leb (length text) (length out)) (text ++ drop (length text) out) out
 
--- The text of the tree that the lists hold.
-abbrev pub textOf : List ℕ → List ℕ → List ℕ
-textOf words names = print Top (treeOf words names)
-
-abbrev pub orRefused : Checked → Printed → Printed
-orRefused NotASheet answer = Refused R.NotASheet
-orRefused BadName answer = Refused R.BadName
-orRefused Good answer = answer
-
-abbrev pub orKept : Checked → List ℕ → List ℕ → List ℕ
-orKept NotASheet after out = out
-orKept BadName after out = out
-orKept Good after out = after
-
 -- `static_encoding_str_len`.
 unfoldable pub encodingLen : List ℕ → List ℕ → Printed
-encodingLen words names = orRefused (checked words names) (Bytes (length (textOf words names)))
+encodingLen words names = ofSheet Refused (λ t. Bytes (length (print Top t))) words names
 
 -- `static_encoding_str_array` with an output of `room` bytes.
 unfoldable pub encodingArray : List ℕ → List ℕ → ℕ → Printed
-encodingArray words names room = orRefused (checked words names) (fitted (textOf words names) room)
+encodingArray words names room = ofSheet Refused (λ t. fitted (print Top t) room) words names
 
 -- The output after it.
 unfoldable pub encodingOutput : List ℕ → List ℕ → List ℕ → List ℕ
-encodingOutput words names out = orKept (checked words names) (placed (textOf words names) out) out
+encodingOutput words names out = ofSheet (λ r. out) (λ t. placed (print Top t) out) words names
