@@ -13,7 +13,7 @@ use Rattle.kinds.specs.Sound.{goodName, goodNames}
 use Rattle.kinds.specs.Walk.{TreesAt}
 use Rattle.kinds.proofs.SheetLaws.{header-says, trees-step}
 use Rattle.kinds.proofs.NodeLaws.{no-trees, first-some, first-within, first-node, node-inner, other-trees}
-use Rattle.sheet.specs.Walked.{inOrder, walked, verdictOf, answer, LoneCode}
+use Rattle.sheet.specs.Walked.{inOrder, walked, verdictOf, answer}
 use Rattle.sheet.proofs.WalkLaws.{walked-code}
 use Rattle.sheet.specs.declared.Verdict.the-variants.{NotASheet, BadName, Good}
 use Rattle.sheet.specs.declared.Walked.{Walked}

@@ -6,22 +6,23 @@ use mathlib.Core.List.{List}
 use mathlib.Core.Bool.{Bool, true, false, cond}
 use borrow.Author.Tests.{ltb-true, eqb-true, lt-ltb, le-ltb, le-leb}
 use lib.Dec.{ltb}
-use lib.ListN.{length, getD, drop}
+use lib.ListN.{length, getD, take, drop}
 use lib.Seq.{getD-drop}
-use Rattle.kinds.specs.Sheet.{kindAt, firstAt, secondAt, countAt, header, isSheet, treeOf, trees, nodeWords, headerWords, nests, maxNames, Holds}
+use Rattle.kinds.specs.Sheet.{kindAt, firstAt, secondAt, countAt, header, isSheet, treeOf, nodeWords, headerWords, nests, maxNames}
 use Rattle.kinds.specs.Sound.{goodNames}
 use Rattle.kinds.specs.Tree.{Trees, end, node, primitive}
-use Rattle.kinds.specs.Walk.{TreesAt}
 use Rattle.kinds.specs.declared.Refusal.{Refusal}
 use Rattle.kinds.specs.declared.Refusal.the-variants.{NotASheet, BadName}
+use Rattle.kinds.proofs.ListLaws.{part-rest}
 use Rattle.kinds.proofs.HoldsLaws.{test-holds}
 use Rattle.kinds.proofs.NodeLaws.{SheetSays, sheet-says, packed-walk, node-arity, label-primitive, no-trees}
 use Rattle.kinds.proofs.SheetLaws.{arity-low, trees-step}
-use Rattle.sheet.specs.Answer.{Held, held, refused, holding, HeldBoth, heldBoth, refusedBoth, holdingBoth, paired, ofHeld, ofSheet, ofHeldBoth, ofSheets, found, checked, both, checkedBoth}
+use Rattle.sheet.specs.Answer.{Held, held, refused, holding, heldBoth, refusedBoth, ofHeld, ofSheet, ofSheets, found, checked, both, checkedBoth}
 use Rattle.sheet.specs.Given.{CodeIn, NodesAre, NodesIn, Gives, GivesBoth}
 use Rattle.sheet.specs.declared.Checked.{Checked}
 use Rattle.sheet.specs.declared.Checked.the-variants.{Refused, Code, Nodes}
 use Rattle.sheet.specs.declared.CheckedBoth.{CheckedBoth}
+use Rattle.sheet.specs.declared.CheckedBoth.the-variants as B
 use Rattle.sheet.specs.declared.Verdict.{Verdict}
 use Rattle.sheet.specs.declared.Walked.the-variants.{Next}
 use Rattle.sheet.specs.Walked.{verdictOf, answer, LoneCode}
@@ -190,3 +191,47 @@ module _ (aw an bw bn : List ℕ) where
   both-gives {x} {y} {r} e p q =
       let d : r ≡ checkedBoth aw an bw bn = e ∙ ap₂ both p q in
       (d, subst (GivesBoth aw an bw bn) (sym d) gives-both)
+
+-- ---- For a walk: what it is given, by what the check found, and the answer that it makes of it.
+
+module _ (words names : List ℕ) {c : Checked} (g : Gives words names c) where
+  pub given-refused : {r : Refusal} → c ≡ Refused r → held words names ≡ refused r
+  given-refused e = subst (Gives words names) e g
+
+  pub given-code : {k : ℕ} → c ≡ Code k → CodeIn words names k
+  given-code e = subst (Gives words names) e g
+
+  pub given-nodes : {first n : ℕ} → c ≡ Nodes first n → NodesIn words names first n
+  given-nodes e = subst (Gives words names) e g
+
+module _ (aw an bw bn : List ℕ) {c : CheckedBoth} (g : GivesBoth aw an bw bn c) where
+  pub given-refused-both : {r : Refusal} → c ≡ B.Refused r → heldBoth aw an bw bn ≡ refusedBoth r
+  given-refused-both e = subst (GivesBoth aw an bw bn) e g
+
+  pub given-codes : {k j : ℕ} → c ≡ B.Codes k j → CodeIn aw an k × CodeIn bw bn j
+  given-codes e = subst (GivesBoth aw an bw bn) e g
+
+  pub given-nodes-both : {f n h m : ℕ} → c ≡ B.Nodes f n h m → NodesIn aw an f n × NodesIn bw bn h m
+  given-nodes-both e = subst (GivesBoth aw an bw bn) e g
+
+-- The nodes as the code takes them out of the words, `&words[first..]`.
+pub nodes-part : {words names : List ℕ} {first n : ℕ} → NodesIn words names first n → NodesAre words names (take (length words - first) (drop first words)) n
+nodes-part {words} {names} {first} {n} h = subst (λ (w : List ℕ). NodesAre words names w n) (sym (part-rest words first)) (h .nodes)
+
+module _ {A : Type 0} (refuse : Refusal → A) (words names : List ℕ) where
+  pub answer-refused : (tell : Trees → A) {r : Refusal} → held words names ≡ refused r → refuse r ≡ ofSheet refuse tell words names
+  unfolding ofSheet
+  answer-refused tell h = sym (rw h)
+
+  pub answer-held : (tell : Trees → A) {t : Trees} → held words names ≡ holding t → tell t ≡ ofSheet refuse tell words names
+  unfolding ofSheet
+  answer-held tell h = sym (rw h)
+
+module _ {A : Type 0} (refuse : Refusal → A) (tell : Trees → Trees → A) (aw an bw bn : List ℕ) where
+  pub answer-refused-both : {r : Refusal} → heldBoth aw an bw bn ≡ refusedBoth r → refuse r ≡ ofSheets refuse tell aw an bw bn
+  unfolding ofSheets
+  answer-refused-both h = sym (rw h)
+
+  pub answer-held-both : {t u : Trees} → held aw an ≡ holding t → held bw bn ≡ holding u → tell t u ≡ ofSheets refuse tell aw an bw bn
+  unfolding ofSheets heldBoth
+  answer-held-both h k = sym (rw (h, k))
