@@ -1,30 +1,23 @@
+use Rattle.static_str.proofs.AnswerLaws.{text-short, text-whole}
+use Rattle.kinds.specs.Primitive.{code}
 use borrow.Author.Needs.{needs}
 use Rattle.static_str.proofs.print_code.Statement.{statement}
 use Rattle.static_str.proofs.print_code.Tie as tie
-use Rattle.static_str.proofs.print_code.Reads as reads
-use Rattle.static_str.proofs.print_code.Lts as lts
-use Rattle.static_str.proofs.code_len.Reads as code-len-reads
-use Rattle.static_str.proofs.put_code.Reads as put-code-reads
 
--- src/lib.rt:433:9
 code-len-requires : tie.Need-code-len-requires
 code-len-requires c κs = search needs
 
--- src/lib.rt:435:9
 returns : tie.Need-returns
-returns c = ?
+returns c = text-short (code (c .before .before .before .args .kind)) (c .before .before .before .args .out .now) (c .before .code-len .ensures .0) (c .if1 .taken)
 
--- src/lib.rt:437:5
 put-code-requires : tie.Need-put-code-requires
 put-code-requires c κs = search needs
 
--- src/lib.rt:428:1
 same-length : tie.Need-same-length
 same-length c = search needs
 
--- src/lib.rt:428:1
 returns-2 : tie.Need-returns-2
-returns-2 c = ?
+returns-2 c = text-whole (code (c .before .before .before .before .before .before .before .args .kind)) (c .before .before .before .before .before .before .before .args .out .now) (c .before .before .before .before .before .code-len .ensures .0) (c .before .before .before .before .if1 .left) (c .before .before .put-code .ensures)
 
 pub print-code-spec : {M : Type 1} → statement M
 print-code-spec =

@@ -1,75 +1,64 @@
+use native.Mathlib.Omega.{arith}
+use Rattle.kinds.proofs.ListLaws.{whole}
+use Rattle.static_str.proofs.AnswerLaws.{text-short, text-whole, tree-len}
+use Rattle.kinds.specs.Print.{print}
+use Rattle.kinds.specs.Sheet.{trees}
+use Rattle.kinds.specs.declared.NestingLevel.the-variants.{Top}
 use borrow.Author.Needs.{needs}
 use Rattle.static_str.proofs.print_tree.Statement.{statement}
 use Rattle.static_str.proofs.print_tree.Tie as tie
-use Rattle.static_str.proofs.print_tree.Reads as reads
-use Rattle.static_str.proofs.print_tree.Lts as lts
-use Rattle.kinds.proofs.NestingLevel.new.Reads as new-reads
-use Rattle.static_str.proofs.print_trees.Reads as print-trees-reads
-use Rattle.static_str.proofs.trees_len.Reads as trees-len-reads
 
--- src/lib.rt:448:25
 sub-trees-len : tie.Need-sub-trees-len
 sub-trees-len c = search needs
 
--- src/lib.rt:448:25
 part-trees-len-start : tie.Need-part-trees-len-start
 part-trees-len-start c = search needs
 
--- src/lib.rt:448:25
 part-trees-len-end : tie.Need-part-trees-len-end
 part-trees-len-end c = search needs
 
--- src/lib.rt:448:44
 new-requires : tie.Need-new-requires
 new-requires c κs = search needs
 
--- src/lib.rt:448:9
 trees-len-requires : tie.Need-trees-len-requires
-trees-len-requires c κs = ?
+trees-len-requires c κs = rw whole (c .before .before .before .before .before .pre .0, c .before .before .before .before .before .pre .1 .0)
 
--- src/lib.rt:450:9
 returns : tie.Need-returns
-returns c = ?
+returns c = text-short (print Top (trees (c .before .before .before .before .before .before .before .args .names .now) (c .before .before .before .before .before .before .before .args .nodes .now) (c .before .before .before .before .before .before .before .args .n) 0)) (c .before .before .before .before .before .before .before .args .out .now) (tree-len (c .before .before .before .before .before .before .before .args .names .now) (c .before .before .before .before .before .before .before .args .nodes .now) (c .before .before .before .before .before .before .before .args .n) (c .before .before .before .before .before .before .before .pre .1 .1) (c .before .before .new .ensures) (rw whole at (c .before .trees-len .ensures .0))) (c .if1 .taken)
 
--- src/lib.rt:452:17
 sub-print-trees : tie.Need-sub-print-trees
 sub-print-trees c = search needs
 
--- src/lib.rt:452:17
 part-print-trees-start : tie.Need-part-print-trees-start
 part-print-trees-start c = search needs
 
--- src/lib.rt:452:17
 part-print-trees-end : tie.Need-part-print-trees-end
 part-print-trees-end c = search needs
 
--- src/lib.rt:452:30
 sub-print-trees-2 : tie.Need-sub-print-trees-2
 sub-print-trees-2 c = search needs
 
--- src/lib.rt:452:30
 part-print-trees-start-2 : tie.Need-part-print-trees-start-2
 part-print-trees-start-2 c = search needs
 
--- src/lib.rt:452:30
 part-print-trees-end-2 : tie.Need-part-print-trees-end-2
 part-print-trees-end-2 c = search needs
 
--- src/lib.rt:452:49
 new-requires-2 : tie.Need-new-requires-2
 new-requires-2 c κs = search needs
 
--- src/lib.rt:452:5
 print-trees-requires : tie.Need-print-trees-requires
-print-trees-requires c κs = ?
+print-trees-requires c κs =
+    let e = tree-len (c .before .before .before .before .before .before .before .before .before .before .before .args .names .now) (c .before .before .before .before .before .before .before .before .before .before .before .args .nodes .now) (c .before .before .before .before .before .before .before .before .before .before .before .args .n) (c .before .before .before .before .before .before .before .before .before .before .before .pre .1 .1) (c .before .before .before .before .before .before .new .ensures) (rw whole at (c .before .before .before .before .before .trees-len .ensures .0)) in
+    rw (whole, whole, c .before .new2 .ensures) ((c .before .before .before .before .before .before .before .before .before .before .before .pre .0 .0, c .before .before .before .before .before .before .before .before .before .before .before .pre .1 .1), omega (arith, e, c .before .before .before .before .if1 .left))
 
--- src/lib.rt:442:1
 same-length : tie.Need-same-length
 same-length c = search needs
 
--- src/lib.rt:442:1
 returns-2 : tie.Need-returns-2
-returns-2 c = ?
+returns-2 c =
+    let e = tree-len (c .before .before .before .before .before .before .before .before .before .before .before .before .before .before .args .names .now) (c .before .before .before .before .before .before .before .before .before .before .before .before .before .before .args .nodes .now) (c .before .before .before .before .before .before .before .before .before .before .before .before .before .before .args .n) (c .before .before .before .before .before .before .before .before .before .before .before .before .before .before .pre .1 .1) (c .before .before .before .before .before .before .before .before .before .new .ensures) (rw whole at (c .before .before .before .before .before .before .before .before .trees-len .ensures .0)) in
+    text-whole (print Top (trees (c .before .before .before .before .before .before .before .before .before .before .before .before .before .before .args .names .now) (c .before .before .before .before .before .before .before .before .before .before .before .before .before .before .args .nodes .now) (c .before .before .before .before .before .before .before .before .before .before .before .before .before .before .args .n) 0)) (c .before .before .before .before .before .before .before .before .before .before .before .before .before .before .args .out .now) e (c .before .before .before .before .before .before .before .if1 .left) (rw (whole, whole, c .before .before .before .before .new2 .ensures) at (c .before .before .print-trees .ensures))
 
 pub print-tree-spec : {M : Type 1} → statement M
 print-tree-spec =

@@ -1,107 +1,85 @@
+use native.Mathlib.Omega.{arith}
+use Rattle.kinds.proofs.ListLaws.{whole}
+use Rattle.sheet.proofs.GivenLaws.{given-refused, given-code, given-nodes, nodes-part}
+use Rattle.static_str.proofs.AnswerLaws.{print-refused, print-code-held, print-held}
 use borrow.Author.Needs.{needs}
 use Rattle.static_str.proofs.static_encoding_str_array.Statement.{statement}
 use Rattle.static_str.proofs.static_encoding_str_array.Tie as tie
-use Rattle.static_str.proofs.static_encoding_str_array.Reads as reads
-use Rattle.static_str.proofs.static_encoding_str_array.Lts as lts
-use Rattle.sheet.proofs.check.Reads as check-reads
-use Rattle.static_str.proofs.print_code.Reads as print-code-reads
-use Rattle.static_str.proofs.print_tree.Reads as print-tree-reads
 
--- src/lib.rt:477:17
 sub-check : tie.Need-sub-check
 sub-check c = search needs
 
--- src/lib.rt:477:17
 part-check-start : tie.Need-part-check-start
 part-check-start c = search needs
 
--- src/lib.rt:477:17
 part-check-end : tie.Need-part-check-end
 part-check-end c = search needs
 
--- src/lib.rt:477:30
 sub-check-2 : tie.Need-sub-check-2
 sub-check-2 c = search needs
 
--- src/lib.rt:477:30
 part-check-start-2 : tie.Need-part-check-start-2
 part-check-start-2 c = search needs
 
--- src/lib.rt:477:30
 part-check-end-2 : tie.Need-part-check-end-2
 part-check-end-2 c = search needs
 
--- src/lib.rt:477:11
 check-requires : tie.Need-check-requires
 check-requires c κs = search needs
 
--- src/lib.rt:478:26
 enum-known-why : tie.Need-enum-known-why
 enum-known-why c = search needs
 
--- src/lib.rt:479:23
 enum-known-kind : tie.Need-enum-known-kind
 enum-known-kind c = search needs
 
--- src/lib.rt:479:32
 print-code-requires : tie.Need-print-code-requires
-print-code-requires c κs = ?
+print-code-requires c κs = (given-code _ _ (rw (whole, whole) at (c .before .before .before .before .check .ensures .1)) (c .before .before .kind .given .1)) .code
 
--- src/lib.rt:480:24
 enum-known-first : tie.Need-enum-known-first
 enum-known-first c = search needs
 
--- src/lib.rt:480:48
 mul-print-tree : tie.Need-mul-print-tree
-mul-print-tree c = ?
+mul-print-tree c = let h = (given-nodes _ _ (rw (whole, whole) at (c .before .before .before .check .ensures .1)) (c .before .first .given .1)) in omega (arith, h .starts)
 
--- src/lib.rt:480:48
 sub-print-tree : tie.Need-sub-print-tree
-sub-print-tree c = ?
+sub-print-tree c = let h = (given-nodes _ _ (rw (whole, whole) at (c .before .before .before .check .ensures .1)) (c .before .first .given .1)) in omega (arith, h .starts)
 
--- src/lib.rt:480:48
 part-print-tree-start : tie.Need-part-print-tree-start
-part-print-tree-start c = ?
+part-print-tree-start c = let h = (given-nodes _ _ (rw (whole, whole) at (c .before .before .before .check .ensures .1)) (c .before .first .given .1)) in omega (arith, h .starts)
 
--- src/lib.rt:480:48
 part-print-tree-end : tie.Need-part-print-tree-end
 part-print-tree-end c = search needs
 
--- src/lib.rt:480:65
 sub-print-tree-2 : tie.Need-sub-print-tree-2
 sub-print-tree-2 c = search needs
 
--- src/lib.rt:480:65
 part-print-tree-start-2 : tie.Need-part-print-tree-start-2
 part-print-tree-start-2 c = search needs
 
--- src/lib.rt:480:65
 part-print-tree-end-2 : tie.Need-part-print-tree-end-2
 part-print-tree-end-2 c = search needs
 
--- src/lib.rt:480:37
 print-tree-requires : tie.Need-print-tree-requires
-print-tree-requires c κs = ?
+print-tree-requires c κs = let h = (nodes-part (given-nodes _ _ (rw (whole, whole) at (c .before .before .before .before .before .before .check .ensures .1)) (c .before .before .before .before .first .given .1))) in rw whole ((h .whole, h .few), (h .short-names, h .lent-names))
 
--- src/lib.rt:473:1
 returns : tie.Need-returns
-returns c = ?
+returns c = print-refused (c .before .before .before .before .before .before .before .before .before .args .words .now) (c .before .before .before .before .before .before .before .before .before .args .names .now) (c .before .before .before .before .before .before .before .before .before .args .out .now) (given-refused _ _ (rw (whole, whole) at (c .before .before .before .check .ensures .1)) (c .before .why .given .1))
 
--- src/lib.rt:473:1
 same-length : tie.Need-same-length
 same-length c = search needs
 
--- src/lib.rt:473:1
 returns-2 : tie.Need-returns-2
-returns-2 c = ?
+returns-2 c = print-code-held (c .before .before .before .before .before .before .before .before .before .before .before .before .before .args .words .now) (c .before .before .before .before .before .before .before .before .before .before .before .before .before .args .names .now) (c .before .before .before .before .before .before .before .before .before .before .before .before .before .args .out .now) (given-code _ _ (rw (whole, whole) at (c .before .before .before .before .before .before .before .check .ensures .1)) (c .before .before .before .before .before .kind .given .1)) (c .before .before .print-code .ensures .0) (c .before .before .print-code .ensures .1)
 
--- src/lib.rt:473:1
 same-length-2 : tie.Need-same-length-2
 same-length-2 c = search needs
 
--- src/lib.rt:473:1
 returns-3 : tie.Need-returns-3
-returns-3 c = ?
+returns-3 c =
+    let h = (nodes-part (given-nodes _ _ (rw (whole, whole) at (c .before .before .before .before .before .before .before .before .before .check .ensures .1)) (c .before .before .before .before .before .before .before .first .given .1))) in
+    let p = rw whole at (c .before .before .print-tree .ensures) in
+    print-held (c .before .before .before .before .before .before .before .before .before .before .before .before .before .before .before .args .words .now) (c .before .before .before .before .before .before .before .before .before .before .before .before .before .before .before .args .names .now) (c .before .before .before .before .before .before .before .before .before .before .before .before .before .before .before .args .out .now) (h .holds) (p .0) (p .1)
 
 pub static-encoding-str-array-spec : {M : Type 1} → statement M
 static-encoding-str-array-spec =

@@ -1,92 +1,70 @@
+use native.Mathlib.Omega.{arith}
+use Rattle.kinds.proofs.ListLaws.{whole}
+use Rattle.sheet.proofs.GivenLaws.{given-refused, given-code, given-nodes, nodes-part}
+use Rattle.static_str.proofs.AnswerLaws.{len-refused, len-code, len-nodes}
 use borrow.Author.Needs.{needs}
 use Rattle.static_str.proofs.static_encoding_str_len.Statement.{statement}
 use Rattle.static_str.proofs.static_encoding_str_len.Tie as tie
-use Rattle.static_str.proofs.static_encoding_str_len.Reads as reads
-use Rattle.static_str.proofs.static_encoding_str_len.Lts as lts
-use Rattle.kinds.proofs.NestingLevel.new.Reads as new-reads
-use Rattle.sheet.proofs.check.Reads as check-reads
-use Rattle.static_str.proofs.code_len.Reads as code-len-reads
-use Rattle.static_str.proofs.trees_len.Reads as trees-len-reads
 
--- src/lib.rt:460:17
 sub-check : tie.Need-sub-check
 sub-check c = search needs
 
--- src/lib.rt:460:17
 part-check-start : tie.Need-part-check-start
 part-check-start c = search needs
 
--- src/lib.rt:460:17
 part-check-end : tie.Need-part-check-end
 part-check-end c = search needs
 
--- src/lib.rt:460:30
 sub-check-2 : tie.Need-sub-check-2
 sub-check-2 c = search needs
 
--- src/lib.rt:460:30
 part-check-start-2 : tie.Need-part-check-start-2
 part-check-start-2 c = search needs
 
--- src/lib.rt:460:30
 part-check-end-2 : tie.Need-part-check-end-2
 part-check-end-2 c = search needs
 
--- src/lib.rt:460:11
 check-requires : tie.Need-check-requires
 check-requires c κs = search needs
 
--- src/lib.rt:461:26
 enum-known-why : tie.Need-enum-known-why
 enum-known-why c = search needs
 
--- src/lib.rt:462:23
 enum-known-kind : tie.Need-enum-known-kind
 enum-known-kind c = search needs
 
--- src/lib.rt:462:47
 code-len-requires : tie.Need-code-len-requires
-code-len-requires c κs = ?
+code-len-requires c κs = (given-code _ _ (rw (whole, whole) at (c .before .before .before .check .ensures .1)) (c .before .kind .given .1)) .code
 
--- src/lib.rt:463:24
 enum-known-first : tie.Need-enum-known-first
 enum-known-first c = search needs
 
--- src/lib.rt:464:13
 mul-trees-len : tie.Need-mul-trees-len
-mul-trees-len c = ?
+mul-trees-len c = let h = (given-nodes _ _ (rw (whole, whole) at (c .before .before .before .check .ensures .1)) (c .before .first .given .1)) in omega (arith, h .starts)
 
--- src/lib.rt:464:13
 sub-trees-len : tie.Need-sub-trees-len
-sub-trees-len c = ?
+sub-trees-len c = let h = (given-nodes _ _ (rw (whole, whole) at (c .before .before .before .check .ensures .1)) (c .before .first .given .1)) in omega (arith, h .starts)
 
--- src/lib.rt:464:13
 part-trees-len-start : tie.Need-part-trees-len-start
-part-trees-len-start c = ?
+part-trees-len-start c = let h = (given-nodes _ _ (rw (whole, whole) at (c .before .before .before .check .ensures .1)) (c .before .first .given .1)) in omega (arith, h .starts)
 
--- src/lib.rt:464:13
 part-trees-len-end : tie.Need-part-trees-len-end
 part-trees-len-end c = search needs
 
--- src/lib.rt:467:13
 new-requires : tie.Need-new-requires
 new-requires c κs = search needs
 
--- src/lib.rt:463:52
 trees-len-requires : tie.Need-trees-len-requires
-trees-len-requires c κs = ?
+trees-len-requires c κs = let h = (nodes-part (given-nodes _ _ (rw (whole, whole) at (c .before .before .before .before .before .check .ensures .1)) (c .before .before .before .first .given .1))) in ((h .whole, h .few), h .short-names)
 
--- src/lib.rt:457:1
 returns : tie.Need-returns
-returns c = ?
+returns c = len-refused (c .before .before .before .before .before .before .before .before .args .words .now) (c .before .before .before .before .before .before .before .before .args .names .now) (given-refused _ _ (rw (whole, whole) at (c .before .before .before .check .ensures .1)) (c .before .why .given .1))
 
--- src/lib.rt:457:1
 returns-2 : tie.Need-returns-2
-returns-2 c = ?
+returns-2 c = len-code (c .before .before .before .before .before .before .before .before .before .args .words .now) (c .before .before .before .before .before .before .before .before .before .args .names .now) (given-code _ _ (rw (whole, whole) at (c .before .before .before .before .check .ensures .1)) (c .before .before .kind .given .1)) (c .code-len .ensures .0)
 
--- src/lib.rt:457:1
 returns-3 : tie.Need-returns-3
-returns-3 c = ?
+returns-3 c = len-nodes (c .before .before .before .before .before .before .before .before .before .before .before .args .words .now) (c .before .before .before .before .before .before .before .before .before .before .before .args .names .now) _ _ (nodes-part (given-nodes _ _ (rw (whole, whole) at (c .before .before .before .before .before .before .check .ensures .1)) (c .before .before .before .before .first .given .1))) (c .before .new .ensures) (c .trees-len .ensures .0)
 
 pub static-encoding-str-len-spec : {M : Type 1} → statement M
 static-encoding-str-len-spec =
