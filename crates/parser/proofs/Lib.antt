@@ -2,3 +2,4 @@
 pub mod TextLaws
 pub mod PlaceLaws
 pub mod TakenApart
+pub mod RestLaws
