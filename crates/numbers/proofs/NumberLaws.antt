@@ -17,21 +17,9 @@ use Rattle.kinds.specs.declared.ErrorKind.the-variants.{UnexpectedEnd, Expected
 use Rattle.parser.specs.Place.{placeOf}
 use Rattle.parser.proofs.RestLaws.{RestOf, rest-all, rest-later, Unread, unread-at, place-of-drop}
 use Rattle.numbers.specs.Answer.{numberAt}
-use Rattle.numbers.specs.Digits.{afterDigits}
+use Rattle.parser.specs.Run.{after}
 use Rattle.numbers.specs.declared.Number.{Number}
 use Rattle.numbers.specs.declared.Number.the-variants.{Value, Refused}
-
-pub after-more : (b : ℕ) (s : List ℕ) → isDigit b ≡ true → afterDigits (b ∷ s) ≡ afterDigits s
-unfolding afterDigits
-after-more b s e = rw (e, afterDigits)
-
-pub after-stop : (b : ℕ) (s : List ℕ) → isDigit b ≡ false → afterDigits (b ∷ s) ≡ b ∷ s
-unfolding afterDigits
-after-stop b s e = rw (e, afterDigits)
-
-pub after-end : afterDigits [] ≡ []
-unfolding afterDigits
-after-end = refl
 
 pub digits-more : (n b : ℕ) (s : List ℕ) → isDigit b ≡ true → moreDigits n (b ∷ s) ≡ moreDigits (n * 10 + (b - 48)) s
 unfolding moreDigits
@@ -50,13 +38,13 @@ unfolding bounded
 fits-limit limit n s h = rw (le-leb n limit h, bounded)
 
 -- Past the limit the digits are passed, and the number is too large.
-pub too-large : (limit : ℕ) (s : List ℕ) (n : ℕ) → limit < n → bounded limit (moreDigits n s) ≡ noNumber IntegerTooLarge (afterDigits s)
-unfolding bounded moreDigits afterDigits
+pub too-large : (limit : ℕ) (s : List ℕ) (n : ℕ) → limit < n → bounded limit (moreDigits n s) ≡ noNumber IntegerTooLarge (after isDigit s)
+unfolding bounded moreDigits after
 too-large limit [] n h = rw (lt-leb n limit h, bounded)
 too-large limit (b ∷ s) n h = go (too-large limit s (n * 10 + (b - 48)) (omega arith)) (isDigit b)
   where
-    go : bounded limit (moreDigits (n * 10 + (b - 48)) s) ≡ noNumber IntegerTooLarge (afterDigits s)
-        → (d : Bool) → bounded limit (elim d [ true ↦ moreDigits (n * 10 + (b - 48)) s | false ↦ value n (b ∷ s) ]) ≡ noNumber IntegerTooLarge (elim d [ true ↦ afterDigits s | false ↦ b ∷ s ])
+    go : bounded limit (moreDigits (n * 10 + (b - 48)) s) ≡ noNumber IntegerTooLarge (after isDigit s)
+        → (d : Bool) → bounded limit (elim d [ true ↦ moreDigits (n * 10 + (b - 48)) s | false ↦ value n (b ∷ s) ]) ≡ noNumber IntegerTooLarge (elim d [ true ↦ after isDigit s | false ↦ b ∷ s ])
     go more true = more
     go more false = rw (lt-leb n limit h, bounded)
 
@@ -73,15 +61,6 @@ unfolding parseNumber
 number-end limit = refl
 
 -- The same at a place.
-pub after-more-at : (s : List ℕ) (i : ℕ) → i < length s → isDigit (getD s i 0) ≡ true → afterDigits (drop i s) ≡ afterDigits (drop (i + 1) s)
-after-more-at s i h e = ap afterDigits (unread s i h) ∙ after-more _ _ e
-
-pub after-stop-at : (s : List ℕ) (i : ℕ) → i < length s → isDigit (getD s i 0) ≡ false → afterDigits (drop i s) ≡ drop i s
-after-stop-at s i h e = ap afterDigits (unread s i h) ∙ after-stop _ _ e ∙ sym (unread s i h)
-
-pub after-end-at : (s : List ℕ) (i : ℕ) → length s ≤ i → afterDigits (drop i s) ≡ drop i s
-after-end-at s i h = ap afterDigits (unread-end s i h) ∙ after-end ∙ sym (unread-end s i h)
-
 pub digits-more-at : (n : ℕ) (s : List ℕ) (i : ℕ) → i < length s → isDigit (getD s i 0) ≡ true → moreDigits n (drop i s) ≡ moreDigits (n * 10 + (getD s i 0 - 48)) (drop (i + 1) s)
 digits-more-at n s i h e = ap (moreDigits n) (unread s i h) ∙ digits-more n _ _ e
 
@@ -122,7 +101,7 @@ answer-ended text limit at l =
     answer-refused _ _ _ _ (omega arith) (number-end-at limit text at l ∙ ap (noNumber UnexpectedEnd) (sym none))
 
 -- What is left after a number is the end of the text before it.
-abbrev LeftOf : List ℕ → R.Number → Type 0
+abbrev pub LeftOf : List ℕ → R.Number → Type 0
 LeftOf s (value n t) = RestOf s t
 LeftOf s (noNumber e t) = RestOf s t
 
@@ -148,7 +127,7 @@ left-bounded limit s (value n t) r = go (leb n limit)
     go false = r
 left-bounded limit s (noNumber e t) r = r
 
-left-number : (limit : ℕ) (s : List ℕ) → LeftOf s (parseNumber limit s)
+pub left-number : (limit : ℕ) (s : List ℕ) → LeftOf s (parseNumber limit s)
 unfolding parseNumber
 left-number limit [] = rest-all
 left-number limit (b ∷ s) = go (isDigit b) (left-bounded limit (b ∷ s) (moreDigits 0 (b ∷ s)) (left-digits 0 (b ∷ s)))

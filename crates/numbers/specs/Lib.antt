@@ -1,3 +1,2 @@
--- The definitions, in the order in which they are read; `Digits` serves a private contract alone.
+-- The definitions.
 pub mod Answer
-pub mod Digits

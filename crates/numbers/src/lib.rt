@@ -1,11 +1,11 @@
 // Numbers in text (parse.rs, `parse_u64`, `parse_u8`, `chomp_digits`): read at a place of the text; a place past the end is taken as the end.
 ghost use mathlib.Core.Path.{_≡_};
 ghost use Prim.Native.Nat.{_≤_};
-ghost use lib.ListN.{length, drop};
+ghost use lib.ListN.{drop};
 ghost use Rattle.kinds.specs.Byte.{isDigit};
 ghost use Rattle.kinds.specs.Parse.{maxU64, maxU8, parseNumber};
+ghost use Rattle.parser.specs.Run.{runEnd};
 ghost use Rattle.numbers.specs.Answer.{numberAt};
-ghost use Rattle.numbers.specs.Digits.{AfterDigits};
 use kinds::ErrorKind;
 
 // A number and the place after it, or why there is none and where.
@@ -28,8 +28,7 @@ pub fn is_digit(b: u8) -> bool
 
 // The place after the digits from `at` on.
 fn chomp_digits(text: &[u8], at: usize) -> usize
-    requires { ⌜ at ≤ length (now text) ⌝ }
-    ensures { λ r. ⌜ AfterDigits (now (text .entry)) at r ⌝ }
+    ensures { λ r. ⌜ r ≡ runEnd isDigit (now (text .entry)) at ⌝ }
 {
     let mut i = at;
     while i < text.len() {

@@ -3,3 +3,4 @@ pub mod TextLaws
 pub mod PlaceLaws
 pub mod TakenApart
 pub mod RestLaws
+pub mod RunLaws

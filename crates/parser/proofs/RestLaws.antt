@@ -19,6 +19,9 @@ rest-all = record { taken = 0; within = omega arith; is = refl }
 pub rest-later : {b : ℕ} {s t : List ℕ} → RestOf s t → RestOf (b ∷ s) t
 rest-later r = record { taken = suc (r .taken); within = omega (arith, r .within); is = r .is }
 
+pub rest-shorter : {s t : List ℕ} → RestOf s t → length t ≤ length s
+rest-shorter {s} {t} r = let e : length t ≡ length s - r .taken = ap length (r .is) ∙ length-drop (r .taken) s in omega arith
+
 pub rest-of-rest : {s t u : List ℕ} → RestOf s t → RestOf t u → RestOf s u
 rest-of-rest {s} {t} {u} r q =
     let e : length t ≡ length s - r .taken = ap length (r .is) ∙ length-drop (r .taken) s in

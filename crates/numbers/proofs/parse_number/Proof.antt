@@ -6,6 +6,8 @@ use borrow.Author.Needs.{needs}
 use borrow.Author.Tests.{not-true, not-false}
 use Rattle.kinds.specs.Parse.{bounded, moreDigits, parseNumber, noNumber}
 use Rattle.kinds.specs.declared.ErrorKind.the-variants.{IntegerTooLarge}
+use Rattle.kinds.specs.Byte.{isDigit}
+use Rattle.parser.proofs.RunLaws.{run-to}
 use Rattle.numbers.proofs.NumberLaws.{digit-range, digits-more-at, digits-stop-at, digits-end-at, number-starts-at, number-none-at, number-end-at, fits-limit, too-large, answer-value, answer-refused, answer-ended}
 use Rattle.numbers.proofs.parse_number.Statement.{statement}
 use Rattle.numbers.proofs.parse_number.Tie as tie
@@ -70,8 +72,8 @@ returns-4 c =
     let digit = sym (c .before .before .before .before .is-digit2 .ensures) ∙ not-false _ (c .before .before .before .if3 .left) in
     let range = digit-range _ digit in
     let more = digits-more-at _ _ _ (c .before .before .before .before .before .before .loop-test .taken) digit in
-    answer-refused _ _ _ _ (c .chomp-digits .ensures .within)
-    (l .inv .0 ∙ ap (bounded _) more ∙ too-large _ _ _ (omega arith) ∙ sym (ap (noNumber IntegerTooLarge) (c .chomp-digits .ensures .is)))
+    let end = run-to isDigit _ _ _ (omega arith) (c .chomp-digits .ensures) in
+    answer-refused _ _ _ _ (end .within) (l .inv .0 ∙ ap (bounded _) more ∙ too-large _ _ _ (omega arith) ∙ ap (noNumber IntegerTooLarge) (end .left))
 
 mul-acc : tie.Need-mul-acc Inv-loop μ-loop
 mul-acc c = search needs
