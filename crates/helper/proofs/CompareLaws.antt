@@ -19,7 +19,8 @@ use Rattle.kinds.specs.Walk.{NodeAt, TreesAt, KindsAndNames}
 use Rattle.kinds.specs.declared.Fields.the-variants.{Included, Dropped}
 use Rattle.kinds.specs.declared.NestingLevel.{NestingLevel}
 use Rattle.kinds.specs.declared.NestingLevel.the-variants.{Top, Within, Bottom}
-use Rattle.kinds.proofs.SheetLaws.{both-left, arity-low, arity-high, nests-step, nests-none, trees-step}
+use Rattle.kinds.proofs.KindLaws.{inside-kind}
+use Rattle.kinds.proofs.SheetLaws.{both-left, arity-low, arity-high, nests-none, trees-step}
 use Rattle.kinds.proofs.NodeLaws.{node-arity, node-child, node-inner, child-count, first-some, first-within, first-node, other-trees, label-primitive, label-struct, label-union, by-kind, kind-label, container-label, no-trees, some-trees, walk-here, walk-inner, walk-rest, held-trees}
 use Rattle.helper.specs.Measure.{compareFields, shownCount, levelAfter}
 use Rattle.helper.proofs.NodeSizeLaws.{included, dropped}
@@ -195,12 +196,6 @@ resume-level all v end (node m ds us) = refl
 resume-level all v (node l cs ts) end = refl
 resume-level all v (node l cs ts) (node m ds us) = refl
 
-inside-label : (s t : List ℕ) (k a b c d : ℕ) (v : NestingLevel) → 25 ≤ k → k ≤ 28 → inside (label s k a b) v ≡ inside (label t k c d) v
-unfolding label
-inside-label s t k a b c d v lo hi =
-    by-kind (λ (j : ℕ). j ≤ 28 → inside (label s j a b) v ≡ inside (label t j c d) v)
-    (λ q. refl) (λ q. refl) (λ q. refl) (λ q. refl) (λ q. refl) (λ q. absurd (omega arith)) (λ q. absurd (omega arith)) (λ q. absurd (omega arith)) k (omega arith) (omega arith) hi
-
 shown-fields : (all : Bool) (u : NestingLevel) (s w : List ℕ) (n at : ℕ) (t : Trees) → cond (showsFields u) ((isEnd (trees s w n at) || isEnd t) || compareEncodings all Within (trees s w n at) t) true ≡ compareFields all Within (trees s w (shownCount u n) at) t
 unfolding compareFields shownCount trees read isEnd
 shown-fields all Top s w n at t = refl
@@ -334,7 +329,7 @@ module _ (all : Bool) (here v : NestingLevel) (s w s' w' : List ℕ) (n m at bt 
         resume-plain = go (leb 25 (kindAt w at)) refl (leb (kindAt w at) 28) refl
           where
             go : (t : Bool) → leb 25 (kindAt w at) ≡ t → (u : Bool) → leb (kindAt w at) 28 ≡ u → resume all here v (trees s w n at) (trees s' w' m bt) ≡ resume all (levelAfter all (kindAt w at) v here) v (trees s w (n - 1) (at + 4)) (trees s' w' (m - 1) (bt + 4))
-            go true i true j = holder (leb-true 25 (kindAt w at) i) (leb-true (kindAt w at) 28 j) ∙ rw (i, j, inside-label s [] (kindAt w at) (firstAt w at) (secondAt w at) 0 0 (levelFor all here) (leb-true 25 (kindAt w at) i) (leb-true (kindAt w at) 28 j))
+            go true i true j = holder (leb-true 25 (kindAt w at) i) (leb-true (kindAt w at) 28 j) ∙ rw (i, j, inside-kind s (kindAt w at) (firstAt w at) (secondAt w at) (levelFor all here))
             go true i false j = leaf (leaf-count w at n g p c .1 (leb-false (kindAt w at) 28 j)) (leaf-high (leb-false (kindAt w at) 28 j)) ∙ rw (i, j) (sym (resume-level all v (trees s w (n - 1) (at + 4)) (trees s' w' (m - 1) (bt + 4))))
             go false i u j = leaf (leaf-count w at n g p c .0 (leb-false 25 (kindAt w at) i)) (leaf-low (leb-false 25 (kindAt w at) i)) ∙ rw i (sym (resume-level all v (trees s w (n - 1) (at + 4)) (trees s' w' (m - 1) (bt + 4))))
 

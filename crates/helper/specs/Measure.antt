@@ -1,14 +1,15 @@
 -- What the functions below the entry points answer: sizes cut off at 2^64 - 1, and the comparison of fields.
 use Prim.Native.Nat.{ℕ, _+_, _-_, _*_, max}
 use mathlib.Core.Bool.{Bool, cond, _||_}
-use mathlib.Core.List.{List, []}
+use mathlib.Core.List.{List}
 use mathlib.Core.Option.{Option, some, none}
 use lib.Dec.{leb, eqb}
 use Rattle.kinds.specs.Compare.{compareEncodings, levelFor}
+use Rattle.kinds.specs.Kind.{insideKind}
 use Rattle.kinds.specs.Level.{showsFields}
 use Rattle.kinds.specs.Parse.{maxU64}
 use Rattle.kinds.specs.Primitive.{primitiveSize}
-use Rattle.kinds.specs.Sheet.{countAt, labelAt, trees, hasOneChild, label}
+use Rattle.kinds.specs.Sheet.{countAt, labelAt, trees, hasOneChild}
 use Rattle.kinds.specs.Size.{nodeSize, sizes, plus, larger, times, bitBytes, sum, largest}
 use Rattle.kinds.specs.Tree.{Trees, isEnd, inside}
 use Rattle.kinds.specs.declared.NestingLevel.{NestingLevel}
@@ -91,7 +92,7 @@ shownCount v n = cond (showsFields v) n 0
 
 -- The level after a node that is no container of kind `k`: what it holds comes next, or the next tree at the level `v`.
 unfoldable pub levelAfter : Bool → ℕ → NestingLevel → NestingLevel → NestingLevel
-levelAfter all k v here = cond (hasOneChild k) (inside (label [] k 0 0) (levelFor all here)) v
+levelAfter all k v here = cond (hasOneChild k) (insideKind k (levelFor all here)) v
 
 -- ---- Two sheets.
 

@@ -4,20 +4,18 @@ use native.Mathlib.Omega.{arith}
 use native.Mathlib.Numerals.{add-one}
 use mathlib.Core.Path.{_≡_, refl, ap, ap₂, sym, _∙_, subst}
 use mathlib.Core.List.{List, [], _∷_, _++_, append-assoc}
-use mathlib.Core.Option.{Option, some, none}
-use mathlib.Core.Bool.{Bool, true, false, cond, _&&_, _||_, false≢true}
-use borrow.Author.Tests.{lt-ltb, le-leb, lt-leb, leb-true, leb-false, eq-eqb, ne-eqb, eqb-true, eqb-false}
-use lib.ListN.{length, getD, take, drop, length-append, length-drop, length-take, take-append-drop}
+use mathlib.Core.Bool.{Bool, true, false, _&&_, false≢true}
+use borrow.Author.Tests.{lt-ltb, leb-true, leb-false, ne-eqb, eqb-true}
+use lib.ListN.{length, getD, take, drop, length-append, length-drop, take-append-drop}
 use lib.Seq.{drop-drop, drop-append-seam, drop-cons, length-take-le}
 use lib.Dec.{leb, eqb}
-use Rattle.kinds.specs.Tree as T
-use Rattle.kinds.specs.Tree.{Label, Trees, end, node, primitive, bitField, typedBitField, pointer, atomic, array, struct, union, isEnd, isOne, count, kind, name}
+use Rattle.kinds.specs.Tree.{Label, Trees, end, node, isEnd, isOne, count, kind, name}
 use Rattle.kinds.specs.Parse.{maxU64}
 use Rattle.kinds.specs.Sound.{validLabel, validCount, valid}
-use Rattle.kinds.specs.Sheet.{first, second, namesOf, nodes, headerOf, sheetOf, Holds, nodeWords, treeOf, kindAt, firstAt, secondAt, countAt, labelAt, label, isContainerKind, trees, arity, nests, numbers, nextName, packed, header, isSheet, decode}
+use Rattle.kinds.specs.Sheet.{first, second, namesOf, nodes, headerOf, sheetOf, Holds, nodeWords, treeOf, kindAt, firstAt, secondAt, countAt, labelAt, label, isContainerKind, trees, arity, nests, numbers, nextName, packed, isSheet}
 use Rattle.kinds.specs.Walk.{NodeAt, TreesAt}
-use Rattle.kinds.proofs.SheetLaws.{Header, both-left, both-right, trees-step, arity-one, arity-low, arity-high, packed-first, packed-rest, container-first, container-fits, nextName-le, packed-none}
-use Rattle.kinds.proofs.NodeLaws.{first-some, first-within, first-node, node-arity, node-inner, node-child, child-count, other-trees, label-primitive, SheetSays, sheet-says, by-kind, no-trees, leaf-end, numbers-kind}
+use Rattle.kinds.proofs.SheetLaws.{Header, both-left, both-right, trees-step, arity-low, arity-high, packed-first, packed-rest, packed-none}
+use Rattle.kinds.proofs.NodeLaws.{first-some, first-within, first-node, node-inner, node-child, child-count, other-trees, label-primitive, sheet-says, by-kind, no-trees, leaf-end, numbers-kind}
 use Rattle.kinds.proofs.LayoutLaws.{Stands, okNode, nodes-length, layout-sheet, layout-tree}
 
 -- what a node's words say of its label

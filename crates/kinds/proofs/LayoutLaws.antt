@@ -1,21 +1,21 @@
 -- The layout of a tree passes the test of a sheet and reads back as the tree.
-use Prim.Native.Nat.{ℕ, zero, suc, _+_, _-_, _*_, _≤_, _<_}
+use Prim.Native.Nat.{ℕ, suc, _+_, _-_, _*_, _≤_, _<_}
 use native.Mathlib.Omega.{arith}
 use mathlib.Core.Path.{_≡_, refl, ap, ap₂, sym, _∙_, subst}
 use mathlib.Core.List.{List, [], _∷_, _++_, append-assoc}
-use mathlib.Core.Bool.{Bool, true, false, cond, _&&_, _||_, false≢true}
+use mathlib.Core.Bool.{Bool, true, _&&_, false≢true}
 use borrow.Author.Tests.{le-leb, ltb-true, eq-eqb, ne-eqb}
 use lib.ListN.{length, getD, take, drop, length-append}
 use lib.Seq.{drop-drop, drop-append-seam, take-append-seam, getD-drop}
-use lib.Dec.{leb, ltb, eqb}
+use lib.Dec.{leb, ltb}
 use Rattle.kinds.specs.Tree as T
 use Rattle.kinds.specs.Tree.{Label, Trees, end, node, primitive, bitField, typedBitField, pointer, atomic, array, struct, union, isEnd, isOne, count, kind, name}
 use Rattle.kinds.specs.Parse.{maxU64}
 use Rattle.kinds.specs.Sound.{validLabel, validCount, valid}
-use Rattle.kinds.specs.Sheet.{first, second, namesOf, nodes, headerOf, sheetOf, nodeWords, treeOf, kindAt, firstAt, secondAt, countAt, labelAt, label, read, trees, arity, nests, numbers, nextName, packed, header, isSheet, decode}
-use Rattle.kinds.proofs.SheetLaws.{both-left, both-right, trees-step, nests-step, nests-none, arity-one, arity-low, packed-step, packed-on, packed-none}
+use Rattle.kinds.specs.Sheet.{first, second, namesOf, nodes, headerOf, sheetOf, nodeWords, treeOf, kindAt, firstAt, secondAt, countAt, labelAt, label, trees, arity, nests, numbers, nextName, packed, header, isSheet}
+use Rattle.kinds.proofs.SheetLaws.{both-left, both-right, trees-step, nests-step, nests-none, arity-one, arity-low, packed-on, packed-none}
 use Rattle.kinds.proofs.NodeLaws.{no-trees}
-use mathlib.Core.Option.{Option, some, none}
+use mathlib.Core.Option.{none}
 
 -- A label's numbers and children are those of a sheet.
 abbrev pub okNode : Label → Trees → Bool

@@ -1,13 +1,13 @@
 -- Laws of the codes and sizes of primitives.
 use Prim.Native.Nat.{ℕ, suc, zero, _≤_, _<_}
-use mathlib.Core.Path.{_≡_, refl, sym, ap}
+use mathlib.Core.Path.{_≡_, refl, ap}
 use mathlib.Core.Bool.{Bool, true, false}
 use mathlib.Core.List.{List, [], _∷_}
-use mathlib.Core.Option.{Option, some, none}
+use mathlib.Core.Option.{some, none}
 use native.Mathlib.Omega.{arith}
 use lib.Dec.{eqb}
 use borrow.Author.Tests.{eq-eqb, ne-eqb}
-use lib.ListN.{length, getD, List·getD-eq-default}
+use lib.ListN.{getD, List·getD-eq-default}
 use Rattle.kinds.specs.Byte.{byte, bytes, sameBytes}
 use Rattle.kinds.specs.Primitive.{codes, code, primitiveSizes, positive, primitiveSize}
 use Rattle.kinds.proofs.TableLaws.{everyBelow, passBelow, same-bytes}

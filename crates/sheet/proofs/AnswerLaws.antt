@@ -6,8 +6,8 @@ use mathlib.Core.List.{List}
 use mathlib.Core.Bool.{Bool, true, false, cond, _&&_, and-true, and-false, and-assoc}
 use borrow.Author.Tests.{eq-eqb, ne-eqb}
 use lib.Dec.{eqb}
-use lib.ListN.{length, getD, take, drop, length-drop}
-use lib.Seq.{take-all, getD-drop}
+use lib.ListN.{length, getD, length-drop}
+use lib.Seq.{getD-drop}
 use Rattle.kinds.specs.Sheet.{kindAt, firstAt, secondAt, countAt, labelAt, numbers, nextName, packed, nests, header, nodeWords, isSheet, trees, treeOf}
 use Rattle.kinds.specs.Sound.{goodName, goodNames}
 use Rattle.kinds.specs.Walk.{TreesAt}

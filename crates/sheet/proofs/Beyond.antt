@@ -8,7 +8,7 @@ use borrow.Author.Tests.{le-leb, leb-true, eqb-true}
 use lib.Dec.{leb, eqb}
 use lib.ListN.{length, getD, take, drop, length-append, length-drop, List·getD-append}
 use lib.Seq.{take-append-le, drop-append-le}
-use Rattle.kinds.specs.Tree.{node, struct, union}
+use Rattle.kinds.specs.Tree.{struct, union}
 use Rattle.kinds.specs.Sheet.{kindAt, firstAt, secondAt, countAt, label, isContainerKind, numbers, nextName, packed, below, arity, nest, nests, header, nodeWords, isSheet, read, trees, treeOf}
 use Rattle.kinds.specs.Sound.{goodNames}
 use Rattle.kinds.specs.Walk.{KindsAndNames}

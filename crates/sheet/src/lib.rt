@@ -8,8 +8,20 @@ ghost use Rattle.kinds.specs.Name.{verifyName};
 ghost use Rattle.kinds.specs.Sheet.{kindAt, countAt, isContainerKind, numbers, header};
 ghost use Rattle.sheet.specs.Check.{checked};
 ghost use Rattle.sheet.specs.Walked.{walked, fits, nodeFits, answer};
+use kinds::ARRAY;
+use kinds::ATOMIC;
+use kinds::BIT_FIELD;
+use kinds::MAX_NAMES;
+use kinds::MAX_NODES;
+use kinds::NONE;
+use kinds::POINTER;
+use kinds::PRIMITIVES;
+use kinds::TYPED_BIT_FIELD;
 use kinds::is_container;
 use kinds::verify_name;
+
+// The most bits of a bitfield.
+const MAX_BITS: u64 = 255;
 
 // Document 01's refusals 3 and 4, or neither.
 pub enum Checked {
@@ -40,19 +52,19 @@ fn numbers_ok(kind: u64, first: u64, second: u64) -> bool
     requires { ⌜ isContainerKind kind ≡ false ⌝ }
     ensures { λ r. ⌜ ((p e : ℕ) → r ≡ numbers kind first second p e) ⌝ }
 {
-    if kind == 25 {
-        return second <= 255;
+    if kind == TYPED_BIT_FIELD {
+        return second <= MAX_BITS;
     }
-    if kind == 28 {
+    if kind == ARRAY {
         return second == 0;
     }
     if first != 0 {
         return false;
     }
-    if kind == 24 {
-        return second <= 255;
+    if kind == BIT_FIELD {
+        return second <= MAX_BITS;
     }
-    if 31 < kind {
+    if NONE < kind {
         return false;
     }
     second == 0
@@ -80,10 +92,10 @@ fn arity_ok(nodes: &[u64], at: usize, kind: u64, count: u64, left: usize) -> boo
     requires { ⌜ (isContainerKind kind ≡ false) × (0 < left) × (at + 4 * left ≤ length (now nodes)) ⌝ }
     ensures { λ r. ⌜ r ≡ fits left kind count (countAt (now (nodes .entry)) (at + 4)) ⌝ }
 {
-    if kind < 25 {
+    if kind < TYPED_BIT_FIELD {
         return count == 1;
     }
-    if 28 < kind {
+    if ARRAY < kind {
         return count == 1;
     }
     child_ok(nodes, at, count, left)
@@ -102,10 +114,10 @@ fn no_numbers(first: u64, second: u64) -> bool
 fn is_indirection(kind: u64) -> bool
     ensures { λ r. ⌜ r ≡ (eqb kind 26 || eqb kind 27) ⌝ }
 {
-    if kind == 26 {
+    if kind == POINTER {
         return true;
     }
-    kind == 27
+    kind == ATOMIC
 }
 
 // Whether the node at `at`, no container, can stand first among the `left` nodes from there on. Codes and what points to others,
@@ -115,7 +127,7 @@ fn plain_ok(nodes: &[u64], at: usize, left: usize) -> bool
     ensures { λ r. ⌜ ((p e : ℕ) → r ≡ nodeFits (now (nodes .entry)) left at p e) ⌝ }
 {
     let kind = nodes[at];
-    if kind < 24 {
+    if kind < PRIMITIVES {
         if !no_numbers(nodes[at + 1], nodes[at + 2]) {
             return false;
         }
@@ -220,13 +232,13 @@ fn header_ok(words: &[u64], room: usize) -> bool
     if nodes < 1 {
         return false;
     }
-    if 2001 < nodes {
+    if MAX_NODES < nodes {
         return false;
     }
     if words[1] != 4 {
         return false;
     }
-    if 2000 < bytes {
+    if MAX_NAMES < bytes {
         return false;
     }
     if used != 4 + 4 * nodes {
@@ -279,7 +291,7 @@ pub fn check(words: &[u64], names: &[u8]) -> Checked
     }
     let end = words[2];
     if nodes == 1 {
-        if words[4] < 24 {
+        if words[4] < PRIMITIVES {
             return answer_of(end, lone_code(words[5], words[6]));
         }
     }

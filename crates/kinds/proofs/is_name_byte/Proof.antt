@@ -1,7 +1,5 @@
 use Rattle.kinds.proofs.is_name_byte.Statement.{statement}
 use Rattle.kinds.proofs.is_name_byte.Tie as tie
-use Rattle.kinds.proofs.is_name_byte.Reads as reads
-use Rattle.kinds.proofs.is_name_byte.Lts as lts
 use borrow.Author.Tests.{le-leb, lt-leb, ne-eqb}
 use native.Mathlib.Omega.{arith}
 use mathlib.Core.Bool.{or-false}

@@ -4,9 +4,6 @@ use Rattle.kinds.proofs.PrimitiveLaws.{size-beyond, size-none, size-som
 use borrow.Author.Needs.{needs}
 use Rattle.kinds.proofs.primitive_size.Statement.{statement}
 use Rattle.kinds.proofs.primitive_size.Tie as tie
-use Rattle.kinds.proofs.primitive_size.Reads as reads
-use Rattle.kinds.proofs.primitive_size.Lts as lts
-use Rattle.kinds.proofs.wide.Reads as wide-reads
 
 returns : tie.Need-returns
 returns c = sym (size-beyond _ (c .if1 .taken))
