@@ -1,6 +1,6 @@
 -- What stands at a place and has no parts: a primitive, a bitfield, a closer, or a refusal (parse.rs, the arms of `parse_inner` that call no reader).
 use Prim.Native.Nat.{ℕ, _+_}
-use mathlib.Core.Bool.{Bool, true, false, cond, _||_}
+use mathlib.Core.Bool.{Bool, true, false, cond, _&&_, _||_}
 use mathlib.Core.List.{List}
 use lib.Dec.{leb, ltb, eqb}
 use lib.ListN.{length, drop, getD}
@@ -32,6 +32,10 @@ isCode b = ltb (codeOf (start b)) 24
 -- A pointer or an atomic begins.
 abbrev pub isIndirection : ℕ → Bool
 isIndirection b = eqb b (byte "^") || eqb b (byte "A")
+
+-- The item of an array is closed: `]` stands at `to`.
+abbrev pub closed : List ℕ → ℕ → Bool
+closed text to = ltb to (length text) && eqb (getD text to 0) (byte "]")
 
 -- Something with parts begins: a pointer, an atomic, an array or a container.
 unfoldable pub hasParts : Start → Bool

@@ -5,10 +5,12 @@ ghost use Prim.Native.Nat.{_≤_};
 ghost use lib.ListN.{length, drop};
 ghost use lib.Dec.{leb, ltb, eqb};
 ghost use Rattle.kinds.specs.Parse.{maxU64, maxU8, parseNumber, parseComplex, parseQuoted, parseObject, parseBitField, parseBits, start};
+ghost use Rattle.kinds.specs.Container.{sameContainer};
 ghost use Rattle.parser.specs.Run.{runEnd};
-ghost use Rattle.codes.specs.Answer.{codeOf, isCode, isIndirection, tokenOf, tokenAt};
+ghost use Rattle.codes.specs.Answer.{codeOf, isCode, isIndirection, closed, tokenOf, tokenAt};
 use kinds::ContainerKind;
 use kinds::ErrorKind;
+use kinds::PRIMITIVES;
 use numbers::Number;
 use numbers::is_digit;
 use numbers::parse_u8;
@@ -163,7 +165,7 @@ pub fn token_at(text: &[u8], at: usize) -> Token
     let b = text[at];
     let next = at + 1;
     let p = single_kind(b);
-    if p < 24 {
+    if p < PRIMITIVES {
         return Token::Primitive(p, next);
     }
     match b {
@@ -205,7 +207,7 @@ pub fn indirections_end(text: &[u8], at: usize) -> usize
 fn is_code(b: u8) -> bool
     ensures { λ r. ⌜ r ≡ isCode b ⌝ }
 {
-    single_kind(b) < 24
+    single_kind(b) < PRIMITIVES
 }
 
 // The place after the codes from `at` on.
@@ -220,4 +222,26 @@ pub fn codes_end(text: &[u8], at: usize) -> usize
         i += 1;
     }
     i
+}
+
+// An array's item is closed at `to`.
+pub fn closes_item(text: &[u8], to: usize) -> bool
+    ensures { λ r. ⌜ r ≡ closed (now (text .entry)) to ⌝ }
+{
+    to < text.len() && text[to] == b']'
+}
+
+pub fn same_container(a: ContainerKind, b: ContainerKind) -> bool
+    ensures { λ r. ⌜ r ≡ sameContainer a b ⌝ }
+{
+    match a {
+        ContainerKind::Struct => match b {
+            ContainerKind::Struct => true,
+            ContainerKind::Union => false,
+        },
+        ContainerKind::Union => match b {
+            ContainerKind::Struct => false,
+            ContainerKind::Union => true,
+        },
+    }
 }
