@@ -2,14 +2,15 @@
 use Prim.Native.Nat.{ℕ, _≤_, _<_}
 use mathlib.Core.Path.{_≡_, refl, sym, ap, subst, _∙_}
 use mathlib.Core.List.{List, [], _∷_}
-use mathlib.Core.Bool.{Bool, true, false, _||_}
+use mathlib.Core.Bool.{Bool, true, false, _||_, false≢true}
 use native.Mathlib.Decide.{ℕ-discrete}
 use native.Mathlib.Omega.{arith}
 use lib.Dec.{ltb, eqb}
 use borrow.Author.Tests.{ne-eqb, ltb-true, eqb-true}
 use Rattle.kinds.specs.Byte.{among}
 use Rattle.kinds.specs.Parse.{Start, single, complex, object, bits, indirection, openArray, closeArray, openContainer, closeContainer, nothing, start, integral, singles, others, inSingles, inOthers}
-use Rattle.codes.specs.Answer.{codeOf, hasParts}
+use Rattle.kinds.specs.Tree.{Label, pointer, atomic}
+use Rattle.codes.specs.Answer.{codeOf, isIndirection, hasParts}
 
 -- ---- A byte that is none of some bytes.
 
@@ -260,3 +261,20 @@ without-parts b = by-bytes (λ x. WithoutParts x → hasParts (start x) ≡ fals
   ),
 )
     (λ d. other-parts b d)
+
+-- ---- Pointers and atomics.
+
+pub record IndirectionIs (b : ℕ) : Type 0 where
+  pub label : Label
+  pub begins : start b ≡ indirection label
+
+pub indirection-is : (b : ℕ) → isIndirection b ≡ true → IndirectionIs b
+unfolding start inSingles singles inOthers others
+indirection-is b e = go (eqb b 94) refl
+  where
+    go : (d : Bool) → eqb b 94 ≡ d → IndirectionIs b
+    go true x = rw (eqb-true b 94 x) (record { label = pointer; begins = refl })
+    go false x = rw (eqb-true b 65 (ap (λ (y : Bool). y || eqb b 65) (sym x) ∙ e)) (record { label = atomic; begins = refl })
+
+pub not-indirection : (b : ℕ) → isIndirection b ≡ false → (b ≡ 94 → ⊥) × (b ≡ 65 → ⊥)
+not-indirection b e = (λ x. false≢true (sym e ∙ ap isIndirection x), λ x. false≢true (sym e ∙ ap isIndirection x))
