@@ -9,7 +9,7 @@ use lib.Dec.{leb, ltb}
 use lib.ListN.{length, drop, replicate}
 use Rattle.kinds.specs.Parse.{Whole, tree, refusal, FromStart, treeThen, fromStr, fromStartOfStr}
 use Rattle.kinds.specs.Refusal as R
-use Rattle.kinds.specs.Sheet.{headerWords, sheetOf, namesOf}
+use Rattle.kinds.specs.Sheet.{headerWords, maxText, sheetOf, namesOf}
 use Rattle.kinds.specs.Tree.{Trees, end, node}
 use Rattle.kinds.specs.declared.ContainerKind.{ContainerKind}
 use Rattle.kinds.specs.declared.Refusal.{Refusal}
@@ -18,9 +18,6 @@ use Rattle.parse.specs.declared.Reading.{Reading}
 use Rattle.parse.specs.declared.Reading.the-variants.{Tree, Refused}
 
 -- ---- Refusals 1 and 2, before reading.
-
-abbrev pub maxText : ℕ
-maxText = 2000
 
 -- The words that reading a text of `l` bytes uses.
 abbrev pub used : ℕ → ℕ
