@@ -9,7 +9,7 @@ use Rattle.kinds.specs.Refusal.{number, values}
 use Rattle.kinds.specs.declared.ErrorKind.the-variants as E
 use Rattle.kinds.specs.declared.Refusal.{Refusal}
 use Rattle.kinds.specs.declared.Refusal.the-variants as R
-use Rattle.parse.specs.EncodingBox.{answerWords, EndOf}
+use Rattle.parse.specs.Answer.{answerWords, EndOf}
 use Rattle.parse.specs.declared.Reading.{Reading}
 use Rattle.parse.specs.declared.Reading.the-variants as G
 use Rattle.berzhotun.specs.Numbers.{readNumber, readValues}

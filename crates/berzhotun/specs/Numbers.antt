@@ -8,7 +8,7 @@ use Rattle.kinds.specs.declared.Compared.{Compared}
 use Rattle.kinds.specs.declared.Compared.the-variants as C
 use Rattle.helper.specs.declared.Sized.{Sized}
 use Rattle.helper.specs.declared.Sized.the-variants as S
-use Rattle.parse.specs.EncodingBox.{fromStartAnswer, fromStartRest}
+use Rattle.parse.specs.Answer.{fromStartAnswer, fromStartRest}
 use Rattle.parse.specs.declared.Reading.{Reading}
 use Rattle.parse.specs.declared.Reading.the-variants as G
 use Rattle.static_str.specs.declared.Printed.{Printed}
