@@ -5,7 +5,7 @@ use native.Mathlib.Numerals.{add-one}
 use mathlib.Core.Path.{_≡_, refl, ap, ap₂, sym, _∙_, subst}
 use mathlib.Core.List.{List, [], _∷_}
 use mathlib.Core.Bool.{Bool, true, false, cond, _&&_, _||_, false≢true, and-true, and-false}
-use borrow.Author.Tests.{leb-true, leb-false, eq-eqb, ne-eqb, eqb-true}
+use borrow.Author.Tests.{leb-true, leb-false, ne-eqb, eqb-true}
 use lib.ListN.{length, getD, take, drop, drop-of-length-le}
 use lib.Seq.{drop-cons}
 use lib.Dec.{leb, eqb}
@@ -19,12 +19,11 @@ use Rattle.kinds.specs.Walk.{NodeAt, TreesAt, KindsAndNames}
 use Rattle.kinds.specs.declared.Fields.the-variants.{Included, Dropped}
 use Rattle.kinds.specs.declared.NestingLevel.{NestingLevel}
 use Rattle.kinds.specs.declared.NestingLevel.the-variants.{Top, Within, Bottom}
-use Rattle.kinds.proofs.KindLaws.{inside-kind}
+use Rattle.kinds.proofs.KindLaws.{inside-kind, included, dropped}
 use Rattle.kinds.proofs.SheetLaws.{arity-low, arity-high, nests-none, trees-step}
 use Rattle.kinds.proofs.TableLaws.{both-left}
 use Rattle.kinds.proofs.NodeLaws.{node-arity, node-child, node-inner, child-count, first-some, first-within, first-node, other-trees, label-primitive, label-struct, label-union, by-kind, kind-label, container-label, no-trees, some-trees, walk-here, walk-inner, walk-rest, held-trees}
 use Rattle.helper.specs.Measure.{compareFields, shownCount, levelAfter}
-use Rattle.helper.proofs.NodeSizeLaws.{included, dropped}
 
 -- ---- Bytes.
 
@@ -488,27 +487,3 @@ module _ {all : Bool} {v : NestingLevel} {s w s' w' : List ℕ} {at n bt m : ℕ
           second-walk = walk-rest w' (length s') bt m (l .second-walk) 1 (omega arith);
           rest = sym (resume-plain all here v s w s' w' n m at bt (l .first) (l .second) p q ka kb e c) ∙ l .rest;
         })
-
--- two trees of which the first is a code
-pub code-alone : {all : Bool} {v : NestingLevel} {s w s' w' : List ℕ} {at n bt m : ℕ} {r : Bool} → Left all v s w s' w' at n bt m v r → 0 < n → countAt w at ≡ n → 0 < m → countAt w' bt ≡ m → kindAt w at < 24 → equivalent (kindAt w at) (kindAt w' bt) ≡ r
-code-alone {all} {v} {s} {w} {s'} {w'} {at} {n} {bt} {m} {r} l p x q y k = go (equivalent (kindAt w at) (kindAt w' bt)) refl
-  where
-    ka : kindAt w at ≤ 31
-    ka = omega arith
-
-    kb : kindAt w' bt ≤ 31
-    kb = walk-here w' (length s') bt m (l .second-walk) q .kind
-
-    plain : {j : ℕ} → j < 24 → isContainerKind j ≡ false
-    plain {j} h = rw (ne-eqb j 29 (λ e. omega arith), ne-eqb j 30 (λ e. omega arith))
-
-    one : n ≡ 1
-    one = sym x ∙ leaf-count w at n (l .first) p (plain k) .0 (omega arith)
-
-    go : (t : Bool) → equivalent (kindAt w at) (kindAt w' bt) ≡ t → t ≡ r
-    go false h = left-differ l p q (labels-differ s w at s' w' bt ka kb h)
-    go true h =
-        let j = low-partner (kindAt w at) (kindAt w' bt) h k in
-        let e = one in
-        let o : m ≡ 1 = sym y ∙ leaf-count w' bt m (l .second) q (plain j) .0 (omega arith) in
-        sym (eq-eqb (m - 1) 0 (omega arith)) ∙ left-end (left-next l p q (labels-primitive s w at s' w' bt h k) (plain k) refl refl refl) (omega arith)

@@ -13,7 +13,7 @@ ghost use Rattle.kinds.specs.Size.{bitBytes};
 ghost use Rattle.kinds.specs.Tree.{inside};
 ghost use Rattle.kinds.specs.Walk.{NodeAt, TreesAt, KindAndName, KindsAndNames};
 ghost use Rattle.helper.specs.Answer.{sizeAnswer, compareAnswer};
-ghost use Rattle.helper.specs.Measure.{clip, plusMeasured, largerMeasured, timesMeasured, joinMeasured, fold, holdingMeasured, isLeaf, leafSize, sizeAt, compareFields, shownCount, levelAfter, bothChecked};
+ghost use Rattle.helper.specs.Measure.{clip, plusMeasured, largerMeasured, timesMeasured, joinMeasured, fold, holdingMeasured, isLeaf, leafSize, sizeAt, compareFields, shownCount, levelAfter, measured};
 use kinds::ARRAY;
 use kinds::BIT_FIELD;
 use kinds::Compared;
@@ -30,7 +30,9 @@ use kinds::equivalent_kinds;
 use kinds::is_container;
 use kinds::primitive_size;
 use sheet::Checked;
+use sheet::CheckedBoth;
 use sheet::check;
+use sheet::check_both;
 
 // A size: none, a count of bytes, or one above 2^64 - 1.
 pub enum Measured {
@@ -122,6 +124,16 @@ impl Measured {
         match primitive_size(kind) {
             PrimitiveSize::Nothing => Measured::Nothing,
             PrimitiveSize::Bytes(n) => Measured::Bytes(n),
+        }
+    }
+
+    fn answer(self) -> Sized
+        ensures { λ r. ⌜ r ≡ measured self ⌝ }
+    {
+        match self {
+            Measured::Nothing => Sized::Nothing,
+            Measured::Bytes(n) => Sized::Bytes(n),
+            Measured::TooLarge => Sized::Refused(Refusal::SizeTooLarge),
         }
     }
 
@@ -442,33 +454,14 @@ fn compare_fields(
     more == 0
 }
 
-// The check of two sheets: that a sheet breaks the layout goes before a bad name of either.
-fn both(a: Checked, b: Checked) -> Checked
-    ensures { λ r. ⌜ r ≡ bothChecked a b ⌝ }
-{
-    match a {
-        Checked::NotASheet => Checked::NotASheet,
-        Checked::BadName => match b {
-            Checked::NotASheet => Checked::NotASheet,
-            Checked::BadName => Checked::BadName,
-            Checked::Good => Checked::BadName,
-        },
-        Checked::Good => b,
-    }
-}
-
 // The size of the tree in a sheet.
 pub fn size(words: &[u64], names: &[u8]) -> Sized
     ensures { λ r. ⌜ r ≡ sizeAnswer (now (words .entry)) (now (names .entry)) ⌝ }
 {
     match check(words, names) {
-        Checked::NotASheet => Sized::Refused(Refusal::NotASheet),
-        Checked::BadName => Sized::Refused(Refusal::BadName),
-        Checked::Good => match size_of(&words[4..], 0, NestingLevel::new()) {
-            Measured::Nothing => Sized::Nothing,
-            Measured::Bytes(n) => Sized::Bytes(n),
-            Measured::TooLarge => Sized::Refused(Refusal::SizeTooLarge),
-        },
+        Checked::Refused(why) => Sized::Refused(why),
+        Checked::Code(kind) => Measured::of_primitive(kind).answer(),
+        Checked::Nodes(first, _) => size_of(&words[first..], 0, NestingLevel::new()).answer(),
     }
 }
 
@@ -476,28 +469,13 @@ pub fn size(words: &[u64], names: &[u8]) -> Sized
 pub fn compare_encodings(aw: &[u64], an: &[u8], bw: &[u64], bn: &[u8], all: bool) -> Compared
     ensures { λ r. ⌜ r ≡ compareAnswer all (now (aw .entry)) (now (an .entry)) (now (bw .entry)) (now (bn .entry)) ⌝ }
 {
-    match both(check(&aw[0..], &an[0..]), check(&bw[0..], &bn[0..])) {
-        Checked::NotASheet => Compared::Refused(Refusal::NotASheet),
-        Checked::BadName => Compared::Refused(Refusal::BadName),
-        Checked::Good => {
-            if aw[4] < PRIMITIVES {
-                return Compared::Decided(equivalent_kinds(aw[4], bw[4]));
-            }
+    match check_both(aw, an, bw, bn) {
+        CheckedBoth::Refused(why) => Compared::Refused(why),
+        CheckedBoth::Codes(k, j) => Compared::Decided(equivalent_kinds(k, j)),
+        CheckedBoth::Nodes(f, n, g, m) => {
             let top = NestingLevel::new();
-            let n = aw[0] as usize;
-            let m = bw[0] as usize;
-            Compared::Decided(compare_fields(
-                &aw[4..],
-                &an[0..],
-                0,
-                n,
-                &bw[4..],
-                &bn[0..],
-                0,
-                m,
-                top,
-                all,
-            ))
+            let same = compare_fields(&aw[f..], &an[0..], 0, n, &bw[g..], &bn[0..], 0, m, top, all);
+            Compared::Decided(same)
         }
     }
 }

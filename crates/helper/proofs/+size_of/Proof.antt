@@ -22,12 +22,12 @@ use mathlib.Core.List.{[]}
 use mathlib.Core.Logic.{⊎-elim}
 use Rattle.kinds.specs.Sheet.{kindAt, countAt, trees}
 use Rattle.kinds.specs.Size.{sizes}
-use Rattle.kinds.proofs.KindLaws.{inside-kind}
+use Rattle.kinds.proofs.KindLaws.{inside-kind, container-kind, included}
 use Rattle.kinds.proofs.ListLaws.{whole}
 use Rattle.kinds.proofs.NodeLaws.{node-inner, child-count, node-child}
 use Rattle.helper.specs.Measure.{clip, holdingMeasured, fold, sizeAt}
 use Rattle.helper.proofs.SizeLaws.{clip-holding, join-unit}
-use Rattle.helper.proofs.NodeSizeLaws.{Gathered, gathered-end, gathered-node, gathered-within, gathered-turn, gathered-code, gathered-inner, included, low-leaf, size-leaf, not-leaf, size-held, size-dropped, size-included, bits-fit, container-kind}
+use Rattle.helper.proofs.NodeSizeLaws.{Gathered, gathered-end, gathered-node, gathered-within, gathered-turn, gathered-code, gathered-inner, low-leaf, size-leaf, not-leaf, size-held, size-dropped, size-included, bits-fit}
 
 abbrev μ-size-of : Measures 1 size-of-kinds.ps ℕ
 μ-size-of κs a = countAt (a .0 .now) (a .1 .0)
