@@ -8,6 +8,8 @@ use libc::STDERR_FILENO;
 use libc::STDIN_FILENO;
 use libc::STDOUT_FILENO;
 use parse::Reading;
+use sheet::Checked;
+use sheet::HEADER;
 use static_str::Printed;
 
 fn say(s: &[u8]) {
@@ -78,18 +80,33 @@ fn say_decided(answer: bool) {
     }
 }
 
-fn say_node(words: &[u64], names: &[u8], i: u16, last: u16) {
+fn say_node(nodes: &[u64], names: &[u8], i: u16, last: u16) {
     let mut out = [0u8; 8192];
-    let at = show::put_node(&mut out, words, names, i, last);
+    let at = show::put_node(&mut out, nodes, names, i, last);
     say_line(&mut out, at);
 }
 
-fn say_tree(words: &[u64], names: &[u8]) {
-    let nodes = show::node_count(words);
+fn say_nodes(nodes: &[u64], names: &[u8], n: u16) {
     let mut i = 0;
-    while i < nodes {
-        say_node(words, names, i, nodes - 1);
+    while i < n {
+        say_node(nodes, names, i, n - 1);
         i += 1;
+    }
+}
+
+// The words from the place `first` on, or none.
+fn from(words: &[u64], first: usize) -> &[u64] {
+    if first <= words.len() {
+        return &words[first..];
+    }
+    &words[0..0]
+}
+
+fn say_tree(words: &[u64], names: &[u8]) {
+    match sheet::check(words, names) {
+        Checked::Refused(_) => {}
+        Checked::Code(_) => say_nodes(from(words, HEADER), names, 1),
+        Checked::Nodes(first, n) => say_nodes(from(words, first), names, (n % 65536) as u16),
     }
 }
 
@@ -109,7 +126,7 @@ fn reads(text: &[u8], words: &mut [u64], names: &mut [u8]) -> bool {
     match encoding_box::from_str(text, words, names) {
         Reading::Tree => true,
         Reading::Refused(why) => {
-            say_refused(text, &parse::refusal_words(why));
+            say_refused(text, &why.words());
             false
         }
     }
@@ -139,7 +156,7 @@ fn answer_start(text: &[u8]) {
 fn say_print(text: &[u8], words: &[u64], names: &[u8]) {
     let mut out = [0u8; 8192];
     match static_str::static_encoding_str_array(words, names, &mut out) {
-        Printed::Refused(why) => say_refused(text, &parse::refusal_words(why)),
+        Printed::Refused(why) => say_refused(text, &why.words()),
         Printed::Bytes(n) => say_line(&mut out, n),
     }
 }
@@ -163,7 +180,7 @@ fn answer_size(text: &[u8]) {
     let mut names = [0u8; 2000];
     if reads(text, &mut words, &mut names) {
         match encoding::size(&words, &names) {
-            Sized::Refused(why) => say_refused(text, &parse::refusal_words(why)),
+            Sized::Refused(why) => say_refused(text, &why.words()),
             Sized::Nothing => say(b"no size\n"),
             Sized::Bytes(n) => say_size(n),
         }
@@ -176,7 +193,7 @@ fn answer_match(a: &[u8], text: &[u8]) {
     let mut names = [0u8; 2000];
     if reads(a, &mut words, &mut names) {
         match encoding::equivalent_to_str(&words, &names, text) {
-            Compared::Refused(why) => say_refused(text, &parse::refusal_words(why)),
+            Compared::Refused(why) => say_refused(text, &why.words()),
             Compared::Decided(answer) => say_decided(answer),
         }
     }
@@ -196,7 +213,7 @@ fn compare_with(all: bool, a: &[u8], aw: &[u64], an: &[u8], b: &[u8]) {
     let mut bn = [0u8; 2000];
     if reads(b, &mut bw, &mut bn) {
         match compared(all, aw, an, &bw, &bn) {
-            Compared::Refused(why) => say_refused(a, &parse::refusal_words(why)),
+            Compared::Refused(why) => say_refused(a, &why.words()),
             Compared::Decided(answer) => say_decided(answer),
         }
     }

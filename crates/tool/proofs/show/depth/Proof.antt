@@ -57,7 +57,7 @@ loop-again c =
 
 returns : tie.Need-returns Inv-loop μ-loop
 unfolding depthOf
-returns c = c .before .loop .inv .0 ∙ ap (holders (c .before .before .before .args .words .now) (c .before .before .before .args .i)) (omega arith)
+returns c = c .before .loop .inv .0 ∙ ap (holders (c .before .before .before .args .nodes .now) (c .before .before .before .args .i)) (omega arith)
 
 pub depth-spec : {M : Type 1} → statement M
 depth-spec =
