@@ -12,7 +12,7 @@ use Rattle.kinds.specs.declared.Refusal.the-variants as R
 use Rattle.parse.specs.Answer.{answerWords, EndOf}
 use Rattle.parse.specs.declared.Reading.{Reading}
 use Rattle.parse.specs.declared.Reading.the-variants as G
-use Rattle.berzhotun.specs.Numbers.{readNumber, readValues}
+use Rattle.berzhotun.specs.Answer.{readNumber, readValues}
 
 words-values : (r : Refusal) → answerWords (G.Refused r) ≡ number r ∷ values r
 words-values r = refl

@@ -7,7 +7,7 @@ ghost use Rattle.parse.specs.Answer.{fromStrAnswer, fromStrWords, fromStrNames,
 ghost use Rattle.expect.specs.Encoding.{compared};
 ghost use Rattle.helper.specs.Answer.{sizeAnswer, compareAnswer};
 ghost use Rattle.static_str.specs.Outcome.{encodingLen, encodingArray, encodingOutput};
-ghost use Rattle.berzhotun.specs.Numbers.{sizeNumber, sizeValues, compareNumber, compareValues, printNumber, printValues, readNumber, readValues, restPlace};
+ghost use Rattle.berzhotun.specs.Answer.{sizeNumber, sizeValues, compareNumber, compareValues, printNumber, printValues, readNumber, readValues, restPlace};
 use helper::Sized;
 use kinds::Compared;
 use parse::Reading;

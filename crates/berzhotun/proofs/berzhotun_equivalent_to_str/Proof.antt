@@ -1,5 +1,5 @@
 use mathlib.Core.Path.{ap, _∙_}
-use Rattle.berzhotun.specs.Numbers.{compareNumber, compareValues}
+use Rattle.berzhotun.specs.Answer.{compareNumber, compareValues}
 use borrow.Author.Needs.{needs}
 use Rattle.berzhotun.proofs.berzhotun_equivalent_to_str.Statement.{statement}
 use Rattle.berzhotun.proofs.berzhotun_equivalent_to_str.Tie as tie

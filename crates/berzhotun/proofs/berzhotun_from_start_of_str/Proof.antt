@@ -2,7 +2,7 @@ use Prim.Native.Nat.{_-_}
 use denote.Ref.{now}
 use lib.ListN.{length}
 use Rattle.parse.specs.Answer.{fromStartAnswer}
-use Rattle.berzhotun.specs.Numbers.{restPlace}
+use Rattle.berzhotun.specs.Answer.{restPlace}
 use Rattle.berzhotun.proofs.ReadingLaws.{tree-number, tree-values, refused-number, refused-values, end-shorter}
 use borrow.Author.Needs.{needs}
 use Rattle.berzhotun.proofs.berzhotun_from_start_of_str.Statement.{statement}
