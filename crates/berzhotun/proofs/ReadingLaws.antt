@@ -47,7 +47,8 @@ pub refused-number : (ws : List ℕ) (a : Reading) → ws ≡ answerWords a → 
 refused-number ws G.Tree e z = absurd (z (ap (λ (l : List ℕ). getD l 0 0) e))
 refused-number ws (G.Refused r) e z = ap (λ (l : List ℕ). getD l 0 0) (e ∙ words-values r)
 
-pub refused-values : (ws : List ℕ) (a : Reading) (p : ℕ) → ws ≡ answerWords a → (getD ws 0 0 ≡ 0 → ⊥) → getD ws 1 0 ∷ getD ws 2 0 ∷ getD ws 3 0 ∷ [] ≡ readValues p a
+pub refused-values : (ws : List ℕ) (a : Reading) (p : ℕ) → ws ≡ answerWords a → (getD ws 0 0 ≡ 0 → ⊥) → getD ws 1 0 ∷ getD ws 2 0 ∷ getD ws 3 0 ∷ []
+    ≡ readValues p a
 refused-values ws G.Tree p e z = absurd (z (ap (λ (l : List ℕ). getD l 0 0) e))
 refused-values ws (G.Refused r) p e z = ap (λ (l : List ℕ). getD l 1 0 ∷ getD l 2 0 ∷ getD l 3 0 ∷ []) (e ∙ words-values r)
 

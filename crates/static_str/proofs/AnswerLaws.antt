@@ -50,7 +50,8 @@ module _ (text out : List ℕ) {len : ℕ} (e : len ≡ length text) where
   pub text-short : length out < len → (Refused OutputTooShort ≡ fitted text (length out)) × (out ≡ placed text out)
   text-short h = (fitted-short text out (omega arith), placed-short text out (omega arith))
 
-  pub text-whole : len ≤ length out → {after : List ℕ} {next : ℕ} → Wrote out 0 text after next → (Bytes len ≡ fitted text (length out)) × (after ≡ placed text out)
+  pub text-whole : len ≤ length out → {after : List ℕ} {next : ℕ} → Wrote out 0 text after next
+      → (Bytes len ≡ fitted text (length out)) × (after ≡ placed text out)
   text-whole h w = (ap Bytes e ∙ fitted-whole text out (omega arith), placed-whole text out (omega arith) w)
 
 -- The length that is counted for a tree is that of its text.
@@ -76,18 +77,21 @@ module _ (words names : List ℕ) where
   pub len-code : {k : ℕ} → CodeIn words names k → {n : ℕ} → n ≡ length (code k) → Bytes n ≡ encodingLen words names
   len-code {k} h e = len-held (h .holds) (e ∙ ap length (sym (code-text k)))
 
-  pub len-nodes : (w : List ℕ) (n : ℕ) → NodesAre words names w n → {v : NestingLevel} → v ≡ Top → {len : ℕ} → TreesLength w 0 n v len → Bytes len ≡ encodingLen words names
+  pub len-nodes : (w : List ℕ) (n : ℕ) → NodesAre words names w n → {v : NestingLevel} → v ≡ Top → {len : ℕ} → TreesLength w 0 n v len → Bytes len
+      ≡ encodingLen words names
   len-nodes w n h top l = len-held (h .holds) (tree-len names w n (h .lent-names) top l)
 
   module _ (out : List ℕ) where
-    pub print-refused : {r : Refusal} → held words names ≡ refused r → (Refused r ≡ encodingArray words names (length out)) × (out ≡ encodingOutput words names out)
+    pub print-refused : {r : Refusal} → held words names ≡ refused r → (Refused r ≡ encodingArray words names (length out)) ×
+        (out ≡ encodingOutput words names out)
     unfolding encodingArray encodingOutput
     print-refused h = (
       answer-refused Refused words names (λ (t : Trees). fitted (print Top t) (length out)) h,
       answer-refused (λ (r : Refusal). out) words names (λ (t : Trees). placed (print Top t) out) h,
     )
 
-    pub print-held : {t : Trees} → held words names ≡ holding t → {r : Printed} {after : List ℕ} → r ≡ fitted (print Top t) (length out) → after ≡ placed (print Top t) out
+    pub print-held : {t : Trees} → held words names ≡ holding t → {r : Printed} {after : List ℕ} → r ≡ fitted (print Top t) (length out) → after
+        ≡ placed (print Top t) out
         → (r ≡ encodingArray words names (length out)) × (after ≡ encodingOutput words names out)
     unfolding encodingArray encodingOutput
     print-held h e f = (

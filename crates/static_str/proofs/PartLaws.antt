@@ -148,11 +148,13 @@ module _ (s : List ℕ) (k a b : ℕ) (v : NestingLevel) where
   pub own-array : k ≡ 28 → 2 + length (decimal a) ≡ length (opening s k a b v) + length (closing k b)
   own-array p = rw (opening-array p, closing-array k b p) (omega arith)
 
-  pub own-none : 24 ≤ k → isContainerKind k ≡ false → (k ≡ 24 → ⊥) → (k ≡ 25 → ⊥) → (k ≡ 26 → ⊥) → (k ≡ 27 → ⊥) → (k ≡ 28 → ⊥) → 0 ≡ length (opening s k a b v) + length (closing k b)
+  pub own-none : 24 ≤ k → isContainerKind k ≡ false → (k ≡ 24 → ⊥) → (k ≡ 25 → ⊥) → (k ≡ 26 → ⊥) → (k ≡ 27 → ⊥) → (k ≡ 28 → ⊥) → 0
+      ≡ length (opening s k a b v) + length (closing k b)
   own-none p h d e f g i = rw (opening-none p h d e f g i, closing-none k b e i h)
 
   -- the name as the code takes it out of the names
-  pub opening-slice : (x : ContainerKind) → x ≡ containerOf k → 24 ≤ k → isContainerKind k ≡ true → startByte x ∷ (take (a + b - a) (drop a s) ++ fields v []) ≡ opening s k a b v
+  pub opening-slice : (x : ContainerKind) → x ≡ containerOf k → 24 ≤ k → isContainerKind k ≡ true → startByte x ∷ (take (a + b - a) (drop a s) ++ fields v [])
+      ≡ opening s k a b v
   opening-slice x e p h = ap₂ (λ (c : ContainerKind) (n : ℕ). startByte c ∷ (take n (drop a s) ++ fields v [])) e (plain a b) ∙ sym (opening-container p h)
     where
       plain : (m n : ℕ) → m + n - m ≡ n

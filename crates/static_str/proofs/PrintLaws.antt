@@ -29,11 +29,15 @@ shown-end (Included v) = refl
 shown-end Dropped = refl
 
 -- a container, with the byte `x` before it and `y` after it
-container-text : (x y : ℕ) (name c d : List ℕ) (v : NestingLevel) → (showsFields v ≡ true → d ≡ c) → (showsFields v ≡ false → d ≡ []) → x ∷ (name ++ (fields v c ++ (y ∷ []))) ≡ (x ∷ (name ++ fields v [])) ++ (d ++ (y ∷ []))
+container-text : (x y : ℕ) (name c d : List ℕ) (v : NestingLevel) → (showsFields v ≡ true → d ≡ c) → (showsFields v ≡ false → d ≡ [])
+    → x ∷ (name ++ (fields v c ++ (y ∷ []))) ≡ (x ∷ (name ++ fields v [])) ++ (d ++ (y ∷ []))
 unfolding fields
-container-text x y name c d Top p q = ap (λ (z : List ℕ). x ∷ (name ++ (61 ∷ (z ++ (y ∷ []))))) (sym (p refl)) ∙ ap (λ (z : List ℕ). x ∷ z) (sym (append-assoc name (61 ∷ []) (d ++ (y ∷ []))))
-container-text x y name c d Within p q = ap (λ (z : List ℕ). x ∷ (name ++ (61 ∷ (z ++ (y ∷ []))))) (sym (p refl)) ∙ ap (λ (z : List ℕ). x ∷ z) (sym (append-assoc name (61 ∷ []) (d ++ (y ∷ []))))
-container-text x y name c d Bottom p q = ap (λ (z : List ℕ). x ∷ (name ++ (z ++ (y ∷ [])))) (sym (q refl)) ∙ ap (λ (z : List ℕ). x ∷ z) (sym (append-assoc name [] (d ++ (y ∷ []))))
+container-text x y name c d Top p q = ap (λ (z : List ℕ). x ∷ (name ++ (61 ∷ (z ++ (y ∷ []))))) (sym (p refl))
+    ∙ ap (λ (z : List ℕ). x ∷ z) (sym (append-assoc name (61 ∷ []) (d ++ (y ∷ []))))
+container-text x y name c d Within p q = ap (λ (z : List ℕ). x ∷ (name ++ (61 ∷ (z ++ (y ∷ []))))) (sym (p refl))
+    ∙ ap (λ (z : List ℕ). x ∷ z) (sym (append-assoc name (61 ∷ []) (d ++ (y ∷ []))))
+container-text x y name c d Bottom p q = ap (λ (z : List ℕ). x ∷ (name ++ (z ++ (y ∷ [])))) (sym (q refl))
+    ∙ ap (λ (z : List ℕ). x ∷ z) (sym (append-assoc name [] (d ++ (y ∷ []))))
 
 module _ (s : List ℕ) (a b : ℕ) (v : NestingLevel) (cs : Trees) where
   whole : ℕ → List ℕ
@@ -45,7 +49,17 @@ module _ (s : List ℕ) (a b : ℕ) (v : NestingLevel) (cs : Trees) where
   primitive-parts : (k : ℕ) → k < 24 → cs ≡ end → whole k ≡ in-parts k
   unfolding whole in-parts opening closing childrenLevel insideKind printShown printNode print
   primitive-parts k p e =
-      rw (label-primitive s k a b p, le-leb k 23 (omega arith), ne-eqb k 29 (λ d. omega arith), ne-eqb k 30 (λ d. omega arith), ne-eqb k 26 (λ d. omega arith), ne-eqb k 27 (λ d. omega arith), ne-eqb k 25 (λ d. omega arith), ne-eqb k 28 (λ d. omega arith), e)
+      rw (
+        label-primitive s k a b p,
+        le-leb k 23 (omega arith),
+        ne-eqb k 29 (λ d. omega arith),
+        ne-eqb k 30 (λ d. omega arith),
+        ne-eqb k 26 (λ d. omega arith),
+        ne-eqb k 27 (λ d. omega arith),
+        ne-eqb k 25 (λ d. omega arith),
+        ne-eqb k 28 (λ d. omega arith),
+        e,
+      )
       (sym (append-nil (code k)))
 
   bit-parts : cs ≡ end → whole 24 ≡ in-parts 24
@@ -100,12 +114,14 @@ module _ (s : List ℕ) (a b : ℕ) (v : NestingLevel) (cs : Trees) where
       go true e = let p = leb-true k 23 e in primitive-parts k (omega arith) (low (omega arith))
       go false e =
           by-kind (λ (j : ℕ). (j < 25 → cs ≡ end) → (28 < j → isContainerKind j ≡ false → cs ≡ end) → whole j ≡ in-parts j)
-          (λ p q. bit-parts (p (omega arith))) (λ p q. typed-parts) (λ p q. pointer-parts) (λ p q. atomic-parts) (λ p q. array-parts) (λ p q. struct-parts) (λ p q. union-parts) (λ p q. none-parts (q (omega arith) refl))
+          (λ p q. bit-parts (p (omega arith))) (λ p q. typed-parts) (λ p q. pointer-parts) (λ p q. atomic-parts) (λ p q. array-parts) (λ p q. struct-parts)
+          (λ p q. union-parts) (λ p q. none-parts (q (omega arith) refl))
           k (leb-false k 23 e) hi low high
 
 module _ (s w : List ℕ) (v : NestingLevel) (at n : ℕ) (h : TreesAt w at n) (p : 0 < n) (hi : kindAt w at ≤ 31) where
   -- the first tree in parts, and the trees after it
-  pub trees-text : print v (trees s w n at) ≡ opening s (kindAt w at) (firstAt w at) (secondAt w at) v ++ (childrenText s w at v ++ (closing (kindAt w at) (secondAt w at) ++ print v (trees s w (n - countAt w at) (at + 4 * countAt w at))))
+  pub trees-text : print v (trees s w n at) ≡ opening s (kindAt w at) (firstAt w at) (secondAt w at) v ++
+      (childrenText s w at v ++ (closing (kindAt w at) (secondAt w at) ++ print v (trees s w (n - countAt w at) (at + 4 * countAt w at))))
   unfolding print whole in-parts
   trees-text =
       let f = first-node w at n h p in
@@ -113,13 +129,15 @@ module _ (s w : List ℕ) (v : NestingLevel) (at n : ℕ) (h : TreesAt w at n) (
       let r = print v (trees s w (n - countAt w at) (at + 4 * countAt w at)) in
       let o = opening s (kindAt w at) (firstAt w at) (secondAt w at) v in
       let k = closing (kindAt w at) (secondAt w at) in
-      let e = node-parts s (firstAt w at) (secondAt w at) v cs (kindAt w at) hi (λ q. leaf-end s w at f (arity-low _ _ _ q)) (λ q d. leaf-end s w at f (arity-high _ _ _ q d)) in
+      let e = node-parts s (firstAt w at) (secondAt w at) v cs (kindAt w at) hi (λ q. leaf-end s w at f (arity-low _ _ _ q))
+      (λ q d. leaf-end s w at f (arity-high _ _ _ q d)) in
       ap (print v) (trees-step s w n at (first-some w at n h p) (first-within w at n h p))
       ∙ ap (λ (z : List ℕ). z ++ r) e
       ∙ append-assoc o (childrenText s w at v ++ k) r
       ∙ ap (λ (z : List ℕ). o ++ z) (append-assoc (childrenText s w at v) k r)
 
-  pub trees-length : length (print v (trees s w n at)) ≡ length (opening s (kindAt w at) (firstAt w at) (secondAt w at) v) + length (closing (kindAt w at) (secondAt w at)) + length (childrenText s w at v) + length (print v (trees s w (n - countAt w at) (at + 4 * countAt w at)))
+  pub trees-length : length (print v (trees s w n at)) ≡ length (opening s (kindAt w at) (firstAt w at) (secondAt w at) v) + length
+      (closing (kindAt w at) (secondAt w at)) + length (childrenText s w at v) + length (print v (trees s w (n - countAt w at) (at + 4 * countAt w at)))
   trees-length =
       let r = print v (trees s w (n - countAt w at) (at + 4 * countAt w at)) in
       let k = closing (kindAt w at) (secondAt w at) in
@@ -136,7 +154,8 @@ unfolding print
 no-text s w v n at p = ap (print v) (no-trees s w n at p)
 
 pub no-children : (s w : List ℕ) (v : NestingLevel) (at : ℕ) → countAt w at ≤ 1 → childrenText s w at v ≡ []
-no-children s w v at p = ap (printShown (childrenLevel (kindAt w at) v)) (no-trees s w (countAt w at - 1) (at + 4) (omega arith)) ∙ shown-end (childrenLevel (kindAt w at) v)
+no-children s w v at p = ap (printShown (childrenLevel (kindAt w at) v)) (no-trees s w (countAt w at - 1) (at + 4) (omega arith))
+    ∙ shown-end (childrenLevel (kindAt w at) v)
 
 module _ (s w : List ℕ) (v : NestingLevel) (at : ℕ) where
   pub dropped-text : childrenLevel (kindAt w at) v ≡ Dropped → childrenText s w at v ≡ []

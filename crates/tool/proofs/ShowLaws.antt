@@ -128,7 +128,9 @@ right-wide n widest d w p q h =
     let e : length (decimal widest) - length (decimal n) ≤ 0 = omega arith in
     sym (ap (λ (s : List ℕ). s ++ decimal n) (times-none (length (decimal widest) - length (decimal n)) (32 ∷ []) e))
 
-pub node-is : (words names : List ℕ) (i last d k m n : ℕ) → d ≡ depthOf words i → k ≡ getD words (4 * i) 0 → m ≡ getD words (4 * i + 1) 0 → n ≡ getD words (4 * i + 2) 0 → rightText i last ++ ((32 ∷ []) ++ (times d (32 ∷ 32 ∷ []) ++ (lineOf k kindNames ++ valuesText names k m n))) ≡ nodeText words names i last
+pub node-is : (words names : List ℕ) (i last d k m n : ℕ) → d ≡ depthOf words i → k ≡ getD words (4 * i) 0 → m ≡ getD words (4 * i + 1) 0 → n
+    ≡ getD words (4 * i + 2) 0 → rightText i last ++ ((32 ∷ []) ++ (times d (32 ∷ 32 ∷ []) ++ (lineOf k kindNames ++ valuesText names k m n)))
+    ≡ nodeText words names i last
 unfolding nodeText
 node-is words names i last d k m n p q r s = rw (p, q, r, s)
 
@@ -196,6 +198,9 @@ module _ (number b container : ℕ) where
   unfolding namedText
   named-none h i j k = sym (rw (neither number 8 9 h i, neither number 13 14 j k))
 
-pub refused-is : (text why : List ℕ) → shownOrCut text ++ (markText (getD why 0 0) (getD why 1 0) ++ ((10 ∷ 114 ∷ 101 ∷ 102 ∷ 117 ∷ 115 ∷ 101 ∷ 100 ∷ 32 ∷ 40 ∷ []) ++ (decimal (getD why 0 0) ++ ((41 ∷ 58 ∷ 32 ∷ []) ++ (lineOf (getD why 0 0) reasons ++ namedText (getD why 0 0) (getD why 2 0) (getD why 3 0)))))) ≡ refusedText text why
+pub refused-is : (text why : List ℕ) → shownOrCut text ++
+    (markText (getD why 0 0) (getD why 1 0) ++ ((10 ∷ 114 ∷ 101 ∷ 102 ∷ 117 ∷ 115 ∷ 101 ∷ 100 ∷ 32 ∷ 40 ∷ []) ++
+    (decimal (getD why 0 0) ++ ((41 ∷ 58 ∷ 32 ∷ []) ++ (lineOf (getD why 0 0) reasons ++ namedText (getD why 0 0) (getD why 2 0) (getD why 3 0))))))
+    ≡ refusedText text why
 unfolding refusedText
 refused-is text why = refl

@@ -10,10 +10,14 @@ place-of-requires : tie.Need-place-of-requires
 place-of-requires c κs = search needs
 
 slice-aggregate-result : tie.Need-slice-aggregate-result
-slice-aggregate-result c = sym (length-take-le (c .before .place-of .result) (c .before .before .before .args .s .now) (c .before .place-of .ensures .1))
+slice-aggregate-result c =
+    let c3 = c .before .before .before in
+    sym (length-take-le (c .before .place-of .result) (c3 .args .s .now) (c .before .place-of .ensures .1))
 
 returns : tie.Need-returns
-returns c = front-is (c .before .before .before .args .s) _ _ (c .before .place-of .ensures .0)
+returns c =
+    let c3 = c .before .before .before in
+    front-is (c3 .args .s) _ _ (c .before .place-of .ensures .0)
 
 pub field-spec : {M : Type 1} → statement M
 field-spec = tie.close (tie.spec place-of-requires slice-aggregate-result returns)

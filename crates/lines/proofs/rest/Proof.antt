@@ -25,7 +25,10 @@ part-result-end : tie.Need-part-result-end
 part-result-end c = search needs
 
 returns : tie.Need-returns
-returns c = part-remains (c .before .before .before .before .args .s) _ (omega arith) ∙ ap (λ (n : ℕ). remainingAt (c .before .before .before .before .args .s) (n + 1)) (c .before .before .place-of .ensures .0)
+returns c =
+    let c2 = c .before .before in
+    let c4 = c2 .before .before in
+    part-remains (c4 .args .s) _ (omega arith) ∙ ap (λ (n : ℕ). remainingAt (c4 .args .s) (n + 1)) (c2 .place-of .ensures .0)
 
 sub-result-2 : tie.Need-sub-result-2
 sub-result-2 c = search needs
@@ -38,8 +41,10 @@ part-result-end-2 c = search needs
 
 returns-2 : tie.Need-returns-2
 returns-2 c =
-    part-remains (c .before .before .before .before .args .s) _ (omega (arith, c .before .before .place-of .ensures .1))
-    ∙ (past (c .before .before .before .before .args .s) _ (omega arith) (c .before .before .place-of .ensures .1) ∙ ap (λ (n : ℕ). remainingAt (c .before .before .before .before .args .s) (n + 1)) (c .before .before .place-of .ensures .0))
+    let c2 = c .before .before in
+    let c4 = c2 .before .before in
+    part-remains (c4 .args .s) _ (omega (arith, c2 .place-of .ensures .1))
+    ∙ (past (c4 .args .s) _ (omega arith) (c2 .place-of .ensures .1) ∙ ap (λ (n : ℕ). remainingAt (c4 .args .s) (n + 1)) (c2 .place-of .ensures .0))
 
 pub rest-spec : {M : Type 1} → statement M
 rest-spec =

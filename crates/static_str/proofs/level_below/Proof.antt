@@ -19,7 +19,10 @@ returns : tie.Need-returns
 returns c = sym (c .enum-told .given .1) ∙ c .before .before .children .ensures
 
 returns-2 : tie.Need-returns-2
-returns-2 c = c .level-step .ensures ∙ (sym (c .before .before .inner .given .1) ∙ c .before .before .before .before .children .ensures)
+returns-2 c =
+    let c2 = c .before .before in
+    let c4 = c2 .before .before in
+    c .level-step .ensures ∙ (sym (c2 .inner .given .1) ∙ c4 .children .ensures)
 
 pub level-below-spec : {M : Type 1} → statement M
 level-below-spec =

@@ -34,19 +34,27 @@ enum-known-kind : tie.Need-enum-known-kind
 enum-known-kind c = search needs
 
 code-len-requires : tie.Need-code-len-requires
-code-len-requires c κs = (given-code _ _ (rw (whole, whole) at (c .before .before .before .check .ensures .1)) (c .before .kind .given .1)) .code
+code-len-requires c κs =
+    let c3 = c .before .before .before in
+    (given-code _ _ (rw (whole, whole) at (c3 .check .ensures .1)) (c .before .kind .given .1)) .code
 
 enum-known-first : tie.Need-enum-known-first
 enum-known-first c = search needs
 
 mul-trees-len : tie.Need-mul-trees-len
-mul-trees-len c = let h = (given-nodes _ _ (rw (whole, whole) at (c .before .before .before .check .ensures .1)) (c .before .first .given .1)) in omega (arith, h .starts)
+mul-trees-len c =
+    let c3 = c .before .before .before in
+    let h = (given-nodes _ _ (rw (whole, whole) at (c3 .check .ensures .1)) (c .before .first .given .1)) in omega (arith, h .starts)
 
 sub-trees-len : tie.Need-sub-trees-len
-sub-trees-len c = let h = (given-nodes _ _ (rw (whole, whole) at (c .before .before .before .check .ensures .1)) (c .before .first .given .1)) in omega (arith, h .starts)
+sub-trees-len c =
+    let c3 = c .before .before .before in
+    let h = (given-nodes _ _ (rw (whole, whole) at (c3 .check .ensures .1)) (c .before .first .given .1)) in omega (arith, h .starts)
 
 part-trees-len-start : tie.Need-part-trees-len-start
-part-trees-len-start c = let h = (given-nodes _ _ (rw (whole, whole) at (c .before .before .before .check .ensures .1)) (c .before .first .given .1)) in omega (arith, h .starts)
+part-trees-len-start c =
+    let c3 = c .before .before .before in
+    let h = (given-nodes _ _ (rw (whole, whole) at (c3 .check .ensures .1)) (c .before .first .given .1)) in omega (arith, h .starts)
 
 part-trees-len-end : tie.Need-part-trees-len-end
 part-trees-len-end c = search needs
@@ -55,16 +63,32 @@ new-requires : tie.Need-new-requires
 new-requires c κs = search needs
 
 trees-len-requires : tie.Need-trees-len-requires
-trees-len-requires c κs = let h = (nodes-part (given-nodes _ _ (rw (whole, whole) at (c .before .before .before .before .before .check .ensures .1)) (c .before .before .before .first .given .1))) in ((h .whole, h .few), h .short-names)
+trees-len-requires c κs =
+    let c3 = c .before .before .before in
+    let c5 = c3 .before .before in
+    let h = (nodes-part (given-nodes _ _ (rw (whole, whole) at (c5 .check .ensures .1)) (c3 .first .given .1))) in ((h .whole, h .few), h .short-names)
 
 returns : tie.Need-returns
-returns c = len-refused (c .before .before .before .before .before .before .before .before .args .words .now) (c .before .before .before .before .before .before .before .before .args .names .now) (given-refused _ _ (rw (whole, whole) at (c .before .before .before .check .ensures .1)) (c .before .why .given .1))
+returns c =
+    let c3 = c .before .before .before in
+    let c8 = c3 .before .before .before .before .before in
+    len-refused (c8 .args .words .now) (c8 .args .names .now) (given-refused _ _ (rw (whole, whole) at (c3 .check .ensures .1)) (c .before .why .given .1))
 
 returns-2 : tie.Need-returns-2
-returns-2 c = len-code (c .before .before .before .before .before .before .before .before .before .args .words .now) (c .before .before .before .before .before .before .before .before .before .args .names .now) (given-code _ _ (rw (whole, whole) at (c .before .before .before .before .check .ensures .1)) (c .before .before .kind .given .1)) (c .code-len .ensures .0)
+returns-2 c =
+    let c2 = c .before .before in
+    let c4 = c2 .before .before in
+    let c9 = c4 .before .before .before .before .before in
+    len-code (c9 .args .words .now) (c9 .args .names .now) (given-code _ _ (rw (whole, whole) at (c4 .check .ensures .1)) (c2 .kind .given .1))
+    (c .code-len .ensures .0)
 
 returns-3 : tie.Need-returns-3
-returns-3 c = len-nodes (c .before .before .before .before .before .before .before .before .before .before .before .args .words .now) (c .before .before .before .before .before .before .before .before .before .before .before .args .names .now) _ _ (nodes-part (given-nodes _ _ (rw (whole, whole) at (c .before .before .before .before .before .before .check .ensures .1)) (c .before .before .before .before .first .given .1))) (c .before .new .ensures) (c .trees-len .ensures .0)
+returns-3 c =
+    let c4 = c .before .before .before .before in
+    let c6 = c4 .before .before in
+    let c11 = c6 .before .before .before .before .before in
+    len-nodes (c11 .args .words .now) (c11 .args .names .now) _ _
+    (nodes-part (given-nodes _ _ (rw (whole, whole) at (c6 .check .ensures .1)) (c4 .first .given .1))) (c .before .new .ensures) (c .trees-len .ensures .0)
 
 pub static-encoding-str-len-spec : {M : Type 1} → statement M
 static-encoding-str-len-spec =

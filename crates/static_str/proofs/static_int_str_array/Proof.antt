@@ -9,7 +9,9 @@ static-int-str-len-requires : tie.Need-static-int-str-len-requires
 static-int-str-len-requires c κs = search needs
 
 returns : tie.Need-returns
-returns c = text-short (decimal (c .before .before .before .args .n)) (c .before .before .before .args .out .now) (c .before .static-int-str-len .ensures) (c .if1 .taken)
+returns c =
+    let c3 = c .before .before .before in
+    text-short (decimal (c3 .args .n)) (c3 .args .out .now) (c .before .static-int-str-len .ensures) (c .if1 .taken)
 
 put-number-requires : tie.Need-put-number-requires
 put-number-requires c κs = search needs
@@ -19,8 +21,12 @@ same-length c = search needs
 
 returns-2 : tie.Need-returns-2
 returns-2 c =
-    let a = c .before .before .before .before .before .before .before .args in
-    text-whole (decimal (a .n)) (a .out .now) (c .before .before .before .before .before .static-int-str-len .ensures) (c .before .before .before .before .if1 .left) (c .before .before .put-number .ensures)
+    let c2 = c .before .before in
+    let c4 = c2 .before .before in
+    let c5 = c4 .before in
+    let c7 = c5 .before .before in
+    let a = c7 .args in
+    text-whole (decimal (a .n)) (a .out .now) (c5 .static-int-str-len .ensures) (c4 .if1 .left) (c2 .put-number .ensures)
 
 pub static-int-str-array-spec : {M : Type 1} → statement M
 static-int-str-array-spec =
