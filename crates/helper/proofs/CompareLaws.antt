@@ -20,7 +20,8 @@ use Rattle.kinds.specs.declared.Fields.the-variants.{Included, Dropped}
 use Rattle.kinds.specs.declared.NestingLevel.{NestingLevel}
 use Rattle.kinds.specs.declared.NestingLevel.the-variants.{Top, Within, Bottom}
 use Rattle.kinds.proofs.KindLaws.{inside-kind}
-use Rattle.kinds.proofs.SheetLaws.{both-left, arity-low, arity-high, nests-none, trees-step}
+use Rattle.kinds.proofs.SheetLaws.{arity-low, arity-high, nests-none, trees-step}
+use Rattle.kinds.proofs.TableLaws.{both-left}
 use Rattle.kinds.proofs.NodeLaws.{node-arity, node-child, node-inner, child-count, first-some, first-within, first-node, other-trees, label-primitive, label-struct, label-union, by-kind, kind-label, container-label, no-trees, some-trees, walk-here, walk-inner, walk-rest, held-trees}
 use Rattle.helper.specs.Measure.{compareFields, shownCount, levelAfter}
 use Rattle.helper.proofs.NodeSizeLaws.{included, dropped}

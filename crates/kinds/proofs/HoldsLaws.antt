@@ -14,7 +14,8 @@ use Rattle.kinds.specs.Parse.{maxU64}
 use Rattle.kinds.specs.Sound.{validLabel, validCount, valid}
 use Rattle.kinds.specs.Sheet.{first, second, namesOf, nodes, headerOf, sheetOf, Holds, nodeWords, treeOf, kindAt, firstAt, secondAt, countAt, labelAt, label, isContainerKind, trees, arity, nests, numbers, nextName, packed, isSheet}
 use Rattle.kinds.specs.Walk.{NodeAt, TreesAt}
-use Rattle.kinds.proofs.SheetLaws.{Header, both-left, both-right, trees-step, arity-low, arity-high, packed-first, packed-rest, packed-none}
+use Rattle.kinds.proofs.SheetLaws.{Header, trees-step, arity-low, arity-high, packed-first, packed-rest, packed-none}
+use Rattle.kinds.proofs.TableLaws.{both, both-left, both-right}
 use Rattle.kinds.proofs.NodeLaws.{first-some, first-within, first-node, node-inner, node-child, child-count, other-trees, label-primitive, sheet-says, by-kind, no-trees, leaf-end, numbers-kind}
 use Rattle.kinds.proofs.LayoutLaws.{Stands, okNode, nodes-length, layout-sheet, layout-tree}
 
@@ -26,9 +27,6 @@ record Says (s : List ℕ) (k a b p e : ℕ) : Type 0 where
   the-next : nextName k b p ≡ p + length (name (label s k a b))
   the-name : Stands s p (name (label s k a b))
   the-end : p + length (name (label s k a b)) ≤ e
-
-two : (a b : Bool) → (a && b) ≡ true → (a ≡ true) × (b ≡ true)
-two a b h = (both-left a b h, both-right a b h)
 
 take-stands : (s : List ℕ) (p b : ℕ) → Stands s p (take b (drop p s))
 take-stands s p b = (drop b (drop p s), sym (take-append-drop b (drop p s)))
@@ -54,7 +52,7 @@ module _ (s : List ℕ) (a b p e : ℕ) (pe : p ≤ e) (es : e ≤ length s) whe
       over = omega arith
 
       zeros : (x : Bool) → (x && (eqb a 0 && eqb b 0)) ≡ true → (0 ≡ a) × (0 ≡ b)
-      zeros x g = let t = two (eqb a 0) (eqb b 0) (both-right x (eqb a 0 && eqb b 0) g) in (sym (eqb-true a 0 (t .0)), sym (eqb-true b 0 (t .1)))
+      zeros x g = let t = both (eqb a 0) (eqb b 0) (both-right x (eqb a 0 && eqb b 0) g) in (sym (eqb-true a 0 (t .0)), sym (eqb-true b 0 (t .1)))
 
       bits : (eqb a 0 && leb b 255) ≡ true → 0 ≡ a
       bits g = sym (eqb-true a 0 (both-left (eqb a 0) (leb b 255) g))
@@ -252,7 +250,7 @@ is-end = refl
 begins : (w xs : List ℕ) (n : ℕ) → length xs ≡ n → Stands w 0 xs → w ≡ xs ++ drop n w
 begins w xs n e h = h .1 ∙ ap (λ (z : List ℕ). xs ++ z) (sym (drop-append-seam xs (h .0)) ∙ ap (drop (length xs)) (sym (h .1)) ∙ ap (λ (k : ℕ). drop k w) e)
 
-sheet-length : (t : Trees) → length (sheetOf t) ≡ 4 + 4 * count t
+pub sheet-length : (t : Trees) → length (sheetOf t) ≡ 4 + 4 * count t
 unfolding sheetOf headerOf
 sheet-length t = let e = nodes-length t 0 in omega arith
 

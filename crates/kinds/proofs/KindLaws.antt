@@ -4,11 +4,11 @@ use native.Mathlib.Omega.{arith}
 use mathlib.Core.Path.{_≡_, refl}
 use mathlib.Core.Bool.{Bool, true, false, cond}
 use mathlib.Core.List.{List}
-use borrow.Author.Tests.{leb-true, leb-false, ne-eqb}
-use lib.Dec.{leb}
+use borrow.Author.Tests.{leb-true, leb-false, ne-eqb, eqb-true, eqb-false}
+use lib.Dec.{leb, eqb}
 use Rattle.kinds.specs.Kind.{insideKind, childrenLevel}
 use Rattle.kinds.specs.Level.{showsFields, containerIncludeFields}
-use Rattle.kinds.specs.Sheet.{label}
+use Rattle.kinds.specs.Sheet.{label, isContainerKind}
 use Rattle.kinds.specs.Tree.{inside, shows}
 use Rattle.kinds.specs.declared.Fields.the-variants.{Included, Dropped}
 use Rattle.kinds.specs.declared.NestingLevel.{NestingLevel}
@@ -63,3 +63,25 @@ children-kind s k a b v = every-kind (λ (j : ℕ). cond (shows (label s j a b) 
 
     high : (j : ℕ) → 31 < j → cond (shows (label s j a b) v) (Included (inside (label s j a b) v)) Dropped ≡ childrenLevel j v
     high j p = rw (label-none s j a b (omega arith)) (plain-children j v (λ e. omega arith) (λ e. omega arith) (λ e. omega arith) (λ e. omega arith))
+
+-- Kinds 29 and 30.
+pub container-kind : (k : ℕ) → 29 ≤ k → k ≤ 30 → isContainerKind k ≡ true
+container-kind k p q = go (eqb k 29) refl
+  where
+    other : (k ≡ 29 → ⊥) → k ≡ 30
+    other r = omega arith
+
+    go : (t : Bool) → eqb k 29 ≡ t → isContainerKind k ≡ true
+    go true e = rw (eqb-true k 29 e)
+    go false e = rw (other (eqb-false k 29 e))
+
+-- Whether a container shows its fields, and at which level.
+pub dropped : (v : NestingLevel) → containerIncludeFields v ≡ Dropped → showsFields v ≡ false
+dropped Top h = absurd (let z : _≡_ {A = ℕ} 0 1 = cc in omega arith)
+dropped Within h = absurd (let z : _≡_ {A = ℕ} 0 1 = cc in omega arith)
+dropped Bottom h = refl
+
+pub included : (v u : NestingLevel) → containerIncludeFields v ≡ Included u → (showsFields v ≡ true) × (u ≡ Within)
+included Top u h = (refl, cc)
+included Within u h = (refl, cc)
+included Bottom u h = absurd (let z : _≡_ {A = ℕ} 0 1 = cc in omega arith)

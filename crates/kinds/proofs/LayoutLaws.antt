@@ -13,7 +13,8 @@ use Rattle.kinds.specs.Tree.{Label, Trees, end, node, primitive, bitFiel
 use Rattle.kinds.specs.Parse.{maxU64}
 use Rattle.kinds.specs.Sound.{validLabel, validCount, valid}
 use Rattle.kinds.specs.Sheet.{first, second, namesOf, nodes, headerOf, sheetOf, nodeWords, treeOf, kindAt, firstAt, secondAt, countAt, labelAt, label, trees, arity, nests, numbers, nextName, packed, header, isSheet}
-use Rattle.kinds.proofs.SheetLaws.{both-left, both-right, trees-step, nests-step, nests-none, arity-one, arity-low, packed-on, packed-none}
+use Rattle.kinds.proofs.SheetLaws.{trees-step, nests-step, nests-none, arity-one, arity-low, packed-on, packed-none}
+use Rattle.kinds.proofs.TableLaws.{both-left, both-right}
 use Rattle.kinds.proofs.NodeLaws.{no-trees}
 use mathlib.Core.Option.{none}
 

@@ -6,5 +6,6 @@ pub mod PrimitiveLaws
 pub mod SheetLaws
 pub mod NodeLaws
 pub mod KindLaws
+pub mod ParseLaws
 pub mod LayoutLaws
 pub mod HoldsLaws

@@ -11,7 +11,8 @@ use Rattle.kinds.specs.Tree as T
 use Rattle.kinds.specs.Tree.{end, primitive, bitField, typedBitField, pointer, atomic, array, struct, union, isEnd, kind, isContainer}
 use Rattle.kinds.specs.Sheet.{header, numbers, nextName, packed, isSheet, nodeWords, kindAt, firstAt, secondAt, countAt, label, isContainerKind, read, trees, arity, nests}
 use Rattle.kinds.specs.Walk.{NodeAt, TreesAt, KindAndName, KindsAndNames}
-use Rattle.kinds.proofs.SheetLaws.{Header, header-says, both-left, both-right, arity-one, nests-step, nests-zero, nests-over, nests-none, packed-first, packed-rest, container-first, container-fits}
+use Rattle.kinds.proofs.SheetLaws.{Header, header-says, arity-one, nests-step, nests-zero, nests-over, nests-none, packed-first, packed-rest, container-first, container-fits}
+use Rattle.kinds.proofs.TableLaws.{both-left, both-right}
 
 module _ (w : List ℕ) (at : ℕ) (h : NodeAt w at) where
   step : (arity (kindAt w at) (countAt w at) (countAt w (at + 4)) && (nests w (countAt w at - 1) (at + 4) && nests w (countAt w at - countAt w at) (at + 4 * countAt w at))) ≡ true
@@ -229,6 +230,36 @@ held-trees w at n h p lo hi =
       nested = nests-step w (n - 1) (at + 4) (d .some-node) (omega arith)
           ∙ rw (node-arity w (at + 4) d, node-inner w (at + 4) d .nested) (ap₂ (nests w) (omega arith) (omega arith) ∙ o .nested);
     }
+
+-- Two runs of trees, one after the other, are one.
+pub nests-run : (w : List ℕ) (j f i at : ℕ) → i ≤ f → TreesAt w at i → nests w j (at + 4 * i) ≡ true → nests w (i + j) at ≡ true
+nests-run w j zero i at p h g = ap₂ (nests w) (omega arith) (omega arith) ∙ g
+nests-run w j (suc f) zero at p h g = ap₂ (nests w) (omega arith) (omega arith) ∙ g
+nests-run w j (suc f) (suc i) at p h g =
+    let a = first-some w at (suc i) h (omega arith) in
+    let b = first-within w at (suc i) h (omega arith) in
+    let n = first-node w at (suc i) h (omega arith) in
+    nests-step w (suc i + j) at a (omega arith)
+    ∙ rw (node-arity w at n, node-inner w at n .nested)
+    (ap (λ (x : ℕ). nests w x (at + 4 * countAt w at)) (omega arith)
+    ∙ nests-run w j f (suc i - countAt w at) (at + 4 * countAt w at) (omega arith) (other-trees w at (suc i) h (omega arith)) (ap (λ (x : ℕ). nests w j x) (omega arith) ∙ g))
+
+-- So are the children of the first and the trees after it.
+module _ (w : List ℕ) (at n : ℕ) (h : TreesAt w at n) (p : 0 < n) where
+  pub inner-count : countAt w at - 1 + (n - countAt w at) ≡ n - 1
+  inner-count = let a = first-some w at n h p in let b = first-within w at n h p in omega arith
+
+  pub inner-end : at + 4 + 4 * (countAt w at - 1) ≡ at + 4 * countAt w at
+  inner-end = let a = first-some w at n h p in omega arith
+
+  pub inner-trees : TreesAt w (at + 4) (n - 1)
+  inner-trees =
+      let c = countAt w at in
+      record {
+        room = let r = h .room in omega arith;
+        nested = ap (λ (x : ℕ). nests w x (at + 4)) (sym inner-count)
+            ∙ nests-run w (n - c) (c - 1) (c - 1) (at + 4) (omega arith) (node-inner w at (first-node w at n h p)) (ap (nests w (n - c)) inner-end ∙ other-trees w at n h p .nested);
+      }
 
 -- What a sheet is.
 pub record SheetSays (words names : List ℕ) : Type 0 where

@@ -12,7 +12,8 @@ use Rattle.kinds.specs.Name.{verifyName}
 use Rattle.kinds.specs.Parse.{maxU64, maxU8}
 use Rattle.kinds.specs.Sheet.{kindAt, firstAt, secondAt, countAt, labelAt, label, isContainerKind, numbers, nextName, arity, nests}
 use Rattle.kinds.specs.Sound.{goodName}
-use Rattle.kinds.proofs.SheetLaws.{both-left, both-right, arity-many, arity-one, arity-low, arity-high, arity-below, arity-next, nests-step, nests-zero, nests-over, nests-arity, nests-none, nextName-le, container-first}
+use Rattle.kinds.proofs.SheetLaws.{arity-many, arity-one, arity-low, arity-high, arity-below, arity-next, nests-step, nests-zero, nests-over, nests-arity, nests-none, nextName-le, container-first}
+use Rattle.kinds.proofs.TableLaws.{both-left, both-right}
 use Rattle.kinds.proofs.NodeLaws.{by-kind, label-none}
 use Rattle.sheet.specs.Walked.{inOrder, walked, fits, nodeFits}
 use Rattle.sheet.specs.declared.Walked.{Walked}
