@@ -96,7 +96,8 @@ unfolding inSingles codeOf
 small-in b [] s h = refl
 small-in b (x ∷ xs) s h = go (λ l. small-in b xs (s .1) l) (eqb b (x .0)) h
   where
-    go : (24 ≤ codeOf (inSingles b xs) → inSingles b xs ≡ inOthers b others) → (d : Bool) → 24 ≤ codeOf (elim d [ true ↦ single (x .1) | false ↦ inSingles b xs ]) → (elim d [ true ↦ single (x .1) | false ↦ inSingles b xs ]) ≡ inOthers b others
+    go : (24 ≤ codeOf (inSingles b xs) → inSingles b xs ≡ inOthers b others)
+        → (d : Bool) → 24 ≤ codeOf (elim d [ true ↦ single (x .1) | false ↦ inSingles b xs ]) → (elim d [ true ↦ single (x .1) | false ↦ inSingles b xs ]) ≡ inOthers b others
     go more true l = absurd (omega (arith, s .0))
     go more false l = more l
 

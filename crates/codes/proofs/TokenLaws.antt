@@ -10,7 +10,8 @@ use borrow.Author.Tests.{lt-leb, le-leb, ne-eqb}
 use Rattle.kinds.proofs.ListLaws.{unread, unread-end}
 use Rattle.kinds.specs.Byte.{isDigit}
 use Rattle.kinds.specs.Parse as R
-use Rattle.kinds.specs.Parse.{value, noNumber, parseNumber, parseComplex, parseQuoted, parseObject, leaf, Parsed, encoding, refused, containerEnd, arrayEnd, start, begin, single, integral, parseBits, parseBitField, untyped, typed, singleKind, maxU64, maxU8}
+use Rattle.kinds.specs.Parse.{value, noNumber, parseNumber, parseComplex, parseQuoted, parseObject, leaf, integral, parseBits, parseBitField, untyped, typed, singleKind, maxU64, maxU8}
+use Rattle.kinds.specs.Parse.{Parsed, encoding, refused, containerEnd, arrayEnd, start, begin, single}
 use Rattle.kinds.specs.Tree.{Trees, end, node, kind, primitive, bitField, typedBitField}
 use Rattle.kinds.specs.declared.ContainerKind.{ContainerKind}
 use Rattle.kinds.specs.declared.ErrorKind.{ErrorKind}
@@ -192,21 +193,24 @@ no-text text at l = unread-end text at l ∙ sym (unread-end text (length text) 
 -- ---- What is left is the end of the text.
 
 -- The end, and at least one byte before it.
-record LaterOf (s t : List ℕ) : Type 0 where
-  rest : RestOf s t
-  some : length t < length s
+pub record LaterOf (s t : List ℕ) : Type 0 where
+  pub rest : RestOf s t
+  pub some : length t < length s
 
 later : {b : ℕ} {s t : List ℕ} → RestOf s t → LaterOf (b ∷ s) t
 later r = record { rest = rest-later r; some = omega (arith, rest-shorter r) }
 
 -- What reading without parts may give of the text `s`.
-data Simple : List ℕ → Parsed → Type 0 where
+pub data Simple : List ℕ → Parsed → Type 0 where
   is-primitive : {s t : List ℕ} (p : ℕ) → RestOf s t → Simple s (encoding (primitive p) end t)
   is-bit-field : {s t : List ℕ} (n : ℕ) → RestOf s t → Simple s (encoding (bitField n) end t)
   is-typed : {s t : List ℕ} (o n p : ℕ) → LaterOf s t → Simple s (encoding (typedBitField o n) (node (primitive p) end end) t)
   is-refused : {s t : List ℕ} (e : ErrorKind) → RestOf s t → Simple s (refused e t)
 
-simple-complex : (s : List ℕ) → Simple s (parseComplex s)
+abbrev alone : ℕ → List ℕ → Parsed
+alone p s = encoding (primitive p) end s
+
+pub simple-complex : (s : List ℕ) → Simple s (parseComplex s)
 unfolding parseComplex leaf
 simple-complex [] = is-refused _ rest-all
 simple-complex (b ∷ s) = go (eqb b 102) (eqb b 100) (eqb b 68)
@@ -214,7 +218,7 @@ simple-complex (b ∷ s) = go (eqb b 102) (eqb b 100) (eqb b 68)
     one : RestOf (b ∷ s) s
     one = rest-later rest-all
 
-    go : (x y z : Bool) → Simple (b ∷ s) (elim x [ true ↦ encoding (primitive 13) end s | false ↦ elim y [ true ↦ encoding (primitive 14) end s | false ↦ elim z [ true ↦ encoding (primitive 15) end s | false ↦ refused (UnknownAfterComplex b) (b ∷ s) ] ] ])
+    go : (x y z : Bool) → Simple (b ∷ s) (elim x [ true ↦ alone 13 s | false ↦ elim y [ true ↦ alone 14 s | false ↦ elim z [ true ↦ alone 15 s | false ↦ refused (UnknownAfterComplex b) (b ∷ s) ] ] ])
     go true y z = is-primitive _ one
     go false true z = is-primitive _ one
     go false false true = is-primitive _ one
@@ -235,7 +239,7 @@ simple-quoted (b ∷ s) = go (eqb b 34) (simple-later (simple-quoted s))
     go true h = is-primitive _ (rest-later rest-all)
     go false h = h
 
-simple-object : (s : List ℕ) → Simple s (parseObject s)
+pub simple-object : (s : List ℕ) → Simple s (parseObject s)
 unfolding parseObject leaf
 simple-object [] = is-primitive _ rest-all
 simple-object (b ∷ s) = go (eqb b 63) (eqb b 34)
@@ -274,7 +278,7 @@ simple-after r (is-bit-field n x) = is-bit-field _ (rest-of-rest r x)
 simple-after r (is-typed o n p x) = is-typed _ _ _ (record { rest = rest-of-rest r (x .rest); some = omega (arith, x .some, rest-shorter r) })
 simple-after r (is-refused e x) = is-refused _ (rest-of-rest r x)
 
-simple-number : (s : List ℕ) (q : R.Number) → LeftOf s q → Simple s (parseBits q)
+pub simple-number : (s : List ℕ) (q : R.Number) → LeftOf s q → Simple s (parseBits q)
 unfolding parseBits
 simple-number s (value n t) r = simple-after r (simple-bit-field n t)
 simple-number s (noNumber e t) r = is-refused _ r

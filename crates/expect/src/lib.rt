@@ -32,14 +32,14 @@ use kinds::TYPED_BIT_FIELD;
 use kinds::container_of;
 use kinds::is_object;
 use kinds::primitive_code;
-use parse::Number;
-use parse::SkippedFields;
-use parse::parse_u8;
-use parse::parse_u64;
-use parse::skip_fields;
-use parse::strip_leading_qualifiers;
+use numbers::Number;
+use numbers::parse_u8;
+use numbers::parse_u64;
+use parser::strip_leading_qualifiers;
 use sheet::Checked;
 use sheet::check;
+use skip::SkippedFields;
+use skip::skip_fields;
 
 // The place after what was taken, or no match.
 enum Expected {
@@ -89,11 +89,11 @@ fn expect_u64(n: u64, text: &[u8], at: usize) -> Expected
     requires { ⌜ at ≤ length (now text) ⌝ }
     ensures { λ r. ⌜ ExpectedIs (now (text .entry)) r (expectNumber maxU64 n (drop at (now (text .entry)))) ⌝ }
 {
-    match parse_u64(&text[at..]) {
+    match parse_u64(text, at) {
         Number::Refused(_, _) => Expected::Mismatch,
         Number::Value(m, to) => {
             if m == n {
-                return Expected::Remaining(at + to);
+                return Expected::Remaining(to);
             }
             Expected::Mismatch
         }
@@ -104,11 +104,11 @@ fn expect_u8(n: u64, text: &[u8], at: usize) -> Expected
     requires { ⌜ at ≤ length (now text) ⌝ }
     ensures { λ r. ⌜ ExpectedIs (now (text .entry)) r (expectNumber maxU8 n (drop at (now (text .entry)))) ⌝ }
 {
-    match parse_u8(&text[at..]) {
+    match parse_u8(text, at) {
         Number::Refused(_, _) => Expected::Mismatch,
         Number::Value(m, to) => {
             if m == n {
-                return Expected::Remaining(at + to);
+                return Expected::Remaining(to);
             }
             Expected::Mismatch
         }
@@ -271,9 +271,9 @@ fn open_fields(
     };
     if count == 0 {
         // An empty container matches whatever can be read up to its closer.
-        return match skip_fields(&text[next..], kind) {
+        return match skip_fields(text, next, kind) {
             SkippedFields::Refused => Opened::Mismatch,
-            SkippedFields::To(to) => Opened::Taken(next + to),
+            SkippedFields::To(to) => Opened::Taken(to),
         };
     }
     match expect_byte(kind.end_byte(), text, next) {

@@ -116,14 +116,14 @@ module _ (text : List ℕ) (at : ℕ) (k : ContainerKind) (r : ℕ) (e : NameEnd
 -- ---- What an answer says of the text.
 
 -- The name found after `acc` goes on with the first bytes of `s`, and what follows is unread.
-record Found (acc s m t : List ℕ) : Type 0 where
-  size : ℕ
-  inside : size ≤ length s
-  is : m ≡ acc ++ take size s
-  some : 0 < length m
-  after : RestOf (drop size s) t
+pub record Found (acc s m t : List ℕ) : Type 0 where
+  pub size : ℕ
+  pub inside : size ≤ length s
+  pub is : m ≡ acc ++ take size s
+  pub some : 0 < length m
+  pub after : RestOf (drop size s) t
 
-abbrev NamedOf : List ℕ → List ℕ → Named → Type 0
+abbrev pub NamedOf : List ℕ → List ℕ → Named → Type 0
 NamedOf acc s (named m t) = Found acc s m t
 NamedOf acc s (unnamed e t) = RestOf s t
 
@@ -145,7 +145,7 @@ found-here k acc s t r = go (verifyName acc) refl
     go true e = record { size = 0; inside = omega arith; is = sym (append-nil acc); some = good-some acc e; after = r }
     go false e = rest-all
 
-name-found : (k : ContainerKind) (acc s : List ℕ) → NamedOf acc s (parseName k acc s)
+pub name-found : (k : ContainerKind) (acc s : List ℕ) → NamedOf acc s (parseName k acc s)
 unfolding parseName
 name-found k acc [] = rest-all
 name-found k acc (b ∷ s) = go (eqb b 61) (eqb b (endByte k)) (found-later acc b s (parseName k (acc ++ (b ∷ [])) s) (name-found k (acc ++ (b ∷ [])) s))
