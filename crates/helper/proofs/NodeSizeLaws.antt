@@ -19,7 +19,8 @@ use Rattle.kinds.specs.declared.NestingLevel.{NestingLevel}
 use Rattle.kinds.specs.declared.NestingLevel.the-variants.{Within, Bottom}
 use Rattle.kinds.proofs.KindLaws.{included, dropped}
 use Rattle.kinds.proofs.SheetLaws.{arity-low, trees-step}
-use Rattle.kinds.proofs.NodeLaws.{node-arity, node-inner, no-trees, child-count, node-child, first-some, first-within, first-node, other-trees, inner-count, inner-end, inner-trees, label-primitive, label-bits, label-typed, label-pointer, label-atomic, label-array, label-struct, label-union, label-none}
+use Rattle.kinds.proofs.NodeLaws.{node-arity, node-inner, no-trees, child-count, node-child, first-some, first-within, first-node, other-trees, inner-count, inner-end, inner-trees, label-primitive}
+use Rattle.kinds.proofs.NodeLaws.{label-bits, label-typed, label-pointer, label-atomic, label-array, label-struct, label-union, label-none}
 use Rattle.helper.specs.Measure.{clip, joinMeasured, join, fold, holding, isLeaf, leafSize, sizeAt}
 use Rattle.helper.specs.declared.Measured.{Measured}
 use Rattle.helper.specs.declared.Measured.the-variants.{Bytes}
@@ -54,7 +55,8 @@ module _ (s w : List ℕ) (at : ℕ) where
   unfolding sizeAt nodeSize fold
   size-container v p = go (eqb (kindAt w at) 29) refl (eqb (kindAt w at) 30) refl p
     where
-      go : (t : Bool) → eqb (kindAt w at) 29 ≡ t → (u : Bool) → eqb (kindAt w at) 30 ≡ u → (t || u) ≡ true → sizeAt s w at v ≡ cond (showsFields v) (cond (eqb (kindAt w at) 29) (sum (sizes Within (trees s w (countAt w at - 1) (at + 4)))) (largest (sizes Within (trees s w (countAt w at - 1) (at + 4))))) none
+      go : (t : Bool) → eqb (kindAt w at) 29 ≡ t → (u : Bool) → eqb (kindAt w at) 30 ≡ u → (t || u) ≡ true → sizeAt s w at v
+          ≡ cond (showsFields v) (cond (eqb (kindAt w at) 29) (sum (sizes Within (trees s w (countAt w at - 1) (at + 4)))) (largest (sizes Within (trees s w (countAt w at - 1) (at + 4))))) none
       go true e u d r = rw (label-struct s (kindAt w at) (firstAt w at) (secondAt w at) (eqb-true (kindAt w at) 29 e), e)
       go false e true d r = rw (label-union s (kindAt w at) (firstAt w at) (secondAt w at) (eqb-true (kindAt w at) 30 d), e)
       go false e false d r = absurd (false≢true r)
@@ -177,7 +179,8 @@ module _ (w : List ℕ) (j : ℕ) where
         ∙ fold-run f (suc i - countAt w at) (at + 4 * countAt w at) (omega arith) (other-trees w at (suc i) h (omega arith))
         ∙ ap (λ (x : ℕ). join k (fold k (sizes v (trees s w (suc i - countAt w at) (at + 4 * countAt w at)))) (fold k (sizes v (trees s w j x)))) (omega arith))
         ∙ sym (join-assoc k (sizeAt s w at v) (fold k (sizes v (trees s w (suc i - countAt w at) (at + 4 * countAt w at)))) (fold k (sizes v (trees s w j (at + 4 * suc i)))))
-        ∙ ap (λ (x : Option ℕ). join k x (fold k (sizes v (trees s w j (at + 4 * suc i))))) (sym (ap (fold k) (sizes-step s w at v (suc i) a b) ∙ fold-cons k (sizeAt s w at v) (sizes v (trees s w (suc i - countAt w at) (at + 4 * countAt w at)))))
+        ∙ ap (λ (x : Option ℕ). join k x (fold k (sizes v (trees s w j (at + 4 * suc i)))))
+        (sym (ap (fold k) (sizes-step s w at v (suc i) a b) ∙ fold-cons k (sizeAt s w at v) (sizes v (trees s w (suc i - countAt w at) (at + 4 * countAt w at)))))
 
 module _ (w : List ℕ) (at n : ℕ) (h : TreesAt w at n) (p : 0 < n) where
   fold-inner : (s : List ℕ) → isContainerKind (kindAt w at) ≡ true → fold (kindAt w at) (sizes Within (trees s w n at)) ≡ fold (kindAt w at) (sizes Within (trees s w (n - 1) (at + 4)))
@@ -217,7 +220,8 @@ module _ {k : ℕ} {v : NestingLevel} {w : List ℕ} {at n : ℕ} {all : Measure
 
     -- a code, or a bitfield without a type, is one node
     pub gathered-code : kindAt w at < 25 → (x : Measured) → ((s : List ℕ) → x ≡ clip (sizeAt s w at v)) → {y : Measured} → y ≡ joinMeasured k all x → Gathered k v w (at + 4) (n - 1) y total
-    gathered-code lo x e {y} d = subst (λ (c : ℕ). Gathered k v w (at + 4 * c) (n - c) y total) (eqb-true (countAt w at) 1 (sym (arity-low (kindAt w at) (countAt w at) (countAt w (at + 4)) lo) ∙ node-arity w at gathered-node)) (gathered-turn x e d)
+    gathered-code lo x e {y} d = subst (λ (c : ℕ). Gathered k v w (at + 4 * c) (n - c) y total)
+        (eqb-true (countAt w at) 1 (sym (arity-low (kindAt w at) (countAt w at) (countAt w (at + 4)) lo) ∙ node-arity w at gathered-node)) (gathered-turn x e d)
 
     -- a container of the same kind: its fields stand in its place
     pub gathered-inner : isContainerKind k ≡ true → kindAt w at ≡ k → v ≡ Within → Gathered k v w (at + 4) (n - 1) all total
@@ -227,4 +231,5 @@ module _ {k : ℕ} {v : NestingLevel} {w : List ℕ} {at n : ℕ} {all : Measure
     }
       where
         same : (s : List ℕ) → fold k (sizes v (trees s w n at)) ≡ fold k (sizes v (trees s w (n - 1) (at + 4)))
-        same s = subst (λ (j : ℕ). fold j (sizes v (trees s w n at)) ≡ fold j (sizes v (trees s w (n - 1) (at + 4)))) e (subst (λ (u : NestingLevel). fold (kindAt w at) (sizes u (trees s w n at)) ≡ fold (kindAt w at) (sizes u (trees s w (n - 1) (at + 4)))) (sym l) (fold-inner w at n (g .there) p s (ap isContainerKind e ∙ c)))
+        same s = subst (λ (j : ℕ). fold j (sizes v (trees s w n at)) ≡ fold j (sizes v (trees s w (n - 1) (at + 4)))) e
+            (subst (λ (u : NestingLevel). fold (kindAt w at) (sizes u (trees s w n at)) ≡ fold (kindAt w at) (sizes u (trees s w (n - 1) (at + 4)))) (sym l) (fold-inner w at n (g .there) p s (ap isContainerKind e ∙ c)))

@@ -80,8 +80,22 @@ module _ (s : List ℕ) (a b p e : ℕ) (pe : p ≤ e) (es : e ≤ length s) whe
           (λ g. record { the-kind = refl; the-first = zeros true g .0; the-second = zeros true g .1; the-next = plain p; the-name = none-stands; the-end = over })
           (λ g. record { the-kind = refl; the-first = zeros true g .0; the-second = zeros true g .1; the-next = plain p; the-name = none-stands; the-end = over })
           (λ g. record { the-kind = refl; the-first = refl; the-second = sym (eqb-true b 0 (both-right (leb a maxU64) (eqb b 0) g)); the-next = plain p; the-name = none-stands; the-end = over })
-          (λ g. record { the-kind = refl; the-first = sym (named g .0); the-second = name-length (named g .0) (named g .1); the-next = ap (λ (n : ℕ). p + n) (sym (name-length (named g .0) (named g .1))); the-name = subst (λ (n : ℕ). Stands s p (take b (drop n s))) (sym (named g .0)) (take-stands s p b); the-end = subst (λ (n : ℕ). p + n ≤ e) (sym (name-length (named g .0) (named g .1))) (named g .1) })
-          (λ g. record { the-kind = refl; the-first = sym (named g .0); the-second = name-length (named g .0) (named g .1); the-next = ap (λ (n : ℕ). p + n) (sym (name-length (named g .0) (named g .1))); the-name = subst (λ (n : ℕ). Stands s p (take b (drop n s))) (sym (named g .0)) (take-stands s p b); the-end = subst (λ (n : ℕ). p + n ≤ e) (sym (name-length (named g .0) (named g .1))) (named g .1) })
+          (λ g. record {
+            the-kind = refl;
+            the-first = sym (named g .0);
+            the-second = name-length (named g .0) (named g .1);
+            the-next = ap (λ (n : ℕ). p + n) (sym (name-length (named g .0) (named g .1)));
+            the-name = subst (λ (n : ℕ). Stands s p (take b (drop n s))) (sym (named g .0)) (take-stands s p b);
+            the-end = subst (λ (n : ℕ). p + n ≤ e) (sym (name-length (named g .0) (named g .1))) (named g .1);
+          })
+          (λ g. record {
+            the-kind = refl;
+            the-first = sym (named g .0);
+            the-second = name-length (named g .0) (named g .1);
+            the-next = ap (λ (n : ℕ). p + n) (sym (name-length (named g .0) (named g .1)));
+            the-name = subst (λ (n : ℕ). Stands s p (take b (drop n s))) (sym (named g .0)) (take-stands s p b);
+            the-end = subst (λ (n : ℕ). p + n ≤ e) (sym (name-length (named g .0) (named g .1))) (named g .1);
+          })
           (λ g. record { the-kind = refl; the-first = zeros true g .0; the-second = zeros true g .1; the-next = plain p; the-name = none-stands; the-end = over })
           k (leb-false k 23 q) (numbers-kind k a b p e h) h
 
@@ -195,7 +209,10 @@ module _ (s w : List ℕ) (e : ℕ) (es : e ≤ length s) where
       let e₁ : at + 4 * countAt w at + 4 * (n - countAt w at) ≡ at + 4 * n = omega arith in
       let e₂ : p + length (name l) + length (namesOf cs) + length (namesOf ts) ≡ p + length (name l ++ (namesOf cs ++ namesOf ts)) = omega arith in
       record {
-        stands = subst (λ (j : ℕ). Stands w at (kind l ∷ first l p ∷ second l ∷ j ∷ (xs ++ ys))) c (subst (λ (j : ℕ). Stands w at (kind l ∷ first l p ∷ j ∷ countAt w at ∷ (xs ++ ys))) (sym b) (subst (λ (j : ℕ). Stands w at (kind l ∷ j ∷ secondAt w at ∷ countAt w at ∷ (xs ++ ys))) (sym a) (subst (λ (j : ℕ). Stands w at (j ∷ firstAt w at ∷ secondAt w at ∷ countAt w at ∷ (xs ++ ys))) (sym k) (four-words w at (xs ++ ys) (omega arith) after))));
+        stands = subst (λ (j : ℕ). Stands w at (kind l ∷ first l p ∷ second l ∷ j ∷ (xs ++ ys))) c
+            (subst (λ (j : ℕ). Stands w at (kind l ∷ first l p ∷ j ∷ countAt w at ∷ (xs ++ ys))) (sym b)
+            (subst (λ (j : ℕ). Stands w at (kind l ∷ j ∷ secondAt w at ∷ countAt w at ∷ (xs ++ ys))) (sym a)
+            (subst (λ (j : ℕ). Stands w at (j ∷ firstAt w at ∷ secondAt w at ∷ countAt w at ∷ (xs ++ ys))) (sym k) (four-words w at (xs ++ ys) (omega arith) after))));
         names = stands-append s p (name l) (namesOf cs ++ namesOf ts) nm (stands-append s (p + length (name l)) (namesOf cs) (namesOf ts) (x .names) (y .names));
         ok = rw (o, x .ok, y .ok);
         cnt = omega arith;
@@ -206,7 +223,8 @@ module _ (s w : List ℕ) (e : ℕ) (es : e ≤ length s) where
   laid : (f n at p m : ℕ) → n ≤ f → TreesAt w at n → p ≤ e → packed w (n + m) at p e ≡ true → Laid s w e (trees s w n at) n at p m
   laid zero n at p m nf h pe g =
       let z : n ≡ 0 = omega arith in
-      subst (λ (j : ℕ). Laid s w e (trees s w j at) j at p m) (sym z) (subst (λ (t : Trees). Laid s w e t 0 at p m) (sym (no-trees s w 0 at (omega arith))) (laid-none at p m pe (subst (λ (j : ℕ). packed w j at p e ≡ true) (zero-left n m z) g)))
+      subst (λ (j : ℕ). Laid s w e (trees s w j at) j at p m) (sym z)
+      (subst (λ (t : Trees). Laid s w e t 0 at p m) (sym (no-trees s w 0 at (omega arith))) (laid-none at p m pe (subst (λ (j : ℕ). packed w j at p e ≡ true) (zero-left n m z) g)))
     where
       zero-left : (a b : ℕ) → a ≡ 0 → a + b ≡ b
       zero-left a b q = omega arith
@@ -222,12 +240,15 @@ module _ (s w : List ℕ) (e : ℕ) (es : e ≤ length s) where
       let y = says s (firstAt w at) (secondAt w at) p e pe es (kindAt w at) num in
       let e₁ : suc n + m - 1 ≡ countAt w at - 1 + (suc n - countAt w at + m) = omega arith in
       let e₂ : at + 4 + 4 * (countAt w at - 1) ≡ at + 4 * countAt w at = omega arith in
-      let q₁ : packed w (countAt w at - 1 + (suc n - countAt w at + m)) (at + 4) (p + length (name (labelAt s w at))) e ≡ true = subst (λ (j : ℕ). packed w j (at + 4) (p + length (name (labelAt s w at))) e ≡ true) e₁ (subst (λ (j : ℕ). packed w (suc n + m - 1) (at + 4) j e ≡ true) (y .the-next) (packed-rest w (suc n + m) at p e (omega arith) g)) in
+      let q₁ : packed w (countAt w at - 1 + (suc n - countAt w at + m)) (at + 4) (p + length (name (labelAt s w at))) e
+      ≡ true = subst (λ (j : ℕ). packed w j (at + 4) (p + length (name (labelAt s w at))) e ≡ true) e₁ (subst (λ (j : ℕ). packed w (suc n + m - 1) (at + 4) j e ≡ true) (y .the-next) (packed-rest w (suc n + m) at p e (omega arith) g)) in
       let kids = laid f (countAt w at - 1) (at + 4) (p + length (name (labelAt s w at))) (suc n - countAt w at + m) (omega arith) (node-inner w at hn) (y .the-end) q₁ in
       let q₂ = subst (λ (j : ℕ). packed w (suc n - countAt w at + m) j (p + length (name (labelAt s w at)) + length (namesOf (trees s w (countAt w at - 1) (at + 4)))) e ≡ true) e₂ (kids .on) in
-      let rest = laid f (suc n - countAt w at) (at + 4 * countAt w at) (p + length (name (labelAt s w at)) + length (namesOf (trees s w (countAt w at - 1) (at + 4)))) m (omega arith) (other-trees w at (suc n) h (omega arith)) (kids .le) q₂ in
+      let rest = laid f (suc n - countAt w at) (at + 4 * countAt w at) (p + length (name (labelAt s w at)) + length (namesOf (trees s w (countAt w at - 1) (at + 4)))) m (omega arith)
+      (other-trees w at (suc n) h (omega arith)) (kids .le) q₂ in
       subst (λ (t : Trees). Laid s w e t (suc n) at p m) (sym (trees-step s w (suc n) at c₁ c₂))
-      (laid-node (labelAt s w at) (trees s w (countAt w at - 1) (at + 4)) (trees s w (suc n - countAt w at) (at + 4 * countAt w at)) (suc n) at p m hn (y .the-kind) (y .the-first) (y .the-second) (ok-node s w at hn p e num) (y .the-name) c₁ c₂ kids rest)
+      (laid-node (labelAt s w at) (trees s w (countAt w at - 1) (at + 4)) (trees s w (suc n - countAt w at) (at + 4 * countAt w at)) (suc n) at p m hn (y .the-kind) (y .the-first) (y .the-second)
+      (ok-node s w at hn p e num) (y .the-name) c₁ c₂ kids rest)
 
 header-stands : {m : ℕ} (w : List ℕ) (t : Trees) → Header w m → count t ≡ getD w 0 0 → length (namesOf t) ≡ getD w 2 0 → Stands w 4 (nodes t 0) → Stands w 0 (sheetOf t)
 unfolding sheetOf headerOf

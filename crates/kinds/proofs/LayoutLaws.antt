@@ -104,7 +104,8 @@ module _ (s w : List ℕ) where
       let e₁ : countAt w at - 1 ≡ count cs = omega arith in
       let e₂ : suc (count cs + count ts) - countAt w at ≡ count ts = omega arith in
       let e₃ : at + 4 * countAt w at ≡ at + 4 + length xs = omega arith in
-      let lab : labelAt s w at ≡ l = ap (λ (x : ℕ). label s x (firstAt w at) (secondAt w at)) k ∙ ap (λ (x : ℕ). label s (kind l) x (secondAt w at)) a ∙ ap (λ (x : ℕ). label s (kind l) (first l p) x) b ∙ label-back s l cs p o₁ (stands-first s p (name l) (namesOf cs ++ namesOf ts) n) in
+      let lab : labelAt s w at ≡ l = ap (λ (x : ℕ). label s x (firstAt w at) (secondAt w at)) k ∙ ap (λ (x : ℕ). label s (kind l) x (secondAt w at)) a
+      ∙ ap (λ (x : ℕ). label s (kind l) (first l p) x) b ∙ label-back s l cs p o₁ (stands-first s p (name l) (namesOf cs ++ namesOf ts) n) in
       trees-step s w (suc (count cs + count ts)) at (omega arith) (omega arith)
       ∙ ap (λ (x : Label). node x (trees s w (countAt w at - 1) (at + 4)) (trees s w (suc (count cs + count ts) - countAt w at) (at + 4 * countAt w at))) lab
       ∙ ap₂ (node l) (ap (λ (j : ℕ). trees s w j (at + 4)) e₁ ∙ kids) (ap₂ (trees s w) e₂ e₃ ∙ rest)

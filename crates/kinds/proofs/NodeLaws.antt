@@ -114,7 +114,16 @@ module _ (s : List ℕ) (k a b : ℕ) where
 
   pub label-none : 30 < k → label s k a b ≡ T.none
   unfolding label
-  label-none p = rw (lt-leb k 23 (omega arith), ne-eqb k 24 (λ e. omega arith), ne-eqb k 25 (λ e. omega arith), ne-eqb k 26 (λ e. omega arith), ne-eqb k 27 (λ e. omega arith), ne-eqb k 28 (λ e. omega arith), ne-eqb k 29 (λ e. omega arith), ne-eqb k 30 (λ e. omega arith))
+  label-none p = rw (
+    lt-leb k 23 (omega arith),
+    ne-eqb k 24 (λ e. omega arith),
+    ne-eqb k 25 (λ e. omega arith),
+    ne-eqb k 26 (λ e. omega arith),
+    ne-eqb k 27 (λ e. omega arith),
+    ne-eqb k 28 (λ e. omega arith),
+    ne-eqb k 29 (λ e. omega arith),
+    ne-eqb k 30 (λ e. omega arith),
+  )
 
 pub not-container : (k : ℕ) → isContainerKind k ≡ false → (k ≡ 29 → ⊥) × (k ≡ 30 → ⊥)
 not-container k h = (λ e. false≢true (sym h ∙ ap isContainerKind e), λ e. false≢true (sym h ∙ ap isContainerKind e))
@@ -215,7 +224,9 @@ packed-walk w m (suc n) at s e le h zero p =
       name = λ k. let a = container-first (kindAt w at) (firstAt w at) (secondAt w at) s e k q in let b = container-fits (kindAt w at) (firstAt w at) (secondAt w at) s e k q in omega arith;
     })
 packed-walk w m (suc n) at s e le h (suc i) p =
-    subst (KindAndName w m) (omega arith) (packed-walk w m n (at + 4) (nextName (kindAt w at) (secondAt w at) s) e le (subst (λ (j : ℕ). packed w j (at + 4) (nextName (kindAt w at) (secondAt w at) s) e ≡ true) (omega arith) (packed-rest w (suc n) at s e (omega arith) h)) i (omega arith))
+    subst (KindAndName w m) (omega arith)
+    (packed-walk w m n (at + 4) (nextName (kindAt w at) (secondAt w at) s) e le
+    (subst (λ (j : ℕ). packed w j (at + 4) (nextName (kindAt w at) (secondAt w at) s) e ≡ true) (omega arith) (packed-rest w (suc n) at s e (omega arith) h)) i (omega arith))
 
 -- A node with one child is followed by that child: what it holds and the trees after it are trees side by side.
 pub held-trees : (w : List ℕ) (at n : ℕ) → TreesAt w at n → 0 < n → 25 ≤ kindAt w at → kindAt w at ≤ 28 → TreesAt w (at + 4) (n - 1)

@@ -46,7 +46,8 @@ module _ (w : List ℕ) where
   nest-fuel zero g (suc n) at p q = absurd (omega arith)
   nest-fuel (suc f) zero (suc n) at p q = absurd (omega arith)
   nest-fuel (suc f) (suc g) (suc n) at p q =
-      ap₂ (λ (a b : Bool). leb 1 (countAt w at) && (leb (countAt w at) (suc n) && (arity (kindAt w at) (countAt w at) (countAt w (at + 4)) && (a && b)))) (nest-fuel f g (below w n at) (at + 4) (omega arith) (omega arith)) (nest-fuel f g (n - below w n at) (at + 4 + 4 * below w n at) (omega arith) (omega arith))
+      ap₂ (λ (a b : Bool). leb 1 (countAt w at) && (leb (countAt w at) (suc n) && (arity (kindAt w at) (countAt w at) (countAt w (at + 4)) && (a && b))))
+      (nest-fuel f g (below w n at) (at + 4) (omega arith) (omega arith)) (nest-fuel f g (n - below w n at) (at + 4 + 4 * below w n at) (omega arith) (omega arith))
 
   pub nests-step : (n at : ℕ) → 1 ≤ countAt w at → countAt w at ≤ n → nests w n at ≡ (arity (kindAt w at) (countAt w at) (countAt w (at + 4)) && (nests w (countAt w at - 1) (at + 4) && nests w (n - countAt w at) (at + 4 * countAt w at)))
   unfolding nests nest

@@ -58,7 +58,8 @@ module _ (s w : List ℕ) where
       let i : at + 4 * countAt w at ≡ at + 4 + 4 * (countAt w at - 1) = omega arith in
       ap goodNames (trees-step s w (suc n) at a b)
       ∙ ap (λ (x : Bool). goodName (labelAt s w at) && x)
-      (ap₂ _&&_ (names-tree f (countAt w at - 1) (at + 4) (omega arith) (node-inner w at (first-node w at (suc n) h (omega arith)))) (names-tree f (suc n - countAt w at) (at + 4 * countAt w at) (omega arith) (other-trees w at (suc n) h (omega arith)))
+      (ap₂ _&&_ (names-tree f (countAt w at - 1) (at + 4) (omega arith) (node-inner w at (first-node w at (suc n) h (omega arith))))
+      (names-tree f (suc n - countAt w at) (at + 4 * countAt w at) (omega arith) (other-trees w at (suc n) h (omega arith)))
       ∙ ap (λ (j : ℕ). namesGood s w (countAt w at - 1) (at + 4) && namesGood s w (suc n - countAt w at) j) i
       ∙ sym (names-split (countAt w at - 1) (suc n - countAt w at) (at + 4))
       ∙ ap (λ (j : ℕ). namesGood s w j (at + 4)) d)
@@ -101,7 +102,8 @@ module _ (words names : List ℕ) where
         rw (h, eq-eqb (countAt (nodeWords words) 0) (getD words 0 0) c, order-packed names (nodeWords words) (getD words 2 0) (getD words 0 0) 0 0 true)
         (go (nests (nodeWords words) (getD words 0 0) 0) refl (inOrder names (nodeWords words) (getD words 0 0) 0 0 (getD words 2 0) true) refl)
       where
-        go : (t : Bool) → nests (nodeWords words) (getD words 0 0) 0 ≡ t → (x : Walked) → inOrder names (nodeWords words) (getD words 0 0) 0 0 (getD words 2 0) true ≡ x → cond (endsAt (getD words 2 0) x && t) (cond (goodNames (trees names (nodeWords words) (getD words 0 0) 0)) Good BadName) NotASheet ≡ answer (getD words 2 0) (cond t x Broken)
+        go : (t : Bool) → nests (nodeWords words) (getD words 0 0) 0 ≡ t → (x : Walked) → inOrder names (nodeWords words) (getD words 0 0) 0 0 (getD words 2 0) true ≡ x
+            → cond (endsAt (getD words 2 0) x && t) (cond (goodNames (trees names (nodeWords words) (getD words 0 0) 0)) Good BadName) NotASheet ≡ answer (getD words 2 0) (cond t x Broken)
         go true n Broken o = refl
         go true n (Next q f) o =
             let r : TreesAt (nodeWords words) 0 (getD words 0 0) = record { room = nodes-room; nested = n } in
@@ -117,7 +119,8 @@ module _ (words names : List ℕ) where
       verdict-pass c x h = rw (h, part) (sym (verdict-walked (getD-drop 4 words 3 0 ∙ c)))
 
     -- a lone code
-    pub verdict-code : getD words 0 0 ≡ 1 → getD words 7 0 ≡ getD words 0 0 → getD words 4 0 < 24 → (x : Walked) → x ≡ cond (eqb (getD words 5 0) 0 && eqb (getD words 6 0) 0) (Next 0 true) Broken → answer (getD words 2 0) x ≡ verdictOf words names
+    pub verdict-code : getD words 0 0 ≡ 1 → getD words 7 0 ≡ getD words 0 0 → getD words 4 0 < 24 → (x : Walked) → x ≡ cond (eqb (getD words 5 0) 0 && eqb (getD words 6 0) 0) (Next 0 true) Broken
+        → answer (getD words 2 0) x ≡ verdictOf words names
     verdict-code n c k x h = verdict-pass (nodeWords words) refl c x (h ∙ sym code)
       where
         code : walked names (nodeWords words) (getD words 0 0) 0 0 (getD words 2 0) true ≡ cond (eqb (getD words 5 0) 0 && eqb (getD words 6 0) 0) (Next 0 true) Broken

@@ -70,7 +70,16 @@ module _ (v x s y : List ℕ) where
   read-beyond (suc f) zero at h w = refl
   read-beyond (suc f) (suc n) at h w =
       let i = walk-inner v (length s) at (suc n) w in
-      rw (front v x at (omega arith), front v x (at + 1) (omega arith), front v x (at + 2) (omega arith), front v x (at + 3) (omega arith), label-beyond s y (kindAt v at) (firstAt v at) (secondAt v at) (walk-here v (length s) at (suc n) w (omega arith) .name), read-beyond f (below v n at) (at + 4) (omega arith) (i (below v n at) (omega arith)), read-beyond f (n - below v n at) (at + 4 + 4 * below v n at) (omega arith) (walk-rest v (length s) (at + 4) n (i n (omega arith)) (below v n at) (omega arith)))
+      rw (
+        front v x at (omega arith),
+        front v x (at + 1) (omega arith),
+        front v x (at + 2) (omega arith),
+        front v x (at + 3) (omega arith),
+        label-beyond s y (kindAt v at) (firstAt v at) (secondAt v at) (walk-here v (length s) at (suc n) w (omega arith) .name),
+        read-beyond f (below v n at) (at + 4) (omega arith) (i (below v n at) (omega arith)),
+        read-beyond f (n - below v n at) (at + 4 + 4 * below v n at) (omega arith)
+            (walk-rest v (length s) (at + 4) n (i n (omega arith)) (below v n at) (omega arith)),
+      )
 
 -- ---- The lists. `w` has the words that its header says are used and `s` the name bytes; `x` and `y` stand behind them.
 
@@ -80,7 +89,18 @@ module _ (w s x y : List ℕ) (head : 4 ≤ length w) (words : getD w 3 0 ≤ le
   header-beyond =
       let a = length-append w x in
       let b = length-append s y in
-      rw (front w x 0 (omega arith), front w x 1 (omega arith), front w x 2 (omega arith), front w x 3 (omega arith), le-leb 4 (length (w ++ x)) (omega arith), le-leb 4 (length w) head, le-leb (getD w 3 0) (length (w ++ x)) (omega arith), le-leb (getD w 3 0) (length w) words, le-leb (getD w 2 0) (length (s ++ y)) (omega arith), le-leb (getD w 2 0) (length s) bytes)
+      rw (
+        front w x 0 (omega arith),
+        front w x 1 (omega arith),
+        front w x 2 (omega arith),
+        front w x 3 (omega arith),
+        le-leb 4 (length (w ++ x)) (omega arith),
+        le-leb 4 (length w) head,
+        le-leb (getD w 3 0) (length (w ++ x)) (omega arith),
+        le-leb (getD w 3 0) (length w) words,
+        le-leb (getD w 2 0) (length (s ++ y)) (omega arith),
+        le-leb (getD w 2 0) (length s) bytes,
+      )
 
   nodes-beyond : nodeWords (w ++ x) ≡ nodeWords w ++ x
   nodes-beyond = drop-append-le 4 w x head
@@ -96,7 +116,9 @@ module _ (w s x y : List ℕ) (head : 4 ≤ length w) (words : getD w 3 0 ≤ le
       same-when true b c h = h refl
       same-when false b c h = refl
 
-      nodes : header w (length s) ≡ true → (packed (nodeWords w ++ x) (getD w 0 0) 0 0 (getD w 2 0) && (eqb (countAt (nodeWords w ++ x) 0) (getD w 0 0) && nest (nodeWords w ++ x) (getD w 0 0) (getD w 0 0) 0)) ≡ (packed (nodeWords w) (getD w 0 0) 0 0 (getD w 2 0) && (eqb (countAt (nodeWords w) 0) (getD w 0 0) && nest (nodeWords w) (getD w 0 0) (getD w 0 0) 0))
+      nodes : header w (length s) ≡ true
+          → (packed (nodeWords w ++ x) (getD w 0 0) 0 0 (getD w 2 0) && (eqb (countAt (nodeWords w ++ x) 0) (getD w 0 0) && nest (nodeWords w ++ x) (getD w 0 0) (getD w 0 0) 0))
+          ≡ (packed (nodeWords w) (getD w 0 0) 0 0 (getD w 2 0) && (eqb (countAt (nodeWords w) 0) (getD w 0 0) && nest (nodeWords w) (getD w 0 0) (getD w 0 0) 0))
       nodes h =
           let d = header-says w (length s) h in
           let r = nodes-room d in

@@ -112,7 +112,8 @@ returns-2 c =
 returns-3 : tie.Need-returns-3
 returns-3 c =
     let a = c .before .before .before .before .before .before .before .before .before .before .before .before .before .before .args in
-    let g = given-nodes-both (a .aw .now) (a .an .now) (a .bw .now) (a .bn .now) (c .before .before .before .before .before .before .before .before .before .check-both .ensures .1) (c .before .before .before .before .before .before .before .f .given .1) in
+    let g = given-nodes-both (a .aw .now) (a .an .now) (a .bw .now) (a .bn .now) (c .before .before .before .before .before .before .before .before .before .check-both .ensures .1)
+    (c .before .before .before .before .before .before .before .f .given .1) in
     compare-nodes (a .all) _ _ _ _ (nodes-part (g .0)) (nodes-part (g .1)) (c .before .before .before .before .before .new .ensures) (rw (whole, whole) at (c .compare-fields .ensures))
 
 pub compare-encodings-spec : {M : Type 1} → statement M

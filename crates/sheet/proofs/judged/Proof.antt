@@ -64,7 +64,8 @@ returns-3 : tie.Need-returns-3
 returns-3 c =
     let p = passed (c .before .before .before .before .before .before .before .before .before .header-ok .ensures) (c .before .before .before .before .before .before .before .before .if1 .left) in
     c .answer-of .ensures
-    ∙ verdict-pass _ _ p _ (part-rest (c .before .before .before .before .before .before .before .before .before .before .before .before .args .words .now) 4) (c .before .before .before .before .before .if2 .left) _ (rw whole at (c .before .check-nodes .ensures))
+    ∙ verdict-pass _ _ p _ (part-rest (c .before .before .before .before .before .before .before .before .before .before .before .before .args .words .now) 4)
+    (c .before .before .before .before .before .if2 .left) _ (rw whole at (c .before .check-nodes .ensures))
 
 pub judged-spec : {M : Type 1} → statement M
 judged-spec =
