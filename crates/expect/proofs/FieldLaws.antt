@@ -61,7 +61,8 @@ module _ (k : ℕ) (h : codeByte k ≡ 0 → ⊥) where
       go true e r = absurd (false≢true r)
       go false e r = primitive-alone k s e ∙ ap (λ (c : List ℕ). expectBytes c s) (same-bytes (code k) (codeByte k ∷ []) r) ∙ code-one (codeByte k) s
 
-pub code-at : (names w : List ℕ) (at : ℕ) (v : NestingLevel) (s : List ℕ) → (codeByte (kindAt w at) ≡ 0 → ⊥) → expectAt names w at v s ≡ expectByte (codeByte (kindAt w at)) s
+pub code-at : (names w : List ℕ) (at : ℕ) (v : NestingLevel) (s : List ℕ) → (codeByte (kindAt w at) ≡ 0 → ⊥) → expectAt names w at v s
+    ≡ expectByte (codeByte (kindAt w at)) s
 code-at names w at v s h =
     let k = code-low (kindAt w at) h in
     leaf-is names w at v s (omega arith) ∙ rw (le-leb (kindAt w at) 23 (omega arith)) (code-taken (kindAt w at) h s)
@@ -93,7 +94,8 @@ module _ (k : ℕ) where
       r : (26 ≤ k) × (k ≤ 27)
       r = indirection-range k h
 
-      go : (t : Bool) → eqb k 26 ≡ t → indirection (cond t Pointer Atomic) here ≡ cond t (indirection Pointer here) (cond (eqb k 27) (indirection Atomic here) here)
+      go : (t : Bool) → eqb k 26 ≡ t → indirection (cond t Pointer Atomic) here ≡ cond t (indirection Pointer here)
+          (cond (eqb k 27) (indirection Atomic here) here)
       go true e = refl
       go false e = rw (sym (ap (λ (t : Bool). t || eqb k 27) e) ∙ h)
 
@@ -126,7 +128,8 @@ resume-level v (node l cs ts) s = refl
 
 module _ (names w : List ℕ) (here v : NestingLevel) (s : List ℕ) (n at : ℕ) where
   resume-step : 1 ≤ countAt w at → countAt w at ≤ n
-      → resume here v (trees names w n at) s ≡ (expectAt names w at here s then (λ t. expectEncoding v (trees names w (n - countAt w at) (at + 4 * countAt w at)) t))
+      → resume here v (trees names w n at) s ≡ (expectAt names w at here s then
+      (λ t. expectEncoding v (trees names w (n - countAt w at) (at + 4 * countAt w at)) t))
   unfolding resume expectAt
   resume-step p q = ap (λ (x : Trees). resume here v x s) (trees-step names w n at p q)
 
@@ -172,7 +175,8 @@ module _ {v : NestingLevel} {names w text : List ℕ} {at n place : ℕ} {here :
     left-off e = left-step ∙ then-mismatch _ _ e
 
     module _ (to : ℕ) (t : to ≤ length text) where
-      pub left-more : expectAt names w at here (drop place text) ≡ remaining (drop to text) → Left v names w text (at + 4 * countAt w at) (n - countAt w at) to v q
+      pub left-more : expectAt names w at here (drop place text) ≡ remaining (drop to text)
+          → Left v names w text (at + 4 * countAt w at) (n - countAt w at) to v q
       left-more e = record {
         nodes = other-trees w at n (l .nodes) p;
         walk = walk-rest w (length names) at n (l .walk) (countAt w at) (left-bounds .within);
@@ -195,7 +199,8 @@ module _ {v : NestingLevel} {names w text : List ℕ} {at n place : ℕ} {here :
             walk = walk-inner w (length names) at n (l .walk) (n - 1) (omega arith);
             within = t;
             rest = left-step
-                ∙ ap₂ (λ (x : E.Expected) (y : Trees). x then (λ z. expectEncoding v y z)) (behind-more names w at here (drop place text) lo hi left-node (drop to text) e) (ap₂ (trees names w) (omega arith) (omega arith))
+                ∙ ap₂ (λ (x : E.Expected) (y : Trees). x then (λ z. expectEncoding v y z))
+                (behind-more names w at here (drop place text) lo hi left-node (drop to text) e) (ap₂ (trees names w) (omega arith) (omega arith))
                 ∙ sym (resume-step names w u v (drop to text) (n - 1) (at + 4) (d .some-node) (omega arith));
           }
 
@@ -225,32 +230,38 @@ module _ {v : NestingLevel} {names w text : List ℕ} {at n place : ℕ} {here :
           go true i = behind-off names w at here (drop place text) (lo i) (hi i) (prefix i e)
           go false i = code-is i ∙ e
 
-      pub left-byte : (to : ℕ) → to ≤ length text → expectByte b (drop place text) ≡ remaining (drop to text) → (x : NestingLevel) → x ≡ levelAfter (kindAt w at) v here
+      pub left-byte : (to : ℕ) → to ≤ length text → expectByte b (drop place text) ≡ remaining (drop to text) → (x : NestingLevel) → x
+          ≡ levelAfter (kindAt w at) v here
           → Left v names w text (at + 4) (n - 1) to x q
       left-byte to t e x f = subst (λ (y : NestingLevel). Left v names w text (at + 4) (n - 1) to y q) (sym f) (go (isIndirection (kindAt w at)) refl)
         where
           go : (u : Bool) → isIndirection (kindAt w at) ≡ u → Left v names w text (at + 4) (n - 1) to (levelAfter (kindAt w at) v here) q
-          go true i = subst (λ (y : NestingLevel). Left v names w text (at + 4) (n - 1) to y q) (after-indirection (kindAt w at) v here i) (left-behind to t (lo i) (hi i) (prefix i e))
+          go true i = subst (λ (y : NestingLevel). Left v names w text (at + 4) (n - 1) to y q) (after-indirection (kindAt w at) v here i)
+              (left-behind to t (lo i) (hi i) (prefix i e))
           go false i =
               let k = code-low (kindAt w at) (coded-some i) in
-              subst (λ (y : NestingLevel). Left v names w text (at + 4) (n - 1) to y q) (after-code (kindAt w at) v here i) (left-leaf to t (omega arith) (code-is i ∙ e))
+              subst (λ (y : NestingLevel). Left v names w text (at + 4) (n - 1) to y q) (after-code (kindAt w at) v here i)
+              (left-leaf to t (omega arith) (code-is i ∙ e))
 
 -- ---- What stands after a node's children.
 
-module _ (names w : List ℕ) (at : ℕ) (v : NestingLevel) (text : List ℕ) (place : ℕ) (r : Opened) (h : OpenedAt names w at v text place r) (after : X.Expected) where
-  pub after-off : r ≡ O.Mismatch → after ≡ XV.Mismatch → ExpectedIs text after (expectAt names w at v (drop place text))
-  after-off e f = subst (λ (a : X.Expected). ExpectedIs text a (expectAt names w at v (drop place text))) (sym f) (subst (λ (x : Opened). OpenedAt names w at v text place x) e h)
+module _ (names w : List ℕ) (at : ℕ) (v : NestingLevel) (text : List ℕ) (place : ℕ) (r : Opened) (h : OpenedAt names w at v text place r) (after : X.Expected)
+  where
+    pub after-off : r ≡ O.Mismatch → after ≡ XV.Mismatch → ExpectedIs text after (expectAt names w at v (drop place text))
+    after-off e f = subst (λ (a : X.Expected). ExpectedIs text a (expectAt names w at v (drop place text))) (sym f)
+        (subst (λ (x : Opened). OpenedAt names w at v text place x) e h)
 
-  pub after-whole : (to : ℕ) → r ≡ O.Taken to → after ≡ XV.Remaining to → ExpectedIs text after (expectAt names w at v (drop place text))
-  after-whole to e f = subst (λ (a : X.Expected). ExpectedIs text a (expectAt names w at v (drop place text))) (sym f) (subst (λ (x : Opened). OpenedAt names w at v text place x) e h)
+    pub after-whole : (to : ℕ) → r ≡ O.Taken to → after ≡ XV.Remaining to → ExpectedIs text after (expectAt names w at v (drop place text))
+    after-whole to e f = subst (λ (a : X.Expected). ExpectedIs text a (expectAt names w at v (drop place text))) (sym f)
+        (subst (λ (x : Opened). OpenedAt names w at v text place x) e h)
 
-  pub after-fields : (to : ℕ) (u : NestingLevel) → r ≡ O.Fields to u → (fields closed : X.Expected)
-      → ExpectedIs text fields (expectEncoding u (trees names w (countAt w at - 1) (at + 4)) (drop to text))
-      → ((q : E.Expected) → ExpectedIs text fields q → ExpectedIs text closed (q then (λ t. closing (kindAt w at) (secondAt w at) t)))
-      → after ≡ closed → ExpectedIs text after (expectAt names w at v (drop place text))
-  after-fields to u e fields closed f g d =
-      let k = subst (λ (x : Opened). OpenedAt names w at v text place x) e h in
-      subst (λ (a : X.Expected). ExpectedIs text a (expectAt names w at v (drop place text))) (sym d) (same-outcome text closed _ _ (k .0) (g _ f))
+    pub after-fields : (to : ℕ) (u : NestingLevel) → r ≡ O.Fields to u → (fields closed : X.Expected)
+        → ExpectedIs text fields (expectEncoding u (trees names w (countAt w at - 1) (at + 4)) (drop to text))
+        → ((q : E.Expected) → ExpectedIs text fields q → ExpectedIs text closed (q then (λ t. closing (kindAt w at) (secondAt w at) t)))
+        → after ≡ closed → ExpectedIs text after (expectAt names w at v (drop place text))
+    after-fields to u e fields closed f g d =
+        let k = subst (λ (x : Opened). OpenedAt names w at v text place x) e h in
+        subst (λ (a : X.Expected). ExpectedIs text a (expectAt names w at v (drop place text))) (sym d) (same-outcome text closed _ _ (k .0) (g _ f))
 
 -- The three lists, each lent as a slice of its own: the names and the text whole, and node words `w'` that are `w`.
 module _ (names w w' text : List ℕ) (n at to : ℕ) (e : w' ≡ w) where
@@ -258,13 +269,17 @@ module _ (names w w' text : List ℕ) (n at to : ℕ) (e : w' ≡ w) where
       → (TreesAt w' at n × (to ≤ length (take (length text - 0) (drop 0 text)))) × KindsAndNames w' (length (take (length names - 0) (drop 0 names))) at n
   lent-walk t l k = (
     (subst (λ (x : List ℕ). TreesAt x at n) (sym e) t, subst (λ (x : List ℕ). to ≤ length x) (sym (rest text 0)) l),
-    subst (λ (x : List ℕ). KindsAndNames x (length (take (length names - 0) (drop 0 names))) at n) (sym e) (subst (λ (x : List ℕ). KindsAndNames w (length x) at n) (sym (rest names 0)) k),
+    subst (λ (x : List ℕ). KindsAndNames x (length (take (length names - 0) (drop 0 names))) at n) (sym e)
+        (subst (λ (x : List ℕ). KindsAndNames w (length x) at n) (sym (rest names 0)) k),
   )
 
   pub lent-fields : (u : NestingLevel) (r : X.Expected)
-      → ExpectedIs (take (length text - 0) (drop 0 text)) r (expectEncoding u (trees (take (length names - 0) (drop 0 names)) w' n at) (drop to (take (length text - 0) (drop 0 text))))
+      → ExpectedIs (take (length text - 0) (drop 0 text)) r
+      (expectEncoding u (trees (take (length names - 0) (drop 0 names)) w' n at) (drop to (take (length text - 0) (drop 0 text))))
       → ExpectedIs text r (expectEncoding u (trees names w n at) (drop to text))
   lent-fields u r h =
       lent-whole text r to (λ s. expectEncoding u (trees names w n at) s)
-      (subst (λ (x : List ℕ). ExpectedIs (take (length text - 0) (drop 0 text)) r (expectEncoding u (trees names x n at) (drop to (take (length text - 0) (drop 0 text))))) e
-      (subst (λ (x : List ℕ). ExpectedIs (take (length text - 0) (drop 0 text)) r (expectEncoding u (trees x w' n at) (drop to (take (length text - 0) (drop 0 text))))) (rest names 0) h))
+      (subst (λ (x : List ℕ). ExpectedIs (take (length text - 0) (drop 0 text)) r
+      (expectEncoding u (trees names x n at) (drop to (take (length text - 0) (drop 0 text))))) e
+      (subst (λ (x : List ℕ). ExpectedIs (take (length text - 0) (drop 0 text)) r
+      (expectEncoding u (trees x w' n at) (drop to (take (length text - 0) (drop 0 text))))) (rest names 0) h))

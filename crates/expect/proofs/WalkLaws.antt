@@ -40,7 +40,8 @@ then-assoc mismatch f g = refl
 -- The first of several trees, and the others.
 module _ (names w : List ℕ) (v : NestingLevel) (s : List ℕ) where
   pub expect-trees : (n at : ℕ) → 1 ≤ countAt w at → countAt w at ≤ n
-      → expectEncoding v (trees names w n at) s ≡ (expectAt names w at v s then (λ t. expectEncoding v (trees names w (n - countAt w at) (at + 4 * countAt w at)) t))
+      → expectEncoding v (trees names w n at) s ≡ (expectAt names w at v s then
+      (λ t. expectEncoding v (trees names w (n - countAt w at) (at + 4 * countAt w at)) t))
   unfolding expectEncoding expectAt
   expect-trees n at p q = ap (λ (x : Trees). expectEncoding v x s) (trees-step names w n at p q)
 
@@ -56,15 +57,18 @@ only-child names w at v s h lo hi =
     let c = child-count w at h lo hi in
     let d = node-child w at h lo hi in
     expect-trees names w v s (countAt w at - 1) (at + 4) (d .some-node) (omega arith)
-    ∙ ap (λ (x : Trees). expectAt names w (at + 4) v s then (λ t. expectEncoding v x t)) (no-trees names w (countAt w at - 1 - countAt w (at + 4)) (at + 4 + 4 * countAt w (at + 4)) (omega arith))
+    ∙ ap (λ (x : Trees). expectAt names w (at + 4) v s then (λ t. expectEncoding v x t))
+    (no-trees names w (countAt w at - 1 - countAt w (at + 4)) (at + 4 + 4 * countAt w (at + 4)) (omega arith))
     ∙ then-nothing (expectAt names w (at + 4) v s)
 
 module _ (names w : List ℕ) (at : ℕ) (v : NestingLevel) (s : List ℕ) where
-  pub leaf-is : kindAt w at < 25 → expectAt names w at v s ≡ cond (leb (kindAt w at) 23) (expectPrimitive (kindAt w at) s) (expectByte 98 s then (λ t. expectNumber maxU8 (secondAt w at) t))
+  pub leaf-is : kindAt w at < 25 → expectAt names w at v s ≡ cond (leb (kindAt w at) 23) (expectPrimitive (kindAt w at) s)
+      (expectByte 98 s then (λ t. expectNumber maxU8 (secondAt w at) t))
   unfolding expectAt expectNode
   leaf-is p = go (leb (kindAt w at) 23) refl
     where
-      go : (t : Bool) → leb (kindAt w at) 23 ≡ t → expectAt names w at v s ≡ cond t (expectPrimitive (kindAt w at) s) (expectByte 98 s then (λ t. expectNumber maxU8 (secondAt w at) t))
+      go : (t : Bool) → leb (kindAt w at) 23 ≡ t → expectAt names w at v s ≡ cond t (expectPrimitive (kindAt w at) s)
+          (expectByte 98 s then (λ t. expectNumber maxU8 (secondAt w at) t))
       go true e = rw (label-primitive names (kindAt w at) (firstAt w at) (secondAt w at) (low e))
         where
           low : leb (kindAt w at) 23 ≡ true → kindAt w at < 24
@@ -77,14 +81,17 @@ module _ (names w : List ℕ) (at : ℕ) (v : NestingLevel) (s : List ℕ) where
 
   -- Pointers and atomics.
   module _ (lo : 26 ≤ kindAt w at) (hi : kindAt w at ≤ 27) where
-    behind : expectAt names w at v s ≡ (expectByte (prefixByte (indirectionOf (kindAt w at))) s then (λ t. expectEncoding (indirection (indirectionOf (kindAt w at)) v) (trees names w (countAt w at - 1) (at + 4)) t))
+    behind : expectAt names w at v s ≡ (expectByte (prefixByte (indirectionOf (kindAt w at))) s then
+        (λ t. expectEncoding (indirection (indirectionOf (kindAt w at)) v) (trees names w (countAt w at - 1) (at + 4)) t))
     unfolding expectAt expectNode
     behind = go (eqb (kindAt w at) 26) refl
       where
         other : (kindAt w at ≡ 26 → ⊥) → kindAt w at ≡ 27
         other r = omega arith
 
-        go : (t : Bool) → eqb (kindAt w at) 26 ≡ t → expectAt names w at v s ≡ (expectByte (prefixByte (indirectionOf (kindAt w at))) s then (λ t. expectEncoding (indirection (indirectionOf (kindAt w at)) v) (trees names w (countAt w at - 1) (at + 4)) t))
+        go : (t : Bool) → eqb (kindAt w at) 26 ≡ t → expectAt names w at v s ≡
+            (expectByte (prefixByte (indirectionOf (kindAt w at))) s then
+            (λ t. expectEncoding (indirection (indirectionOf (kindAt w at)) v) (trees names w (countAt w at - 1) (at + 4)) t))
         go true e = rw (label-pointer names (kindAt w at) (firstAt w at) (secondAt w at) (eqb-true (kindAt w at) 26 e), e)
         go false e = rw (label-atomic names (kindAt w at) (firstAt w at) (secondAt w at) (other (eqb-false (kindAt w at) 26 e)), e)
 
@@ -97,7 +104,8 @@ module _ (names w : List ℕ) (at : ℕ) (v : NestingLevel) (s : List ℕ) where
 
   -- A bitfield with a type, and an array.
   module _ (lo : 25 ≤ kindAt w at) (hi : kindAt w at < 29) (m : kindAt w at ≡ 26 → ⊥) (n : kindAt w at ≡ 27 → ⊥) where
-    around : expectAt names w at v s ≡ (opening (kindAt w at) (firstAt w at) s then (λ t. expectEncoding v (trees names w (countAt w at - 1) (at + 4)) t then (λ u. closing (kindAt w at) (secondAt w at) u)))
+    around : expectAt names w at v s ≡ (opening (kindAt w at) (firstAt w at) s then
+        (λ t. expectEncoding v (trees names w (countAt w at - 1) (at + 4)) t then (λ u. closing (kindAt w at) (secondAt w at) u)))
     unfolding expectAt expectNode opening closing
     around = go (eqb (kindAt w at) 25) refl
       where
@@ -107,9 +115,17 @@ module _ (names w : List ℕ) (at : ℕ) (v : NestingLevel) (s : List ℕ) where
             past : 25 ≤ kindAt w at → kindAt w at ≡ 28
             past l = omega arith
 
-        go : (t : Bool) → eqb (kindAt w at) 25 ≡ t → expectAt names w at v s ≡ (opening (kindAt w at) (firstAt w at) s then (λ t. expectEncoding v (trees names w (countAt w at - 1) (at + 4)) t then (λ u. closing (kindAt w at) (secondAt w at) u)))
-        go true e = rw (label-typed names (kindAt w at) (firstAt w at) (secondAt w at) (eqb-true (kindAt w at) 25 e), e) (sym (then-assoc (expectByte 98 s) _ _))
-        go false e = rw (label-array names (kindAt w at) (firstAt w at) (secondAt w at) (other (eqb-false (kindAt w at) 25 e)), e, eq-eqb (kindAt w at) 28 (other (eqb-false (kindAt w at) 25 e))) (sym (then-assoc (expectByte 91 s) _ _))
+        go : (t : Bool) → eqb (kindAt w at) 25 ≡ t → expectAt names w at v s ≡
+            (opening (kindAt w at) (firstAt w at) s then
+            (λ t. expectEncoding v (trees names w (countAt w at - 1) (at + 4)) t then (λ u. closing (kindAt w at) (secondAt w at) u)))
+        go true e = rw (label-typed names (kindAt w at) (firstAt w at) (secondAt w at) (eqb-true (kindAt w at) 25 e), e)
+            (sym (then-assoc (expectByte 98 s) _ _))
+        go false e = rw (
+          label-array names (kindAt w at) (firstAt w at) (secondAt w at) (other (eqb-false (kindAt w at) 25 e)),
+          e,
+          eq-eqb (kindAt w at) 28
+              (other (eqb-false (kindAt w at) 25 e)),
+        ) (sym (then-assoc (expectByte 91 s) _ _))
 
     pub around-off : opening (kindAt w at) (firstAt w at) s ≡ mismatch → expectAt names w at v s ≡ mismatch
     around-off e = around ∙ then-mismatch _ _ e
@@ -129,7 +145,8 @@ module _ (k : ContainerKind) (e : Bool) (inner : List ℕ → E.Expected) (s : L
     unfolding expectFields orElse
     fields-closed u f = then-remaining _ _ _ h ∙ rw (q, f)
 
-    pub fields-inner : expectByte (endByte k) t ≡ mismatch → (expectByte 61 s then (λ u. expectFields k e inner u)) ≡ (inner t then (λ u. expectByte (endByte k) u))
+    pub fields-inner : expectByte (endByte k) t ≡ mismatch → (expectByte 61 s then (λ u. expectFields k e inner u))
+        ≡ (inner t then (λ u. expectByte (endByte k) u))
     unfolding expectFields orElse
     fields-inner f = then-remaining _ _ _ h ∙ rw (q, f)
 
@@ -165,11 +182,13 @@ module _ (k : ContainerKind) (m : List ℕ) (v : NestingLevel) (e : Bool) (inner
           go Within d = absurd (let z : _≡_ {A = ℕ} 0 1 = cc in omega arith)
           go Bottom d = then-remaining _ _ _ f
 
-      pub container-shown : (x : NestingLevel) → containerIncludeFields v ≡ Included x → expectNode (container k m) v e inner s ≡ (expectByte 61 u then (λ y. expectFields k e inner y))
+      pub container-shown : (x : NestingLevel) → containerIncludeFields v ≡ Included x → expectNode (container k m) v e inner s
+          ≡ (expectByte 61 u then (λ y. expectFields k e inner y))
       unfolding expectContainer
       container-shown x g = started ∙ then-remaining _ _ _ h ∙ go v g
         where
-          go : (y : NestingLevel) → containerIncludeFields y ≡ Included x → expectContainer k m y e inner t ≡ (expectByte 61 u then (λ z. expectFields k e inner z))
+          go : (y : NestingLevel) → containerIncludeFields y ≡ Included x → expectContainer k m y e inner t
+              ≡ (expectByte 61 u then (λ z. expectFields k e inner z))
           go Top d = then-remaining _ _ _ f
           go Within d = then-remaining _ _ _ f
           go Bottom d = absurd (let z : _≡_ {A = ℕ} 0 1 = cc in omega arith)
@@ -233,14 +252,19 @@ container-range k lo hi n = go (eqb k 29) refl
 -- The container at a node.
 pub container-at : (names w : List ℕ) (at : ℕ) (v : NestingLevel) (s text : List ℕ) (r : Opened) (k : ContainerKind)
     → isContainerKind (kindAt w at) ≡ true → k ≡ containerOf (kindAt w at)
-    → OpenedIs text k Within r (λ inner. expectNode (container k (take (firstAt w at + secondAt w at - firstAt w at) (drop (firstAt w at) names))) v (eqb (countAt w at - 1) 0) inner s)
-    → OpenedIs text (containerOf (kindAt w at)) Within r (λ inner. expectNode (labelAt names w at) v (isEnd (trees names w (countAt w at - 1) (at + 4))) inner s)
+    → OpenedIs text k Within r (λ inner. expectNode (container k (take (firstAt w at + secondAt w at - firstAt w at) (drop (firstAt w at) names))) v
+    (eqb (countAt w at - 1) 0) inner s)
+    → OpenedIs text (containerOf (kindAt w at)) Within r
+    (λ inner. expectNode (labelAt names w at) v (isEnd (trees names w (countAt w at - 1) (at + 4))) inner s)
 container-at names w at v s text r k c e h =
     same-opened text (containerOf (kindAt w at)) Within r _ _
     (λ inner. ap₂ (λ (l : Label) (b : Bool). expectNode l v b inner s)
-    (container-label names (kindAt w at) (firstAt w at) (secondAt w at) c ∙ ap (λ (n : ℕ). container (containerOf (kindAt w at)) (take n (drop (firstAt w at) names))) (sym (add-sub-cancel-left (firstAt w at) (secondAt w at))))
+    (container-label names (kindAt w at) (firstAt w at) (secondAt w at) c ∙ ap
+    (λ (n : ℕ). container (containerOf (kindAt w at)) (take n (drop (firstAt w at) names))) (sym (add-sub-cancel-left (firstAt w at) (secondAt w at))))
     (is-end names w (countAt w at - 1) (at + 4)))
-    (subst (λ (j : ContainerKind). OpenedIs text j Within r (λ inner. expectNode (container j (take (firstAt w at + secondAt w at - firstAt w at) (drop (firstAt w at) names))) v (eqb (countAt w at - 1) 0) inner s)) e h)
+    (subst (λ (j : ContainerKind). OpenedIs text j Within r
+    (λ inner. expectNode (container j (take (firstAt w at + secondAt w at - firstAt w at) (drop (firstAt w at) names))) v (eqb (countAt w at - 1) 0) inner s))
+    e h)
 
 pub then-same : (x : E.Expected) (f g : List ℕ → E.Expected) → ((t : List ℕ) → f t ≡ g t) → (x then f) ≡ (x then g)
 unfolding _then_
@@ -252,21 +276,29 @@ inside-container Struct m v = refl
 inside-container Union m v = refl
 
 module _ (names w : List ℕ) (at : ℕ) (v : NestingLevel) (s : List ℕ) where
-  pub container-whole : (q : E.Expected) → ((inner : List ℕ → E.Expected) → expectNode (labelAt names w at) v (isEnd (trees names w (countAt w at - 1) (at + 4))) inner s ≡ q) → expectAt names w at v s ≡ q
+  pub container-whole : (q : E.Expected) → ((inner : List ℕ → E.Expected) → expectNode (labelAt names w at) v
+      (isEnd (trees names w (countAt w at - 1) (at + 4))) inner s ≡ q) → expectAt names w at v s ≡ q
   unfolding expectAt
   container-whole q h = h _
 
   pub container-fields : isContainerKind (kindAt w at) ≡ true → (t : List ℕ) (x : NestingLevel) → x ≡ Within
-      → ((inner : List ℕ → E.Expected) → expectNode (labelAt names w at) v (isEnd (trees names w (countAt w at - 1) (at + 4))) inner s ≡ (inner t then (λ u. expectByte (endByte (containerOf (kindAt w at))) u)))
+      → ((inner : List ℕ → E.Expected) → expectNode (labelAt names w at) v (isEnd (trees names w (countAt w at - 1) (at + 4))) inner s
+      ≡ (inner t then (λ u. expectByte (endByte (containerOf (kindAt w at))) u)))
       → expectAt names w at v s ≡ (expectEncoding x (trees names w (countAt w at - 1) (at + 4)) t then (λ u. closing (kindAt w at) (secondAt w at) u))
   unfolding expectAt
   container-fields c t x e h =
       h (λ t. expectEncoding (inside (labelAt names w at) v) (trees names w (countAt w at - 1) (at + 4)) t)
-      ∙ ap (λ (y : NestingLevel). expectEncoding y (trees names w (countAt w at - 1) (at + 4)) t then (λ u. expectByte (endByte (containerOf (kindAt w at))) u)) (ap (λ (l : Label). inside l v) (container-label names (kindAt w at) (firstAt w at) (secondAt w at) c) ∙ inside-container (containerOf (kindAt w at)) _ v ∙ sym e)
-      ∙ then-same (expectEncoding x (trees names w (countAt w at - 1) (at + 4)) t) _ _ (λ u. sym (closing-container (kindAt w at) (secondAt w at) u (λ d. false≢true (sym (ap isContainerKind d) ∙ c)) (λ d. false≢true (sym (ap isContainerKind d) ∙ c))))
+      ∙ ap (λ (y : NestingLevel). expectEncoding y (trees names w (countAt w at - 1) (at + 4)) t then
+      (λ u. expectByte (endByte (containerOf (kindAt w at))) u))
+      (ap (λ (l : Label). inside l v) (container-label names (kindAt w at) (firstAt w at) (secondAt w at) c) ∙ inside-container (containerOf (kindAt w at)) _ v
+      ∙ sym e)
+      ∙ then-same (expectEncoding x (trees names w (countAt w at - 1) (at + 4)) t) _ _
+      (λ u. sym (closing-container (kindAt w at) (secondAt w at) u (λ d. false≢true (sym (ap isContainerKind d) ∙ c))
+      (λ d. false≢true (sym (ap isContainerKind d) ∙ c))))
 
 pub opened-at : (names w : List ℕ) (at : ℕ) (v : NestingLevel) (text : List ℕ) (place : ℕ) (r : Opened) → isContainerKind (kindAt w at) ≡ true
-    → OpenedIs text (containerOf (kindAt w at)) Within r (λ inner. expectNode (labelAt names w at) v (isEnd (trees names w (countAt w at - 1) (at + 4))) inner (drop place text))
+    → OpenedIs text (containerOf (kindAt w at)) Within r
+    (λ inner. expectNode (labelAt names w at) v (isEnd (trees names w (countAt w at - 1) (at + 4))) inner (drop place text))
     → OpenedAt names w at v text place r
 opened-at names w at v text place (O.Taken to) c h = (container-whole names w at v (drop place text) (remaining (drop to text)) (h .0), h .1)
 opened-at names w at v text place O.Mismatch c h = container-whole names w at v (drop place text) mismatch h

@@ -1,3 +1,3 @@
--- The definitions, in the order in which they are read.
+-- What the call answers; then what the walkers' outcomes say.
+pub mod Answer
 pub mod Agree
-pub mod Encoding

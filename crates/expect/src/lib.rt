@@ -4,16 +4,16 @@ ghost use mathlib.Core.Bool.{true, false};
 ghost use Prim.Native.Nat.{_+_, _-_, _≤_};
 ghost use lib.Dec.{eqb};
 ghost use lib.ListN.{length, drop};
-ghost use Rattle.kinds.specs.Expect.{_then_, expectByte, expectBytes, expectNumber, expectQuote, className, expectPrimitive, expectNode, expectEncoding, isEmpty};
+ghost use Rattle.kinds.specs.Expect.{_then_, expectByte, expectBytes, expectNumber, expectQuote, className, expectPrimitive, expectNode, expectEncoding, isEmpty, equivalentToStr};
 ghost use Rattle.kinds.specs.Expect as E;
 ghost use Rattle.kinds.specs.Kind.{containerOf};
 ghost use Rattle.kinds.specs.Parse.{container, maxU64, maxU8};
 ghost use Rattle.kinds.specs.Primitive.{codeBytes};
 ghost use Rattle.kinds.specs.Sheet.{kindAt, countAt, isContainerKind, labelAt, trees};
-ghost use Rattle.kinds.specs.Tree.{isEnd};
+ghost use Rattle.kinds.specs.Tree.{end, node, primitive, isEnd};
 ghost use Rattle.kinds.specs.Walk.{NodeAt, TreesAt, KindAndName, KindsAndNames};
 ghost use Rattle.expect.specs.Agree.{ExpectedIs, anyObject, expectLeaf, openingByte, opening, closing, afterName, InText, OpenedIs, isIndirection, codeByte, ownByte, levelAfter, OpenedAt};
-ghost use Rattle.expect.specs.Encoding.{compared};
+ghost use Rattle.expect.specs.Answer.{compared};
 use kinds::ARRAY;
 use kinds::ATOMIC;
 use kinds::Code;
@@ -475,6 +475,25 @@ fn decide(walked: Expected, text: &[u8]) -> bool
     }
 }
 
+// Whether a code matches the whole text.
+fn code_matches(kind: u64, text: &[u8]) -> bool
+    ensures { λ r. ⌜ r ≡ equivalentToStr (node (primitive kind) end end) (now (text .entry)) ⌝ }
+{
+    let start = strip_leading_qualifiers(text);
+    decide(expect_primitive(kind, &text[0..], start), text)
+}
+
+// Whether the tree of `n` nodes matches the whole text.
+fn tree_matches(nodes: &[u64], names: &[u8], n: usize, text: &[u8]) -> bool
+    requires { ⌜ TreesAt (now nodes) 0 n × KindsAndNames (now nodes) (length (now names)) 0 n ⌝ }
+    ensures { λ r. ⌜ r ≡ equivalentToStr (trees (now (names .entry)) (now (nodes .entry)) n 0) (now (text .entry)) ⌝ }
+{
+    let start = strip_leading_qualifiers(text);
+    let top = NestingLevel::new();
+    let walked = expect_encoding(&nodes[0..], &names[0..], 0, n, top, &text[0..], start);
+    decide(walked, text)
+}
+
 // Whether the tree of the sheet and the text are equivalent.
 pub fn equivalent_to_str(words: &[u64], names: &[u8], text: &[u8]) -> Compared
     ensures { λ r. ⌜ r ≡ compared (now (words .entry)) (now (names .entry)) (now (text .entry)) ⌝ }
@@ -482,19 +501,14 @@ pub fn equivalent_to_str(words: &[u64], names: &[u8], text: &[u8]) -> Compared
     if MAX_TEXT < text.len() {
         return Compared::Refused(Refusal::TextTooLong);
     }
-    match check(words, names) {
-        Checked::NotASheet => Compared::Refused(Refusal::NotASheet),
-        Checked::BadName => Compared::Refused(Refusal::BadName),
-        Checked::Good => {
-            let start = strip_leading_qualifiers(text);
-            let code = code_byte(words[4]);
-            if code != 0 {
-                return Compared::Decided(decide(expect_byte(code, text, start), text));
-            }
-            let n = words[0] as usize;
-            let top = NestingLevel::new();
-            let walked = expect_encoding(&words[4..], &names[0..], 0, n, top, &text[0..], start);
-            Compared::Decided(decide(walked, text))
-        }
+    match check(&words[0..], &names[0..]) {
+        Checked::Refused(why) => Compared::Refused(why),
+        Checked::Code(kind) => Compared::Decided(code_matches(kind, &text[0..])),
+        Checked::Nodes(first, n) => Compared::Decided(tree_matches(
+            &words[first..],
+            &names[0..],
+            n,
+            &text[0..],
+        )),
     }
 }

@@ -11,7 +11,10 @@ shared-slice-read-if2 : tie.Need-shared-slice-read-if2
 shared-slice-read-if2 c = search needs
 
 returns-2 : tie.Need-returns-2
-returns-2 c = (class-none _ _ (c .before .before .if1 .left) (c .if2 .taken), c .before .before .before .before .pre)
+returns-2 c =
+    let c2 = c .before .before in
+    let c4 = c2 .before .before in
+    (class-none _ _ (c2 .if1 .left) (c .if2 .taken), c4 .pre)
 
 add-expect-quote : tie.Need-add-expect-quote
 add-expect-quote c = search needs
@@ -20,7 +23,9 @@ expect-quote-requires : tie.Need-expect-quote-requires
 expect-quote-requires c κs = search needs
 
 returns-3 : tie.Need-returns-3
-returns-3 c = same-outcome _ (c .expect-quote .result) _ _ (class-quoted _ _ (c .before .before .before .if1 .left) (omega (arith, c .before .if2 .left))) (c .expect-quote .ensures)
+returns-3 c =
+    let c3 = c .before .before .before in
+    same-outcome _ (c .expect-quote .result) _ _ (class-quoted _ _ (c3 .if1 .left) (omega (arith, c .before .if2 .left))) (c .expect-quote .ensures)
 
 pub class-name-spec : {M : Type 1} → statement M
 class-name-spec =

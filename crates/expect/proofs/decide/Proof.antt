@@ -15,7 +15,9 @@ returns : tie.Need-returns
 returns c = λ q h. sym (ap isEmpty (rw (c .enum-told .given .1) at h) ∙ empty-off)
 
 returns-2 : tie.Need-returns-2
-returns-2 c = λ q h. let n = rw (c .before .walked .given .1) at h in sym (ap isEmpty (n .0) ∙ empty-end (c .before .before .before .args .text .now) _ (n .1))
+returns-2 c =
+    let c3 = c .before .before .before in
+    λ q h. let n = rw (c .before .walked .given .1) at h in sym (ap isEmpty (n .0) ∙ empty-end (c3 .args .text .now) _ (n .1))
 
 pub decide-spec : {M : Type 1} → statement M
 decide-spec = tie.close (tie.spec enum-told enum-known-walked returns returns-2)

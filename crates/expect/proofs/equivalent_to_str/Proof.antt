@@ -1,157 +1,156 @@
-use mathlib.Core.Path.{sym, ap, _∙_}
 use native.Mathlib.Omega.{arith}
+use Rattle.kinds.proofs.ListLaws.{whole}
+use Rattle.sheet.proofs.GivenLaws.{given-refused, given-code, given-nodes, nodes-part}
+use Rattle.expect.proofs.AnswerLaws.{too-long, compared-refused, compared-code, compared-nodes}
 use borrow.Author.Needs.{needs}
-use lib.ListN.{getD, drop}
-use Rattle.kinds.specs.Sheet.{nodeWords}
-use Rattle.sheet.specs.declared.Checked.the-variants.{Good}
-use Rattle.kinds.specs.declared.Compared.the-variants.{Decided}
-use Rattle.parser.proofs.PlaceLaws.{strip-place}
-use Rattle.expect.proofs.TextLaws.{rest}
-use Rattle.expect.proofs.FieldLaws.{lent-walk, lent-fields}
-use Rattle.expect.proofs.AnswerLaws.{words-enough, sheet-trees, too-long, of-sheet, walked-fields, walked-code, decided}
 use Rattle.expect.proofs.equivalent_to_str.Statement.{statement}
 use Rattle.expect.proofs.equivalent_to_str.Tie as tie
 
 returns : tie.Need-returns
-returns c = too-long (c .before .before .before .before .args .words .now) (c .before .before .before .before .args .names .now) (c .before .before .before .before .args .text .now) (c .if1 .taken)
+returns c =
+    let c4 = c .before .before .before .before in
+    too-long (c4 .args .words .now) (c4 .args .names .now) (c4 .args .text .now) (c .if1 .taken)
+
+sub-check : tie.Need-sub-check
+sub-check c = search needs
+
+part-check-start : tie.Need-part-check-start
+part-check-start c = search needs
+
+part-check-end : tie.Need-part-check-end
+part-check-end c = search needs
+
+sub-check-2 : tie.Need-sub-check-2
+sub-check-2 c = search needs
+
+part-check-start-2 : tie.Need-part-check-start-2
+part-check-start-2 c = search needs
+
+part-check-end-2 : tie.Need-part-check-end-2
+part-check-end-2 c = search needs
 
 check-requires : tie.Need-check-requires
 check-requires c κs = search needs
 
-enum-told : tie.Need-enum-told
-enum-told c = search needs
+enum-known-why : tie.Need-enum-known-why
+enum-known-why c = search needs
 
-enum-told-2 : tie.Need-enum-told-2
-enum-told-2 c = search needs
+enum-known-kind : tie.Need-enum-known-kind
+enum-known-kind c = search needs
 
-enum-told-3 : tie.Need-enum-told-3
-enum-told-3 c = search needs
+sub-code-matches : tie.Need-sub-code-matches
+sub-code-matches c = search needs
 
-strip-leading-qualifiers-requires : tie.Need-strip-leading-qualifiers-requires
-strip-leading-qualifiers-requires c κs = search needs
+part-code-matches-start : tie.Need-part-code-matches-start
+part-code-matches-start c = search needs
 
-shared-slice-read-code-byte : tie.Need-shared-slice-read-code-byte
-shared-slice-read-code-byte c =
-    let a = c .before .before .before .before .before .before .before .before .before .args in
-    let good = sym (c .before .before .before .before .check .ensures) ∙ c .before .before .enum-told3 .given .1 in
-    let h = words-enough (a .words .now) (a .names .now) good in
-    omega arith
+part-code-matches-end : tie.Need-part-code-matches-end
+part-code-matches-end c = search needs
 
-code-byte-requires : tie.Need-code-byte-requires
-code-byte-requires c κs = search needs
+code-matches-requires : tie.Need-code-matches-requires
+code-matches-requires c κs = search needs
 
-expect-byte-requires : tie.Need-expect-byte-requires
-expect-byte-requires c κs = search needs
+enum-known-first : tie.Need-enum-known-first
+enum-known-first c = search needs
 
-decide-requires : tie.Need-decide-requires
-decide-requires c κs = search needs
+mul-tree-matches : tie.Need-mul-tree-matches
+mul-tree-matches c =
+    let c3 = c .before .before .before in
+    let h = (given-nodes _ _ (rw (whole, whole) at (c3 .check .ensures .1)) (c .before .first .given .1)) in omega (arith, h .starts)
+
+sub-tree-matches : tie.Need-sub-tree-matches
+sub-tree-matches c =
+    let c3 = c .before .before .before in
+    let h = (given-nodes _ _ (rw (whole, whole) at (c3 .check .ensures .1)) (c .before .first .given .1)) in omega (arith, h .starts)
+
+part-tree-matches-start : tie.Need-part-tree-matches-start
+part-tree-matches-start c =
+    let c3 = c .before .before .before in
+    let h = (given-nodes _ _ (rw (whole, whole) at (c3 .check .ensures .1)) (c .before .first .given .1)) in omega (arith, h .starts)
+
+part-tree-matches-end : tie.Need-part-tree-matches-end
+part-tree-matches-end c = search needs
+
+sub-tree-matches-2 : tie.Need-sub-tree-matches-2
+sub-tree-matches-2 c = search needs
+
+part-tree-matches-start-2 : tie.Need-part-tree-matches-start-2
+part-tree-matches-start-2 c = search needs
+
+part-tree-matches-end-2 : tie.Need-part-tree-matches-end-2
+part-tree-matches-end-2 c = search needs
+
+sub-tree-matches-3 : tie.Need-sub-tree-matches-3
+sub-tree-matches-3 c = search needs
+
+part-tree-matches-start-3 : tie.Need-part-tree-matches-start-3
+part-tree-matches-start-3 c = search needs
+
+part-tree-matches-end-3 : tie.Need-part-tree-matches-end-3
+part-tree-matches-end-3 c = search needs
+
+tree-matches-requires : tie.Need-tree-matches-requires
+tree-matches-requires c κs =
+    let c4 = c .before .before .before .before in
+    let c6 = c4 .before .before in
+    let h = (nodes-part (given-nodes _ _ (rw (whole, whole) at (c6 .check .ensures .1)) (c4 .first .given .1))) in rw whole (h .whole, h .lent-names)
 
 returns-2 : tie.Need-returns-2
 returns-2 c =
-    let a = c .before .before .before .before .before .before .before .before .before .before .before .before .before .args in
-    let good = sym (c .before .before .before .before .before .before .before .before .check .ensures) ∙ c .before .before .before .before .before .before .enum-told3 .given .1 in
-    ap Decided (decided (a .words .now) (a .names .now) (a .text .now) (c .before .before .before .before .before .strip-leading-qualifiers .result) (c .before .expect-byte .result) _ (strip-place _ _ (c .before .before .before .before .before .strip-leading-qualifiers .ensures) .0) (walked-code (a .words .now) (a .names .now) (a .text .now) (c .before .expect-byte .result) _ (c .before .before .before .code-byte .result) good (c .before .before .before .code-byte .ensures) (c .before .before .if2 .taken) (c .before .expect-byte .ensures)) (c .decide .ensures))
-    ∙ of-sheet (a .words .now) (a .names .now) (a .text .now) (c .before .before .before .before .before .before .before .before .before .if1 .left) Good good
-
-shared-slice-read-n : tie.Need-shared-slice-read-n
-shared-slice-read-n c =
-    let a = c .before .before .before .before .before .before .before .before .before .before .before .before .args in
-    let good = sym (c .before .before .before .before .before .before .before .check .ensures) ∙ c .before .before .before .before .before .enum-told3 .given .1 in
-    let h = words-enough (a .words .now) (a .names .now) good in
-    omega arith
-
-new-requires : tie.Need-new-requires
-new-requires c κs = search needs
-
-sub-expect-encoding : tie.Need-sub-expect-encoding
-sub-expect-encoding c =
-    let a = c .before .before .before .before .before .before .before .before .before .before .before .before .before .args in
-    let good = sym (c .before .before .before .before .before .before .before .before .check .ensures) ∙ c .before .before .before .before .before .before .enum-told3 .given .1 in
-    let h = words-enough (a .words .now) (a .names .now) good in
-    omega arith
-
-part-expect-encoding-start : tie.Need-part-expect-encoding-start
-part-expect-encoding-start c =
-    let a = c .before .before .before .before .before .before .before .before .before .before .before .before .before .args in
-    let good = sym (c .before .before .before .before .before .before .before .before .check .ensures) ∙ c .before .before .before .before .before .before .enum-told3 .given .1 in
-    let h = words-enough (a .words .now) (a .names .now) good in
-    omega arith
-
-part-expect-encoding-end : tie.Need-part-expect-encoding-end
-part-expect-encoding-end c = search needs
-
-sub-expect-encoding-2 : tie.Need-sub-expect-encoding-2
-sub-expect-encoding-2 c = search needs
-
-part-expect-encoding-start-2 : tie.Need-part-expect-encoding-start-2
-part-expect-encoding-start-2 c = search needs
-
-part-expect-encoding-end-2 : tie.Need-part-expect-encoding-end-2
-part-expect-encoding-end-2 c = search needs
-
-sub-expect-encoding-3 : tie.Need-sub-expect-encoding-3
-sub-expect-encoding-3 c = search needs
-
-part-expect-encoding-start-3 : tie.Need-part-expect-encoding-start-3
-part-expect-encoding-start-3 c = search needs
-
-part-expect-encoding-end-3 : tie.Need-part-expect-encoding-end-3
-part-expect-encoding-end-3 c = search needs
-
-expect-encoding-requires : tie.Need-expect-encoding-requires
-expect-encoding-requires c κs =
-    let a = c .before .before .before .before .before .before .before .before .before .before .before .before .before .before .before .before .args in
-    let good = sym (c .before .before .before .before .before .before .before .before .before .before .before .check .ensures) ∙ c .before .before .before .before .before .before .before .before .before .enum-told3 .given .1 in
-    let h = sheet-trees (a .words .now) (a .names .now) good in
-    let start = strip-place (a .text .now) _ (c .before .before .before .before .before .before .before .before .strip-leading-qualifiers .ensures) .1 in
-    lent-walk (a .names .now) (nodeWords (a .words .now)) _ (a .text .now) _ _ _ (rest (a .words .now) 4) (h .0) (omega arith) (h .1)
-
-decide-requires-2 : tie.Need-decide-requires-2
-decide-requires-2 c κs = search needs
+    let c3 = c .before .before .before in
+    let c6 = c3 .before .before .before in
+    let c10 = c6 .before .before .before .before in
+    compared-refused (c10 .args .words .now) (c10 .args .names .now) (c10 .args .text .now) (c6 .if1 .left)
+    (given-refused _ _ (rw (whole, whole) at (c3 .check .ensures .1)) (c .before .why .given .1))
 
 returns-3 : tie.Need-returns-3
-returns-3 c = of-sheet (c .before .before .before .before .before .before .before .args .words .now) (c .before .before .before .before .before .before .before .args .names .now) (c .before .before .before .before .before .before .before .args .text .now) (c .before .before .before .if1 .left) _ (sym (c .before .before .check .ensures) ∙ c .enum-told .given .1)
+returns-3 c =
+    let c3 = c .before .before .before in
+    let c5 = c3 .before .before in
+    let c8 = c5 .before .before .before in
+    let c12 = c8 .before .before .before .before in
+    compared-code (c12 .args .words .now) (c12 .args .names .now) (c12 .args .text .now) (c8 .if1 .left)
+    (given-code _ _ (rw (whole, whole) at (c5 .check .ensures .1)) (c3 .kind .given .1)) (rw whole at (c .code-matches .ensures))
 
 returns-4 : tie.Need-returns-4
-returns-4 c = of-sheet (c .before .before .before .before .before .before .before .args .words .now) (c .before .before .before .before .before .before .before .args .names .now) (c .before .before .before .before .before .before .before .args .text .now) (c .before .before .before .if1 .left) _ (sym (c .before .before .check .ensures) ∙ c .enum-told2 .given .1)
-
-returns-5 : tie.Need-returns-5
-returns-5 c =
-    let a = c .before .before .before .before .before .before .before .before .before .before .before .before .before .before .before .before .before .before .args in
-    let good = sym (c .before .before .before .before .before .before .before .before .before .before .before .before .before .check .ensures) ∙ c .before .before .before .before .before .before .before .before .before .before .before .enum-told3 .given .1 in
-    let start = c .before .before .before .before .before .before .before .before .before .before .strip-leading-qualifiers .result in
-    let f = lent-fields (a .names .now) (nodeWords (a .words .now)) _ (a .text .now) (getD (a .words .now) 0 0) 0 start (rest (a .words .now) 4) (c .before .before .before .before .before .new .result) (c .before .expect-encoding .result) (c .before .expect-encoding .ensures) in
-    ap Decided (decided (a .words .now) (a .names .now) (a .text .now) start (c .before .expect-encoding .result) _ (strip-place _ _ (c .before .before .before .before .before .before .before .before .before .before .strip-leading-qualifiers .ensures) .0) (walked-fields (a .words .now) (a .names .now) (a .text .now) (c .before .expect-encoding .result) (drop start (a .text .now)) (c .before .before .before .before .before .new .result) (c .before .before .before .before .before .new .ensures) f) (c .decide2 .ensures))
-    ∙ of-sheet (a .words .now) (a .names .now) (a .text .now) (c .before .before .before .before .before .before .before .before .before .before .before .before .before .before .if1 .left) Good good
+returns-4 c =
+    let c5 = c .before .before .before .before .before in
+    let c7 = c5 .before .before in
+    let c10 = c7 .before .before .before in
+    let c14 = c10 .before .before .before .before in
+    compared-nodes (c14 .args .words .now) (c14 .args .names .now) (c14 .args .text .now) (c10 .if1 .left) _ _
+    (nodes-part (given-nodes _ _ (rw (whole, whole) at (c7 .check .ensures .1)) (c5 .first .given .1))) (rw (whole, whole) at (c .tree-matches .ensures))
 
 pub equivalent-to-str-spec : {M : Type 1} → statement M
 equivalent-to-str-spec =
     tie.close
     (tie.spec
     returns
+    sub-check
+    part-check-start
+    part-check-end
+    sub-check-2
+    part-check-start-2
+    part-check-end-2
     check-requires
-    enum-told
-    enum-told-2
-    enum-told-3
-    strip-leading-qualifiers-requires
-    shared-slice-read-code-byte
-    code-byte-requires
-    expect-byte-requires
-    decide-requires
+    enum-known-why
+    enum-known-kind
+    sub-code-matches
+    part-code-matches-start
+    part-code-matches-end
+    code-matches-requires
+    enum-known-first
+    mul-tree-matches
+    sub-tree-matches
+    part-tree-matches-start
+    part-tree-matches-end
+    sub-tree-matches-2
+    part-tree-matches-start-2
+    part-tree-matches-end-2
+    sub-tree-matches-3
+    part-tree-matches-start-3
+    part-tree-matches-end-3
+    tree-matches-requires
     returns-2
-    shared-slice-read-n
-    new-requires
-    sub-expect-encoding
-    part-expect-encoding-start
-    part-expect-encoding-end
-    sub-expect-encoding-2
-    part-expect-encoding-start-2
-    part-expect-encoding-end-2
-    sub-expect-encoding-3
-    part-expect-encoding-start-3
-    part-expect-encoding-end-3
-    expect-encoding-requires
-    decide-requires-2
     returns-3
-    returns-4
-    returns-5)
+    returns-4)

@@ -18,7 +18,11 @@ loop-holds : tie.Need-loop-holds Inv-loop μ-loop
 loop-holds c = (refl, search needs)
 
 returns : tie.Need-returns Inv-loop μ-loop
-returns c = c .before .before .loop .inv .0 ∙ bytes-off _ _ (c .before .before .before .args .text .now) (c .before .before .loop .to) (c .before .loop-test .taken) (byte-end _ (c .before .before .before .args .text .now) (c .before .before .loop .to) (c .if1 .taken))
+returns c =
+    let c2 = c .before .before in
+    let c3 = c2 .before in
+    c2 .loop .inv .0 ∙ bytes-off _ _ (c3 .args .text .now) (c2 .loop .to) (c .before .loop-test .taken)
+    (byte-end _ (c3 .args .text .now) (c2 .loop .to) (c .if1 .taken))
 
 shared-slice-read-if2 : tie.Need-shared-slice-read-if2 Inv-loop μ-loop
 shared-slice-read-if2 c = search needs
@@ -27,7 +31,13 @@ shared-slice-read-if2-2 : tie.Need-shared-slice-read-if2-2 Inv-loop μ-loop
 shared-slice-read-if2-2 c = search needs
 
 returns-2 : tie.Need-returns-2 Inv-loop μ-loop
-returns-2 c = c .before .before .before .before .before .loop .inv .0 ∙ bytes-off _ _ (c .before .before .before .before .before .before .args .text .now) (c .before .before .before .before .before .loop .to) (c .before .before .before .before .loop-test .taken) (byte-other _ (c .before .before .before .before .before .before .args .text .now) (c .before .before .before .before .before .loop .to) (c .before .before .before .if1 .left) (c .if2 .taken))
+returns-2 c =
+    let c3 = c .before .before .before in
+    let c4 = c3 .before in
+    let c5 = c4 .before in
+    let c6 = c5 .before in
+    c5 .loop .inv .0 ∙ bytes-off _ _ (c6 .args .text .now) (c5 .loop .to) (c4 .loop-test .taken)
+    (byte-other _ (c6 .args .text .now) (c5 .loop .to) (c3 .if1 .left) (c .if2 .taken))
 
 add-i : tie.Need-add-i Inv-loop μ-loop
 add-i c = search needs
@@ -39,10 +49,17 @@ loop-less : tie.Need-loop-less Inv-loop μ-loop
 loop-less c = search needs
 
 loop-again : tie.Need-loop-again Inv-loop μ-loop
-loop-again c = (c .before .before .before .before .before .loop .inv .0 ∙ bytes-more _ _ (c .before .before .before .before .before .before .args .text .now) (c .before .before .before .before .before .loop .to) (c .before .before .before .before .loop-test .taken) (c .before .before .before .if1 .left) (omega (arith, c .if2 .left)), omega arith)
+loop-again c =
+    let c3 = c .before .before .before in
+    let c4 = c3 .before in
+    let c5 = c4 .before in
+    let c6 = c5 .before in
+    (c5 .loop .inv .0 ∙ bytes-more _ _ (c6 .args .text .now) (c5 .loop .to) (c4 .loop-test .taken) (c3 .if1 .left) (omega (arith, c .if2 .left)), omega arith)
 
 returns-3 : tie.Need-returns-3 Inv-loop μ-loop
-returns-3 c = (c .before .loop .inv .0 ∙ bytes-done _ _ (c .before .before .args .text .now) (c .before .loop .to) (c .loop-test .left), c .before .loop .inv .1)
+returns-3 c =
+    let c2 = c .before .before in
+    (c .before .loop .inv .0 ∙ bytes-done _ _ (c2 .args .text .now) (c .before .loop .to) (c .loop-test .left), c .before .loop .inv .1)
 
 pub expect-bytes-spec : {M : Type 1} → statement M
 expect-bytes-spec =

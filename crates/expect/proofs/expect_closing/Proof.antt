@@ -30,7 +30,14 @@ expect-byte-requires-2 : tie.Need-expect-byte-requires-2
 expect-byte-requires-2 c κs = search needs
 
 returns-3 : tie.Need-returns-3
-returns-3 c = same-outcome _ (c .expect-byte2 .result) _ _ (closing-container _ _ _ (c .before .before .before .before .if1 .left) (c .before .before .before .if2 .left) ∙ ap (λ (b : ℕ). expectByte b (drop (c .before .before .before .before .before .before .args .at) (c .before .before .before .before .before .before .args .text .now))) (sym (c .before .end-byte .ensures ∙ ap endByte (c .before .before .container-of .ensures)))) (c .expect-byte2 .ensures)
+returns-3 c =
+    let c2 = c .before .before in
+    let c3 = c2 .before in
+    let c4 = c3 .before in
+    let c6 = c4 .before .before in
+    same-outcome _ (c .expect-byte2 .result) _ _ (closing-container _ _ _ (c4 .if1 .left) (c3 .if2 .left)
+    ∙ ap (λ (b : ℕ). expectByte b (drop (c6 .args .at) (c6 .args .text .now)))
+    (sym (c .before .end-byte .ensures ∙ ap endByte (c2 .container-of .ensures)))) (c .expect-byte2 .ensures)
 
 pub expect-closing-spec : {M : Type 1} → statement M
 expect-closing-spec =

@@ -17,13 +17,17 @@ returns-2 : tie.Need-returns-2
 returns-2 c = (object-class _ _ (c .before .before .if1 .left) (c .if2 .taken), omega arith)
 
 returns-3 : tie.Need-returns-3
-returns-3 c = object-other _ _ (c .before .before .before .if1 .left) (c .before .if2 .left) (c .if3 .taken)
+returns-3 c =
+    let c3 = c .before .before .before in
+    object-other _ _ (c3 .if1 .left) (c .before .if2 .left) (c .if3 .taken)
 
 add-next : tie.Need-add-next
 add-next c = search needs
 
 returns-4 : tie.Need-returns-4
-returns-4 c = (object-last _ _ (c .before .before .before .before .if1 .left) (omega (arith, c .before .if3 .left)) (c .if4 .taken), omega arith)
+returns-4 c =
+    let c4 = c .before .before .before .before in
+    (object-last _ _ (c4 .if1 .left) (omega (arith, c .before .if3 .left)) (c .if4 .taken), omega arith)
 
 shared-slice-read-if5 : tie.Need-shared-slice-read-if5
 shared-slice-read-if5 c = search needs
@@ -32,10 +36,18 @@ add-t11 : tie.Need-add-t11
 add-t11 c = search needs
 
 returns-5 : tie.Need-returns-5
-returns-5 c = (object-block _ _ (c .before .before .before .before .before .before .if1 .left) (omega (arith, c .before .before .before .if3 .left)) (c .before .before .if4 .left) (c .if5 .taken), omega arith)
+returns-5 c =
+    let c2 = c .before .before in
+    let c3 = c2 .before in
+    let c6 = c3 .before .before .before in
+    (object-block _ _ (c6 .if1 .left) (omega (arith, c3 .if3 .left)) (c2 .if4 .left) (c .if5 .taken), omega arith)
 
 returns-6 : tie.Need-returns-6
-returns-6 c = (object-bare _ _ (c .before .before .before .before .before .before .if1 .left) (omega (arith, c .before .before .before .if3 .left)) (c .before .before .if4 .left) (c .if5 .left), omega arith)
+returns-6 c =
+    let c2 = c .before .before in
+    let c3 = c2 .before in
+    let c6 = c3 .before .before .before in
+    (object-bare _ _ (c6 .if1 .left) (omega (arith, c3 .if3 .left)) (c2 .if4 .left) (c .if5 .left), omega arith)
 
 pub expect-object-spec : {M : Type 1} → statement M
 expect-object-spec =

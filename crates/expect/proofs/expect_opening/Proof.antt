@@ -16,13 +16,23 @@ enum-told : tie.Need-enum-told
 enum-told c = search needs
 
 returns : tie.Need-returns
-returns c = let n = rw (c .enum-told .given .1) at (c .before .before .expect-byte .ensures) in opening-off _ _ _ (rw (c .before .before .before .opening-byte .ensures) at n)
+returns c =
+    let c2 = c .before .before in
+    let c3 = c2 .before in
+    let n = rw (c .enum-told .given .1) at (c2 .expect-byte .ensures) in opening-off _ _ _ (rw (c3 .opening-byte .ensures) at n)
 
 expect-u64-requires : tie.Need-expect-u64-requires
-expect-u64-requires c κs = let n = rw (c .before .to .given .1) at (c .before .before .before .expect-byte .ensures) in n .1
+expect-u64-requires c κs =
+    let c3 = c .before .before .before in
+    let n = rw (c .before .to .given .1) at (c3 .expect-byte .ensures) in n .1
 
 returns-2 : tie.Need-returns-2
-returns-2 c = let n = rw (c .before .before .to .given .1) at (c .before .before .before .before .expect-byte .ensures) in same-outcome _ (c .expect-u64 .result) _ _ (opening-more _ _ _ _ (rw (c .before .before .before .before .before .opening-byte .ensures) at (n .0))) (c .expect-u64 .ensures)
+returns-2 c =
+    let c2 = c .before .before in
+    let c4 = c2 .before .before in
+    let c5 = c4 .before in
+    let n = rw (c2 .to .given .1) at (c4 .expect-byte .ensures) in same-outcome _ (c .expect-u64 .result) _ _
+    (opening-more _ _ _ _ (rw (c5 .opening-byte .ensures) at (n .0))) (c .expect-u64 .ensures)
 
 pub expect-opening-spec : {M : Type 1} → statement M
 expect-opening-spec =

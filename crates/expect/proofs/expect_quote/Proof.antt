@@ -24,7 +24,10 @@ add-t8 : tie.Need-add-t8 Inv-loop μ-loop
 add-t8 c = search needs
 
 returns : tie.Need-returns Inv-loop μ-loop
-returns c = (c .before .before .before .loop .inv .0 ∙ quote-stop _ _ (c .before .before .loop-test .taken) (c .if1 .taken), omega arith)
+returns c =
+    let c2 = c .before .before in
+    let c3 = c2 .before in
+    (c3 .loop .inv .0 ∙ quote-stop _ _ (c2 .loop-test .taken) (c .if1 .taken), omega arith)
 
 add-i : tie.Need-add-i Inv-loop μ-loop
 add-i c = search needs
@@ -33,7 +36,10 @@ loop-less : tie.Need-loop-less Inv-loop μ-loop
 loop-less c = search needs
 
 loop-again : tie.Need-loop-again Inv-loop μ-loop
-loop-again c = (c .before .before .before .loop .inv .0 ∙ quote-more _ _ (c .before .before .loop-test .taken) (c .if1 .left), omega arith)
+loop-again c =
+    let c2 = c .before .before in
+    let c3 = c2 .before in
+    (c3 .loop .inv .0 ∙ quote-more _ _ (c2 .loop-test .taken) (c .if1 .left), omega arith)
 
 returns-2 : tie.Need-returns-2 Inv-loop μ-loop
 returns-2 c = c .before .loop .inv .0 ∙ quote-end _ _ (c .loop-test .left)

@@ -16,8 +16,10 @@ enum-known-m c = search needs
 
 returns : tie.Need-returns
 returns c =
-    let u = c .before .before .before .before in
-    let n = rw (c .before .before .m .given .1) at (N.number-is _ _ _ _ (u .before .before .pre) (u .parse-u64 .ensures)) in
+    let c2 = c .before .before in
+    let c4 = c2 .before .before in
+    let u = c4 in
+    let n = rw (c2 .m .given .1) at (N.number-is _ _ _ _ (u .before .before .pre) (u .parse-u64 .ensures)) in
     (number-is _ _ _ _ _ (n .0) (c .if1 .taken), n .1 .1)
 
 returns-2 : tie.Need-returns-2
@@ -28,8 +30,10 @@ returns-2 c =
 
 returns-3 : tie.Need-returns-3
 returns-3 c =
-    let u = c .before .before .before .before in
-    let n = rw (c .before .before .m .given .1) at (N.number-is _ _ _ _ (u .before .before .pre) (u .parse-u64 .ensures)) in
+    let c2 = c .before .before in
+    let c4 = c2 .before .before in
+    let u = c4 in
+    let n = rw (c2 .m .given .1) at (N.number-is _ _ _ _ (u .before .before .pre) (u .parse-u64 .ensures)) in
     number-other _ _ _ _ _ (n .0) (c .if1 .left)
 
 pub expect-u64-spec : {M : Type 1} → statement M

@@ -12,7 +12,9 @@ inside-requires c κs = search needs
 
 returns : tie.Need-returns
 unfolding levelAfter
-returns c = rw (sym (c .before .before .is-indirection .ensures) ∙ c .before .if1 .taken) (c .inside .ensures)
+returns c =
+    let c2 = c .before .before in
+    rw (sym (c2 .is-indirection .ensures) ∙ c .before .if1 .taken) (c .inside .ensures)
 
 returns-2 : tie.Need-returns-2
 unfolding levelAfter

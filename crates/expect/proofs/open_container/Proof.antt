@@ -41,7 +41,9 @@ shared-slice-read-count : tie.Need-shared-slice-read-count
 shared-slice-read-count c = search needs
 
 add-to : tie.Need-add-to
-add-to c = let k = c .before .before .before .before .before .before .before .before .pre .1 .name (c .before .before .before .before .before .before .before .before .pre .2) in omega arith
+add-to c =
+    let c8 = c .before .before .before .before .before .before .before .before in
+    let k = c8 .pre .1 .name (c8 .pre .2) in omega arith
 
 sub-open-named : tie.Need-sub-open-named
 sub-open-named c = search needs
@@ -50,7 +52,9 @@ part-open-named-start : tie.Need-part-open-named-start
 part-open-named-start c = search needs
 
 part-open-named-end : tie.Need-part-open-named-end
-part-open-named-end c = let k = c .before .before .before .before .before .before .before .before .pre .1 .name (c .before .before .before .before .before .before .before .before .pre .2) in omega arith
+part-open-named-end c =
+    let c8 = c .before .before .before .before .before .before .before .before in
+    let k = c8 .pre .1 .name (c8 .pre .2) in omega arith
 
 sub-open-named-2 : tie.Need-sub-open-named-2
 sub-open-named-2 c = search needs
@@ -59,7 +63,11 @@ open-named-requires : tie.Need-open-named-requires
 open-named-requires c κs = search needs
 
 returns : tie.Need-returns
-returns c = container-at (c .before .before .before .before .before .before .before .before .before .before .args .names .now) (c .before .before .before .before .before .before .before .before .before .before .args .nodes .now) (c .before .before .before .before .before .before .before .before .before .before .args .at) (c .before .before .before .before .before .before .before .before .before .before .args .level) _ (c .before .before .before .before .before .before .before .before .before .before .args .text .now) (c .open-named .result) _ (c .before .before .before .before .before .before .before .before .before .before .pre .2) (c .before .before .before .before .before .container-of .ensures) (c .open-named .ensures)
+returns c =
+    let c5 = c .before .before .before .before .before in
+    let c10 = c5 .before .before .before .before .before in
+    container-at (c10 .args .names .now) (c10 .args .nodes .now) (c10 .args .at) (c10 .args .level) _ (c10 .args .text .now) (c .open-named .result) _
+    (c10 .pre .2) (c5 .container-of .ensures) (c .open-named .ensures)
 
 pub open-container-spec : {M : Type 1} → statement M
 open-container-spec =

@@ -41,20 +41,29 @@ enum-known-to c = search needs
 
 returns : tie.Need-returns
 returns c =
-    let a = c .before .before .before .before .before .before .before .before .before .before .args in
-    let n = rw (c .enum-told .given .1) at (lent-whole (a .text .now) (c .before .before .expect-leaf .result) (a .place) (λ s. expectLeaf (kindAt (a .nodes .now) (a .at)) (secondAt (a .nodes .now) (a .at)) s) (c .before .before .expect-leaf .ensures)) in
-    leaf-is (a .names .now) (a .nodes .now) (a .at) (a .level) _ (c .before .before .before .before .before .if1 .taken) ∙ n
+    let c2 = c .before .before in
+    let c5 = c2 .before .before .before in
+    let c10 = c5 .before .before .before .before .before in
+    let a = c10 .args in
+    let n = rw (c .enum-told .given .1) at (lent-whole (a .text .now) (c2 .expect-leaf .result) (a .place)
+    (λ s. expectLeaf (kindAt (a .nodes .now) (a .at)) (secondAt (a .nodes .now) (a .at)) s) (c2 .expect-leaf .ensures)) in
+    leaf-is (a .names .now) (a .nodes .now) (a .at) (a .level) _ (c5 .if1 .taken) ∙ n
 
 returns-2 : tie.Need-returns-2
 returns-2 c =
-    let a = c .before .before .before .before .before .before .before .before .before .before .before .args in
-    let n = rw (c .before .to .given .1) at (lent-whole (a .text .now) (c .before .before .before .expect-leaf .result) (a .place) (λ s. expectLeaf (kindAt (a .nodes .now) (a .at)) (secondAt (a .nodes .now) (a .at)) s) (c .before .before .before .expect-leaf .ensures)) in
-    (leaf-is (a .names .now) (a .nodes .now) (a .at) (a .level) _ (c .before .before .before .before .before .before .if1 .taken) ∙ n .0, n .1)
+    let c3 = c .before .before .before in
+    let c6 = c3 .before .before .before in
+    let c11 = c6 .before .before .before .before .before in
+    let a = c11 .args in
+    let n = rw (c .before .to .given .1) at (lent-whole (a .text .now) (c3 .expect-leaf .result) (a .place)
+    (λ s. expectLeaf (kindAt (a .nodes .now) (a .at)) (secondAt (a .nodes .now) (a .at)) s) (c3 .expect-leaf .ensures)) in
+    (leaf-is (a .names .now) (a .nodes .now) (a .at) (a .level) _ (c6 .if1 .taken) ∙ n .0, n .1)
 
 returns-3 : tie.Need-returns-3
 returns-3 c =
-    let a = c .before .before .before .before .before .before .args in
-    (none-is (a .names .now) (a .nodes .now) (a .at) (a .level) _ (c .if2 .taken), c .before .before .before .before .before .before .pre .0 .2)
+    let c6 = c .before .before .before .before .before .before in
+    let a = c6 .args in
+    (none-is (a .names .now) (a .nodes .now) (a .at) (a .level) _ (c .if2 .taken), c6 .pre .0 .2)
 
 add-expect-opening : tie.Need-add-expect-opening
 add-expect-opening c = search needs
@@ -76,28 +85,40 @@ enum-known-to-2 c = search needs
 
 returns-4 : tie.Need-returns-4
 returns-4 c =
-    let a = c .before .before .before .before .before .before .before .before .before .before .before .args in
-    let m = not-indirection (kindAt (a .nodes .now) (a .at)) (c .before .before .before .before .before .before .before .before .before .before .before .pre .1) in
-    let n = rw (c .enum-told2 .given .1) at (c .before .before .expect-opening .ensures) in
-    around-off (a .names .now) (a .nodes .now) (a .at) (a .level) _ (c .before .before .before .before .before .before .if1 .left) (c .before .before .before .before .if3 .taken) (m .0) (m .1) n
+    let c2 = c .before .before in
+    let c4 = c2 .before .before in
+    let c6 = c4 .before .before in
+    let c11 = c6 .before .before .before .before .before in
+    let a = c11 .args in
+    let m = not-indirection (kindAt (a .nodes .now) (a .at)) (c11 .pre .1) in
+    let n = rw (c .enum-told2 .given .1) at (c2 .expect-opening .ensures) in
+    around-off (a .names .now) (a .nodes .now) (a .at) (a .level) _ (c6 .if1 .left) (c4 .if3 .taken) (m .0) (m .1) n
 
 returns-5 : tie.Need-returns-5
 returns-5 c =
-    let a = c .before .before .before .before .before .before .before .before .before .before .before .before .args in
-    let m = not-indirection (kindAt (a .nodes .now) (a .at)) (c .before .before .before .before .before .before .before .before .before .before .before .before .pre .1) in
-    let n = rw (c .before .to2 .given .1) at (c .before .before .before .expect-opening .ensures) in
-    (around-more (a .names .now) (a .nodes .now) (a .at) (a .level) _ (c .before .before .before .before .before .before .before .if1 .left) (c .before .before .before .before .before .if3 .taken) (m .0) (m .1) _ (n .0), n .1)
+    let c3 = c .before .before .before in
+    let c5 = c3 .before .before in
+    let c7 = c5 .before .before in
+    let c12 = c7 .before .before .before .before .before in
+    let a = c12 .args in
+    let m = not-indirection (kindAt (a .nodes .now) (a .at)) (c12 .pre .1) in
+    let n = rw (c .before .to2 .given .1) at (c3 .expect-opening .ensures) in
+    (around-more (a .names .now) (a .nodes .now) (a .at) (a .level) _ (c7 .if1 .left) (c5 .if3 .taken) (m .0) (m .1) _ (n .0), n .1)
 
 open-container-requires : tie.Need-open-container-requires
 open-container-requires c κs =
-    let a = c .before .before .before .before .before .before .before .args in
-    let k = c .before .before .before .before .before .before .before .pre .0 .1 in
-    (c .before .before .before .before .before .before .before .pre .0 .0, k, container-range (kindAt (a .nodes .now) (a .at)) (c .if3 .left) (k .kind) (c .before .if2 .left))
+    let c7 = c .before .before .before .before .before .before .before in
+    let a = c7 .args in
+    let k = c7 .pre .0 .1 in
+    (c7 .pre .0 .0, k, container-range (kindAt (a .nodes .now) (a .at)) (c .if3 .left) (k .kind) (c .before .if2 .left))
 
 returns-6 : tie.Need-returns-6
 returns-6 c =
-    let a = c .before .before .before .before .before .before .before .before .args in
-    opened-at (a .names .now) (a .nodes .now) (a .at) (a .level) (a .text .now) (a .place) (c .open-container .result) (container-range (kindAt (a .nodes .now) (a .at)) (c .before .if3 .left) (c .before .before .before .before .before .before .before .before .pre .0 .1 .kind) (c .before .before .if2 .left)) (c .open-container .ensures)
+    let c2 = c .before .before in
+    let c8 = c2 .before .before .before .before .before .before in
+    let a = c8 .args in
+    opened-at (a .names .now) (a .nodes .now) (a .at) (a .level) (a .text .now) (a .place) (c .open-container .result)
+    (container-range (kindAt (a .nodes .now) (a .at)) (c .before .if3 .left) (c8 .pre .0 .1 .kind) (c2 .if2 .left)) (c .open-container .ensures)
 
 pub open-node-spec : {M : Type 1} → statement M
 open-node-spec =

@@ -9,21 +9,29 @@ prefix-byte-requires c κs = search needs
 
 returns : tie.Need-returns
 unfolding ownByte
-returns c = rw (eq-eqb (c .before .before .args .kind) 26 (c .before .if1 .taken)) (c .prefix-byte .ensures)
+returns c =
+    let c2 = c .before .before in
+    rw (eq-eqb (c2 .args .kind) 26 (c .before .if1 .taken)) (c .prefix-byte .ensures)
 
 prefix-byte-requires-2 : tie.Need-prefix-byte-requires-2
 prefix-byte-requires-2 c κs = search needs
 
 returns-2 : tie.Need-returns-2
 unfolding ownByte
-returns-2 c = rw (ne-eqb (c .before .before .before .args .kind) 26 (c .before .before .if1 .left), eq-eqb (c .before .before .before .args .kind) 27 (c .before .if2 .taken)) (c .prefix-byte2 .ensures)
+returns-2 c =
+    let c2 = c .before .before in
+    let c3 = c2 .before in
+    rw (ne-eqb (c3 .args .kind) 26 (c2 .if1 .left), eq-eqb (c3 .args .kind) 27 (c .before .if2 .taken)) (c .prefix-byte2 .ensures)
 
 code-byte-requires : tie.Need-code-byte-requires
 code-byte-requires c κs = search needs
 
 returns-3 : tie.Need-returns-3
 unfolding ownByte
-returns-3 c = rw (ne-eqb (c .before .before .before .args .kind) 26 (c .before .before .if1 .left), ne-eqb (c .before .before .before .args .kind) 27 (c .before .if2 .left)) (c .code-byte .ensures)
+returns-3 c =
+    let c2 = c .before .before in
+    let c3 = c2 .before in
+    rw (ne-eqb (c3 .args .kind) 26 (c2 .if1 .left), ne-eqb (c3 .args .kind) 27 (c .before .if2 .left)) (c .code-byte .ensures)
 
 pub own-byte-spec : {M : Type 1} → statement M
 own-byte-spec =
