@@ -41,7 +41,9 @@ nodes-length m end = refl
 nodes-length m (node l cs ts) =
     let a : length (nodes cs (m + length (name l))) ≡ 4 * count cs = nodes-length _ cs in
     let b : length (nodes ts (m + length (name l) + length (namesOf cs))) ≡ 4 * count ts = nodes-length _ ts in
-    let e : length (nodes cs (m + length (name l)) ++ nodes ts (m + length (name l) + length (namesOf cs))) ≡ length (nodes cs (m + length (name l))) + length (nodes ts (m + length (name l) + length (namesOf cs))) = length-append (nodes cs (m + length (name l))) (nodes ts (m + length (name l) + length (namesOf cs))) in
+    let x : List ℕ = nodes cs (m + length (name l)) in
+    let y : List ℕ = nodes ts (m + length (name l) + length (namesOf cs)) in
+    let e : length (x ++ y) ≡ length x + length y = length-append x y in
     omega arith
 
 -- A node alone: its own words, and its children's.
@@ -518,7 +520,9 @@ module _ (text : List ℕ) (at : ℕ) (k : ContainerKind) (n m : ℕ) (h : at < 
   unfolding closes
   opens-container = slack-open text at h (ap closes st)
 
-  container-begins : (g : ℕ) → begin (getD text at 0) (start (getD text at 0)) (drop (at + 1) text) (λ t. parseInner g t) (λ j t. parseItems g j t) ≡ begin (getD text at 0) (R.openContainer k) (drop (at + 1) text) (λ t. parseInner g t) (λ j t. parseItems g j t)
+  container-begins : (g : ℕ)
+      → begin (getD text at 0) (start (getD text at 0)) (drop (at + 1) text) (λ t. parseInner g t) (λ j t. parseItems g j t)
+      ≡ begin (getD text at 0) (R.openContainer k) (drop (at + 1) text) (λ t. parseInner g t) (λ j t. parseItems g j t)
   container-begins g = ap (λ (x : R.Start). begin (getD text at 0) x (drop (at + 1) text) (λ t. parseInner g t) (λ j t. parseItems g j t)) st
 
   pub reads-no-name : (why : ErrorKind) (to : ℕ) → NamedIs text (at + 1) m (b .names) ns (NoName why to) (R.parseName k [] (drop (at + 1) text)) → Reads text at n m b (lists (b .words) ns) (Refused why to)

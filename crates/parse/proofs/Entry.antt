@@ -87,7 +87,8 @@ stored-front n w v h l =
 
 -- A primitive's node and four zeros stored after the header, and the header before them.
 pub code-put : (p : ℕ) (w a b y : List ℕ) → used 1 ≤ length w → a ≡ putNode (midOf headerWords (length w - headerWords) w) 0 p 0 0 1
-    → let x : List ℕ = putMid headerWords (length w - headerWords) w a in length x ≡ length w → b ≡ putNode (midOf headerWords (length x - headerWords) x) 1 0 0 0 0 → y ≡ headed 1 0 (putMid headerWords (length x - headerWords) x b) → y ≡ codeSheet p w
+    → let x : List ℕ = putMid headerWords (length w - headerWords) w a in length x ≡ length w
+    → b ≡ putNode (midOf headerWords (length x - headerWords) x) 1 0 0 0 0 → y ≡ headed 1 0 (putMid headerWords (length x - headerWords) x b) → y ≡ codeSheet p w
 unfolding padded filled
 code-put p w a b y h e l f g =
     let x : List ℕ = putMid headerWords (length w - headerWords) w a in
@@ -294,7 +295,8 @@ one-code text w ns p one hw hn st w2 n2 ew en =
     let hd : List ℕ = 1 ∷ headerWords ∷ 0 ∷ (headerWords + 4) ∷ [] in
     let kept : List ℕ = cleared (length text) ns in
     let a : Lists = lists (putNode (drop headerWords front) 0 p 0 0 1) kept in
-    let reads : Reads text 0 0 0 (lists (drop headerWords front) kept) a (Encoding 1 1 0) = reads-simple text 0 0 0 (drop headerWords front) (putNode (drop headerWords front) 0 p 0 0 1) kept (Encoding 1 1 0) h (simple-code text 0 0 0 (drop headerWords front) h p st) in
+    let n0 : List ℕ = drop headerWords front in
+    let reads : Reads text 0 0 0 (lists n0 kept) a (Encoding 1 1 0) = reads-simple text 0 0 0 n0 (putNode n0 0 p 0 0 1) kept (Encoding 1 1 0) h (simple-code text 0 0 0 n0 h p st) in
     let words : headed 1 0 (take headerWords front ++ a .words) ≡ w2 =
     ap (headed 1 0) (sets-part headerWords front 0 v (omega (arith, cleared-length (used (length text)) w hw)))
     ∙ sets-front-append front 0 headerWords hd v refl

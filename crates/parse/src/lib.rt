@@ -35,6 +35,7 @@ use numbers::Number;
 use numbers::is_digit;
 use numbers::parse_u64;
 use parser::strip_leading_qualifiers;
+use sheet::HEADER;
 
 // The place after a container's name and the name bytes written so far, or why there is none and where.
 enum Named {
@@ -70,16 +71,12 @@ enum Items {
     Refused(ErrorKind, usize),
 }
 
-// The four words of node `n`.
+// Node `n`, where its words are known to fit.
 fn put_node(words: &mut [u64], n: usize, kind: u64, first: u64, second: u64, count: u64)
     requires { ⌜ 4 * n + 4 ≤ length (now words) ⌝ }
     ensures { λ _. ⌜ now (words .exit) ≡ sets (now (words .entry)) (4 * n) (kind ∷ first ∷ second ∷ count ∷ []) ⌝ }
 {
-    let a = 4 * n;
-    words[a] = kind;
-    words[a + 1] = first;
-    words[a + 2] = second;
-    words[a + 3] = count;
+    sheet::put_node(words, n, kind, first, second, count);
 }
 
 fn copy_name(names: &mut [u8], m: usize, name: &[u8])
@@ -431,15 +428,12 @@ fn clear_names(names: &mut [u8], n: usize)
     }
 }
 
-// The words before the first node, for `k` nodes and `l` name bytes.
+// The header, where the nodes are known to fit.
 fn put_header(words: &mut [u64], k: usize, l: usize)
     requires { ⌜ headerWords + 4 * k ≤ length (now words) ⌝ }
     ensures { λ _. ⌜ now (words .exit) ≡ headed k l (now (words .entry)) ⌝ }
 {
-    words[0] = k as u64;
-    words[1] = 4;
-    words[2] = l as u64;
-    words[3] = (4 + 4 * k) as u64;
+    sheet::put_header(words, k, l);
 }
 
 // The part of the lists that reading a text of `n` bytes uses.
@@ -447,7 +441,7 @@ fn clear_sheet(n: usize, words: &mut [u64], names: &mut [u8])
     requires { ⌜ (used n ≤ length (now words)) × (n ≤ length (now names)) ⌝ }
     ensures { λ _. ⌜ (now (words .exit) ≡ cleared (used n) (now (words .entry))) × (now (names .exit) ≡ cleared n (now (names .entry))) ⌝ }
 {
-    clear_words(words, 4 + 4 * (n + 1));
+    clear_words(words, HEADER + 4 * (n + 1));
     clear_names(names, n);
 }
 
@@ -456,7 +450,7 @@ fn put_none(words: &mut [u64])
     requires { ⌜ headerWords + 4 ≤ length (now words) ⌝ }
     ensures { λ _. ⌜ now (words .exit) ≡ noneSheet (now (words .entry)) ⌝ }
 {
-    put_node(&mut words[4..], 0, NONE, 0, 0, 1);
+    put_node(&mut words[HEADER..], 0, NONE, 0, 0, 1);
     put_header(words, 1, 0);
 }
 
@@ -494,8 +488,8 @@ fn put_code(p: u64, words: &mut [u64], names: &mut [u8])
     requires { ⌜ (used 1 ≤ length (now words)) × (1 ≤ length (now names)) ⌝ }
     ensures { λ _. ⌜ (now (words .exit) ≡ codeSheet p (now (words .entry))) × (now (names .exit) ≡ cleared 1 (now (names .entry))) ⌝ }
 {
-    put_node(&mut words[4..], 0, p, 0, 0, 1);
-    put_node(&mut words[4..], 1, 0, 0, 0, 0);
+    put_node(&mut words[HEADER..], 0, p, 0, 0, 1);
+    put_node(&mut words[HEADER..], 1, 0, 0, 0, 0);
     put_header(words, 1, 0);
     names[0] = 0;
 }
@@ -508,7 +502,7 @@ fn parse_encoding_or_none(text: &[u8], words: &mut [u64], names: &mut [u8]) -> E
     if MAX_TEXT < n {
         return Encoded::Away(Refusal::TextTooLong);
     }
-    if words.len() < 4 + 4 * (n + 1) {
+    if words.len() < HEADER + 4 * (n + 1) {
         return Encoded::Away(Refusal::ListTooShort);
     }
     if names.len() < n {
@@ -524,7 +518,7 @@ fn parse_encoding_or_none(text: &[u8], words: &mut [u64], names: &mut [u8]) -> E
     }
     clear_sheet(n, words, names);
     let at = strip_leading_qualifiers(text);
-    let p = parse_inner(&text[0..], at, &mut words[4..], 0, names, 0);
+    let p = parse_inner(&text[0..], at, &mut words[HEADER..], 0, names, 0);
     encoding_or_none(p, n, words, names)
 }
 
@@ -563,8 +557,7 @@ fn unknown_digit(why: ErrorKind) -> bool
 pub fn refusal_words(refusal: Refusal) -> [u64; 4]
     ensures { λ r. ⌜ r ≡ answerWords (Reading.Refused refusal) ⌝ }
 {
-    let values = refusal.values();
-    [refusal.number(), values[0], values[1], values[2]]
+    refusal.words()
 }
 
 // Reading from the start: `EncodingBox::from_start_of_str`. The answer is 0 for a tree and else the refusal's words; the rest is handed back.

@@ -1,4 +1,5 @@
-use Prim.Native.Nat.{_-_}
+use mathlib.Core.List.{List}
+use Prim.Native.Nat.{ℕ, _-_}
 use lib.ListN.{length}
 use borrow.Rule.Slice.PartMut.{same-len-mid}
 use Rattle.parse.proofs.Entry.{code-put, first-cleared}
@@ -47,7 +48,12 @@ returns c =
     let c6 = c .before .before .before .before .before .before in
     let c10 = c6 .before .before .before .before in
     let c14 = c10 .before .before .before .before in
-    (code-put (c14 .args .p) (c14 .args .words .now) (c10 .put-node .last .0) (c6 .put-node2 .last .0) _ (c14 .pre .0) (c10 .put-node .ensures) (same-len-mid 4 (length (c14 .args .words .now) - 4) (c14 .args .words .now) (c10 .put-node .last .0) (c10 .put-node .kept .0)) (c6 .put-node2 .ensures) (c .before .before .put-header .ensures), first-cleared (c14 .args .names .now) (c14 .pre .1))
+    let a = c14 .args in
+    let w : List ℕ = a .words .now in
+    let x = c10 .put-node in
+    let y = c6 .put-node2 in
+    let same = same-len-mid 4 (length w - 4) w (x .last .0) (x .kept .0) in
+    (code-put (a .p) w (x .last .0) (y .last .0) _ (c14 .pre .0) (x .ensures) same (y .ensures) (c .before .before .put-header .ensures), first-cleared (a .names .now) (c14 .pre .1))
 
 pub put-code-spec : {M : Type 1} → statement M
 put-code-spec =
