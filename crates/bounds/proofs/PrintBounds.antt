@@ -1,7 +1,6 @@
 -- The bound that the header gives for a print: the statements over the definitions that the calls are proved to equal.
-use Prim.Native.Nat.{ℕ, suc, _+_, _*_, _≤_}
-use native.Mathlib.Omega.{arith}
-use mathlib.Core.Path.{_≡_, refl, sym, ap, _∙_}
+use Prim.Native.Nat.{ℕ, _≤_}
+use mathlib.Core.Path.{_≡_}
 use mathlib.Core.List.{List}
 use Rattle.kinds.specs.Sheet.{namesOf, sheetOf}
 use Rattle.static_str.specs.Outcome.{encodingLen, encodingArray}

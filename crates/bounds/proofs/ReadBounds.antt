@@ -1,5 +1,5 @@
 -- The words and name bytes that the header gives for reading: the statements over the definitions that the calls are proved to equal.
-use Prim.Native.Nat.{ℕ, suc, _+_, _≤_, _<_}
+use Prim.Native.Nat.{ℕ, _≤_, _<_}
 use mathlib.Core.Path.{_≡_}
 use mathlib.Core.List.{List}
 use lib.ListN.{length, getD}

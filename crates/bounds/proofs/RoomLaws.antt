@@ -1,23 +1,21 @@
 -- When reading has room, and what a text of pointers gives.
-use Prim.Native.Nat.{ℕ, zero, suc, _+_, _*_, _-_, _≤_, _<_}
+use Prim.Native.Nat.{ℕ, zero, suc, _+_, _*_, _≤_, _<_}
 use native.Mathlib.Omega.{arith}
-use mathlib.Core.Path.{_≡_, refl, sym, ap, ap₂, _∙_}
-use mathlib.Core.List.{List, [], _∷_, _++_}
-use mathlib.Core.Bool.{Bool, true, false, cond, _&&_}
-use mathlib.Core.Option.{Option, some, none}
+use mathlib.Core.Path.{_≡_, refl, ap, _∙_}
+use mathlib.Core.List.{List, []}
+use mathlib.Core.Bool.{Bool, true, false, _&&_}
+use mathlib.Core.Option.{some, none}
 use borrow.Author.Tests.{le-ltb, le-leb, lt-leb}
 use lib.Dec.{leb}
 use lib.ListN.{length, getD, replicate, length-replicate}
 use Rattle.kinds.specs.Byte.{byte, among}
 use Rattle.kinds.specs.Parse as P
-use Rattle.kinds.specs.Parse.{Parsed, empty, encoding, Whole, tree, start, begin, held, parseInner, parse, isQualifier, qualifiers, stripLeadingQualifiers, encodingOrNone, parseEncodingOrNone, whole, fromStr, fromStartOfStr}
+use Rattle.kinds.specs.Parse.{Parsed, empty, encoding, Whole, start, begin, held, parseInner, parse, isQualifier, qualifiers, stripLeadingQualifiers, encodingOrNone, parseEncodingOrNone, whole, fromStr, fromStartOfStr}
 use Rattle.kinds.specs.Sheet.{sheetOf, headerOf}
 use Rattle.kinds.specs.Tree as T
-use Rattle.kinds.specs.Tree.{Label, Trees, end, node, pointer, count}
-use Rattle.kinds.specs.declared.Refusal.{Refusal}
+use Rattle.kinds.specs.Tree.{Trees, end, node, pointer, count}
 use Rattle.kinds.specs.declared.Refusal.the-variants.{ListTooShort}
 use Rattle.parse.specs.EncodingBox.{maxText, used, hasRoom, turnedAway, padded, filled, sheetWords, unlessAway, wordsAfter, wholeTree, wholeReading, startReading, answerOr, fromStrAnswer, fromStrWords, fromStartAnswer}
-use Rattle.parse.specs.declared.Reading.{Reading}
 use Rattle.parse.specs.declared.Reading.the-variants.{Tree, Refused}
 use Rattle.bounds.specs.Extremes.{pointers}
 use Rattle.bounds.specs.Limits.{wordsFor, namesFor}

@@ -2,13 +2,13 @@
 use Prim.Native.Nat.{ℕ, zero, suc, _+_, _*_, _≤_}
 use native.Mathlib.Omega.{arith}
 use mathlib.Core.Path.{_≡_, refl, sym, ap, _∙_}
-use mathlib.Core.List.{List, [], _++_, append-nil}
-use mathlib.Core.Bool.{Bool, true, false, cond, false≢true}
+use mathlib.Core.List.{List, _++_, append-nil}
+use mathlib.Core.Bool.{true, false, false≢true}
 use borrow.Author.Tests.{le-leb}
 use lib.ListN.{length, drop}
 use lib.Seq.{drop-length}
 use Rattle.kinds.specs.Print.{print}
-use Rattle.kinds.specs.Sheet.{Holds, isSheet, treeOf, namesOf, headerOf, sheetOf}
+use Rattle.kinds.specs.Sheet.{Holds, treeOf, namesOf, headerOf, sheetOf}
 use Rattle.kinds.specs.Sound.{valid, goodNames}
 use Rattle.kinds.specs.Tree.{Trees, end, node, isOne, isEnd, count}
 use Rattle.kinds.specs.declared.NestingLevel.the-variants.{Top}
@@ -19,8 +19,7 @@ use Rattle.sheet.specs.declared.Checked.{Checked}
 use Rattle.sheet.specs.declared.Checked.the-variants.{NotASheet, BadName, Good}
 use Rattle.sheet.proofs.CheckLaws.{good-says, is-good}
 use Rattle.static_str.specs.Outcome.{fitted, textOf, orRefused, encodingLen, encodingArray}
-use Rattle.static_str.specs.declared.Printed.{Printed}
-use Rattle.static_str.specs.declared.Printed.the-variants.{Refused, Bytes}
+use Rattle.static_str.specs.declared.Printed.the-variants.{Bytes}
 use Rattle.bounds.specs.Limits.{maxPrint}
 use Rattle.bounds.specs.Extremes.{named, mostBitFields, longest}
 use Rattle.bounds.proofs.PrintLaws.{short}

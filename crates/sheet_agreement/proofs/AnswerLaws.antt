@@ -9,12 +9,11 @@ use lib.ListN.{length}
 use borrow.Author.Tests.{le-ltb}
 use Rattle.kinds.specs.Compare.{compareEncodings, equivalentTo}
 use Rattle.kinds.specs.Expect.{equivalentToStr}
-use Rattle.kinds.specs.Print.{print}
 use Rattle.kinds.specs.Sheet.{isSheet, treeOf}
 use Rattle.kinds.specs.Size.{size}
 use Rattle.kinds.specs.Sound.{valid, goodNames}
 use Rattle.agreement.specs.Sound.{sound, clear}
-use Rattle.kinds.specs.Tree.{Trees, isOne}
+use Rattle.kinds.specs.Tree.{isOne}
 use Rattle.kinds.specs.declared.NestingLevel.the-variants.{Top}
 use Rattle.kinds.specs.declared.Refusal.the-variants as R
 use Rattle.kinds.proofs.HoldsLaws.{test-holds}
@@ -22,11 +21,11 @@ use Rattle.kinds.proofs.TableLaws.{both}
 use Rattle.sheet.specs.Check.{checked}
 use Rattle.sheet.specs.declared.Checked.the-variants.{Good}
 use Rattle.sheet.proofs.CheckLaws.{is-good}
-use Rattle.expect.specs.Encoding.{maxText, comparedSheet, compared}
+use Rattle.expect.specs.Encoding.{maxText, compared}
 use Rattle.helper.specs.Answer.{sized, sizeAnswer, compareAnswer}
 use Rattle.kinds.specs.declared.Compared.{Compared}
 use Rattle.kinds.specs.declared.Compared.the-variants as C
-use Rattle.static_str.specs.Outcome.{fitted, placed, textOf, orRefused, orKept, encodingLen, encodingArray, encodingOutput}
+use Rattle.static_str.specs.Outcome.{fitted, placed, textOf, encodingLen, encodingArray, encodingOutput}
 use Rattle.static_str.specs.declared.Printed.the-variants.{Bytes}
 use Rattle.agreement.specs.ShownAlike.{ShownAlike}
 use Rattle.agreement.proofs.Agreement.{shown-alike}

@@ -2,9 +2,9 @@
 use Prim.Native.Nat.{ℕ, _+_, _*_, _-_, _≤_}
 use native.Mathlib.Omega.{arith}
 use mathlib.Core.Bool.{Bool, true, false, cond, false≢true}
-use mathlib.Core.List.{List, [], _∷_, _++_, append-assoc}
+use mathlib.Core.List.{List, _++_, append-assoc}
 use mathlib.Core.Option.{Option, some, none}
-use mathlib.Core.Path.{_≡_, refl, sym, ap, subst, _∙_}
+use mathlib.Core.Path.{_≡_, refl, sym, ap, _∙_}
 use borrow.Author.Tests.{ltb-false, le-ltb, le-leb, leb-true}
 use lib.Dec.{leb, ltb}
 use lib.ListN.{length, take, drop, replicate}
@@ -23,7 +23,6 @@ use Rattle.kinds.proofs.LayoutLaws.{nodes-length}
 use Rattle.kinds.proofs.TableLaws.{both}
 use Rattle.parse.specs.EncodingBox.{maxText, hasRoom, turnedAway, padded, filled, used, sheetWords, sheetNames, unlessAway, wordsAfter, namesAfter}
 use Rattle.parse.specs.EncodingBox.{wholeTree, wholeReading, answerOr, fromStrAnswer, fromStrWords, fromStrNames, startTree, startReading, fromStartAnswer, fromStartWords, fromStartNames}
-use Rattle.parse.specs.declared.Reading.{Reading}
 use Rattle.parse.specs.declared.Reading.the-variants.{Tree, Refused}
 use Rattle.static_str.specs.Outcome.{fitted, placed, textOf, encodingArray, encodingOutput}
 use Rattle.static_str.specs.declared.Printed.the-variants as N
