@@ -1,5 +1,6 @@
 -- The statements, and below them the laws that they rest on.
 pub mod PrintBounds
+pub mod SheetBounds
 pub mod ReadBounds
 pub mod SheetPrints
 pub mod LongestLaws

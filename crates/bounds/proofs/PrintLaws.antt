@@ -71,7 +71,7 @@ abbrev ShortNode : Label → NestingLevel → Trees → Type 0
 ShortNode l v cs = (k : ℕ) → k ≤ 1 → k ≤ length (name l) + length (namesOf cs)
     → length (printNode l v (print (inside l v) cs)) + 20 + k ≤ 24 * suc (count cs) + length (name l) + length (namesOf cs)
 
-one-some : (t : Trees) → isOne t ≡ true → isEnd t ≡ false
+pub one-some : (t : Trees) → isOne t ≡ true → isEnd t ≡ false
 unfolding isOne isEnd
 one-some end h = absurd (false≢true h)
 one-some (node l cs ts) h = refl

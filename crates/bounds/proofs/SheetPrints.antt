@@ -3,14 +3,14 @@ use Prim.Native.Nat.{ℕ, zero, suc, _+_, _*_, _≤_}
 use native.Mathlib.Omega.{arith}
 use mathlib.Core.Path.{_≡_, refl, sym, ap, _∙_}
 use mathlib.Core.List.{List, _++_, append-nil}
-use mathlib.Core.Bool.{true, false, false≢true}
+use mathlib.Core.Bool.{true}
 use borrow.Author.Tests.{le-leb}
 use lib.ListN.{length, drop}
 use lib.Seq.{drop-length}
 use Rattle.kinds.specs.Print.{print}
 use Rattle.kinds.specs.Sheet.{Holds, treeOf, namesOf, headerOf, sheetOf}
 use Rattle.kinds.specs.Sound.{valid, goodNames}
-use Rattle.kinds.specs.Tree.{Trees, end, node, isOne, isEnd, count}
+use Rattle.kinds.specs.Tree.{Trees, isOne, count}
 use Rattle.kinds.specs.declared.NestingLevel.the-variants.{Top}
 use Rattle.kinds.proofs.HoldsLaws.{test-holds, holds-test, holds-tree}
 use Rattle.kinds.proofs.LayoutLaws.{nodes-length}
@@ -20,21 +20,16 @@ use Rattle.sheet.specs.declared.Checked.the-variants.{NotASheet, BadName, Good}
 use Rattle.sheet.proofs.CheckLaws.{good-says, is-good}
 use Rattle.static_str.specs.Outcome.{fitted, textOf, orRefused, encodingLen, encodingArray}
 use Rattle.static_str.specs.declared.Printed.the-variants.{Bytes}
-use Rattle.bounds.specs.Limits.{maxPrint}
+use Rattle.bounds.specs.Limits.{maxNodes, maxNames, maxPrint}
 use Rattle.bounds.specs.Extremes.{named, mostBitFields, longest}
-use Rattle.bounds.proofs.PrintLaws.{short}
+use Rattle.bounds.proofs.PrintLaws.{one-some, short}
 use Rattle.bounds.proofs.LongestLaws.{named-one, named-valid, named-count, named-names, named-print, named-good}
-
-some-tree : (t : Trees) → isOne t ≡ true → isEnd t ≡ false
-unfolding isOne isEnd
-some-tree end h = absurd (false≢true h)
-some-tree (node l cs ts) h = refl
 
 tree-bound : (t : Trees) → isOne t ≡ true → valid t ≡ true → count t ≤ 2001 → length (namesOf t) ≤ 2000 → length (print Top t) ≤ maxPrint
 tree-bound t o v c n = go (length (namesOf t)) refl
   where
     s : (k : ℕ) → k ≤ 1 → k ≤ length (namesOf t) → length (print Top t) + 20 + k ≤ 24 * count t + length (namesOf t)
-    s = short Top t v (some-tree t o)
+    s = short Top t v (one-some t o)
 
     go : (m : ℕ) → length (namesOf t) ≡ m → length (print Top t) ≤ maxPrint
     go zero e = omega (arith, s 0 (omega arith) (omega arith))
@@ -84,9 +79,17 @@ layout-holds t o v c n = record {
   names-are = alone (namesOf t) (length (namesOf t)) refl;
 }
 
-longest-holds : Holds (sheetOf longest) (namesOf longest) longest
+pub longest-holds : Holds (sheetOf longest) (namesOf longest) longest
 unfolding longest
 longest-holds = layout-holds (named mostBitFields 2000) (named-one mostBitFields 2000) (named-valid mostBitFields 2000) (omega (arith, named-count mostBitFields 2000)) (omega (arith, named-names mostBitFields 2000))
+
+pub longest-count : count longest ≡ maxNodes
+unfolding longest
+longest-count = named-count mostBitFields 2000
+
+pub longest-names : length (namesOf longest) ≡ maxNames
+unfolding longest
+longest-names = named-names mostBitFields 2000
 
 longest-good : goodNames longest ≡ true
 unfolding longest

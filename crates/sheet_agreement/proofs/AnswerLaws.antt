@@ -1,7 +1,7 @@
 -- What the calls answer for good sheets, from the trees that they hold.
 use Prim.Native.Nat.{ℕ, _≤_}
 use native.Mathlib.Omega.{arith}
-use mathlib.Core.Bool.{Bool, true, false, cond, _&&_}
+use mathlib.Core.Bool.{Bool, true, false, cond, _&&_, and-true}
 use mathlib.Core.List.{List}
 use mathlib.Core.Path.{_≡_, refl, sym, ap, _∙_}
 use lib.Dec.{ltb}
@@ -83,10 +83,6 @@ same-text text f g e = ap (λ (b : Bool). cond (ltb maxText (length text)) (C.Re
 unfoldable pub againstOther : Bool → Bool → Bool → Compared
 againstOther sheet good answer = cond sheet (cond good (C.Decided answer) (C.Refused R.BadName)) (C.Refused R.NotASheet)
 
-right-true : (x : Bool) → (x && true) ≡ x
-right-true true = refl
-right-true false = refl
-
 module _ (w s : List ℕ) (h : GoodSheet w s) (cw cn : List ℕ) where
   pub compare-first : compareAnswer false w s cw cn ≡ againstOther (isSheet cw cn) (goodNames (treeOf cw cn)) (equivalentTo (treeOf w s) (treeOf cw cn))
   unfolding compareAnswer againstOther equivalentTo
@@ -94,7 +90,7 @@ module _ (w s : List ℕ) (h : GoodSheet w s) (cw cn : List ℕ) where
 
   pub compare-second : compareAnswer false cw cn w s ≡ againstOther (isSheet cw cn) (goodNames (treeOf cw cn)) (equivalentTo (treeOf cw cn) (treeOf w s))
   unfolding compareAnswer againstOther equivalentTo
-  compare-second = rw (h .sheet, h .good-names, right-true (isSheet cw cn), right-true (goodNames (treeOf cw cn)))
+  compare-second = rw (h .sheet, h .good-names, and-true (isSheet cw cn), and-true (goodNames (treeOf cw cn)))
 
 -- With another good sheet, by levels and with all fields.
 pub compare-both : (all : Bool) (aw an bw bn : List ℕ) → GoodSheet aw an → GoodSheet bw bn → compareAnswer all aw an bw bn ≡ C.Decided (compareEncodings all Top (treeOf aw an) (treeOf bw bn))
