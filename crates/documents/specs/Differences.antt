@@ -7,12 +7,13 @@ use mathlib.Core.Option.{Option, some, none}
 use Rattle.kinds.specs.Byte.{byte, bytes}
 use Rattle.kinds.specs.Parse.{Whole, tree, refusal, fromStr}
 use Rattle.kinds.specs.Print.{print}
-use Rattle.kinds.specs.Refusal.{errorNumber}
+use Rattle.kinds.specs.Refusal.{number}
 use Rattle.kinds.specs.Size.{size}
 use Rattle.kinds.specs.Tree as T
 use Rattle.kinds.specs.Tree.{Label, Trees, end, node}
 use Rattle.kinds.specs.declared.NestingLevel.the-variants.{Top}
 use Rattle.kinds.specs.declared.Primitive.the-variants as P
+use Rattle.kinds.specs.declared.Refusal.the-variants.{Parse}
 use Rattle.agreement.specs.ReadTree.{readTree}
 use Rattle.documents.specs.Gcc as C
 use Rattle.documents.specs.Guide as G
@@ -43,7 +44,7 @@ pub data Row : Type 0 where
 
 unfoldable pub refusedWith : Whole → Option (ℕ × ℕ)
 refusedWith (tree l cs) = none
-refusedWith (refusal e place) = some (errorNumber e, place)
+refusedWith (refusal e place) = some (number (Parse e place), place)
 
 -- The crate refuses the text.
 abbrev pub Refuses : List ℕ → ℕ → ℕ → Type 0
