@@ -12,6 +12,7 @@ use Rattle.kinds.specs.Sheet.{Holds, treeOf, namesOf, headerOf, sheetOf}
 use Rattle.kinds.specs.Sound.{valid, goodNames}
 use Rattle.kinds.specs.Tree.{Trees, isOne, count}
 use Rattle.kinds.specs.declared.NestingLevel.the-variants.{Top}
+use Rattle.kinds.specs.declared.Refusal.the-variants.{OutputTooShort}
 use Rattle.kinds.proofs.HoldsLaws.{test-holds, holds-test, holds-tree}
 use Rattle.kinds.proofs.LayoutLaws.{nodes-length}
 use Rattle.sheet.specs.Check.{checked}
@@ -19,7 +20,7 @@ use Rattle.sheet.specs.declared.Checked.{Checked}
 use Rattle.sheet.specs.declared.Checked.the-variants.{NotASheet, BadName, Good}
 use Rattle.sheet.proofs.CheckLaws.{good-says, is-good}
 use Rattle.static_str.specs.Outcome.{fitted, textOf, orRefused, encodingLen, encodingArray}
-use Rattle.static_str.specs.declared.Printed.the-variants.{Bytes}
+use Rattle.static_str.specs.declared.Printed.the-variants.{Refused, Bytes}
 use Rattle.bounds.specs.Limits.{maxNodes, maxNames, maxPrint}
 use Rattle.bounds.specs.Extremes.{named, mostBitFields, longest}
 use Rattle.bounds.proofs.PrintLaws.{one-some, short}
@@ -59,6 +60,15 @@ module _ (words names : List ℕ) where
       go NotASheet e = refl
       go BadName e = refl
       go Good e = rw (le-leb (length (textOf words names)) room (omega (arith, text-bound e)))
+
+  pub never-short : (room : ℕ) → maxPrint ≤ room → encodingArray words names room ≡ Refused OutputTooShort → ⊥
+  unfolding encodingLen
+  never-short room l q = go (checked words names) (sym (enough room l) ∙ q)
+    where
+      go : (c : Checked) → orRefused c (Bytes (length (textOf words names))) ≡ Refused OutputTooShort → ⊥
+      go NotASheet h = let z : _≡_ {A = ℕ} 0 1 = cc in omega arith
+      go BadName h = let z : _≡_ {A = ℕ} 0 1 = cc in omega arith
+      go Good h = let z : _≡_ {A = ℕ} 0 1 = cc in omega arith
 
 -- ---- The layout of a tree alone.
 
