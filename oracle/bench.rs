@@ -23,12 +23,9 @@ pub fn run() -> bool {
         let tree = Tree::from_box(&ask::read(&text).expect("a text that reads"));
         let name = format!("{name}: {} bytes, {} nodes", text.len(), tree.nodes.len());
         bench_tree(&name, &tree);
-        #[cfg(readers)]
         bench_reading(&name, &text);
-        #[cfg(matcher)]
         bench_matching(&name, &tree);
     }
-    #[cfg(readers)]
     bench_growth();
     true
 }
@@ -109,7 +106,6 @@ fn array_printer<'a>(made: &'a Encoding, tree: &Tree, length: usize) -> Option<B
     })
 }
 
-#[cfg(readers)]
 fn bench_reading(name: &str, text: &str) {
     let (mut words, mut names) = (vec![0; 8 + 4 * text.len()], vec![0; text.len()]);
     let ours = || library::from_str(black_box(text.as_bytes()), &mut words, &mut names).0;
@@ -119,7 +115,6 @@ fn bench_reading(name: &str, text: &str) {
 }
 
 /// Each tree against its own print.
-#[cfg(matcher)]
 fn bench_matching(name: &str, tree: &Tree) {
     let mut arena = Arena::default();
     let made = arena.encoding(tree);
@@ -132,19 +127,16 @@ fn bench_matching(name: &str, tree: &Tree) {
     line(name, "equivalent_to_str", theirs, ours);
 }
 
-#[cfg(readers)]
 fn crate_read(text: &str) -> bool {
     text.parse::<crate::EncodingBox>().is_ok()
 }
 
-#[cfg(readers)]
 fn crate_read_start(text: &str) -> bool {
     let mut rest = text;
     crate::EncodingBox::from_start_of_str(&mut rest).is_ok()
 }
 
 /// How the time of reading grows: it is linear if the time for a byte stays the same.
-#[cfg(readers)]
 fn bench_growth() {
     println!();
     println!("| reading, bytes | crate, ns a byte | ours, ns a byte | ratio |");

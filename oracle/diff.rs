@@ -10,17 +10,10 @@
 //!     diff stack KIBIBYTES      the deepest trees and texts on a stack of that size
 //!     diff bench                times, as ratios to the crate's
 //!
-//! `short` and `reads` need a library with the readers, `match` and `texts` one with tree against
-//! text. The exit status is 0 if there was no difference, 1 if there was one, 2 if the call makes
-//! no sense.
+//! The exit status is 0 if there was no difference, 1 if there was one, 2 if the call makes no sense.
 
 use crate::report::run as run_all;
-use crate::{bench, run_sheets, run_trees, stack};
-
-#[cfg(readers)]
-use crate::run_reads;
-#[cfg(matcher)]
-use crate::run_texts;
+use crate::{bench, run_reads, run_sheets, run_texts, run_trees, stack};
 
 pub fn run() -> i32 {
     let arguments: Vec<String> = std::env::args().skip(1).collect();
@@ -30,13 +23,9 @@ pub fn run() -> i32 {
         (Some("trees"), Some(&[seed, count])) => trees(seed, count),
         (Some("sheets"), Some(&[seed, count])) => sheets(seed, count),
         (Some("all"), Some(&[seed, count])) => all(seed, count),
-        #[cfg(readers)]
         (Some("short"), Some(&[length])) => short(length as usize),
-        #[cfg(readers)]
         (Some("reads"), Some(&[seed, count])) => reads(seed, count),
-        #[cfg(matcher)]
         (Some("match"), Some(&[length])) => short_match(length as usize),
-        #[cfg(matcher)]
         (Some("texts"), Some(&[seed, count])) => texts(seed, count),
         (Some("stack"), Some(&[kibibytes])) => stack::run(kibibytes as usize),
         (Some("bench"), Some(&[])) => bench::run(),
@@ -53,16 +42,10 @@ fn all(seed: u64, count: u64) -> bool {
     // No run is left out because an earlier one found a difference.
     let mut same = trees(seed, count);
     same &= sheets(seed, count);
-    #[cfg(readers)]
-    {
-        same &= short(3);
-        same &= reads(seed, count);
-    }
-    #[cfg(matcher)]
-    {
-        same &= short_match(4);
-        same &= texts(seed, count);
-    }
+    same &= short(3);
+    same &= reads(seed, count);
+    same &= short_match(4);
+    same &= texts(seed, count);
     same
 }
 
@@ -76,25 +59,21 @@ fn sheets(seed: u64, count: u64) -> bool {
     run_all("sheets", run_sheets::inputs(seed, count), |case, tally| check.case(case, tally))
 }
 
-#[cfg(readers)]
 fn short(length: usize) -> bool {
     let mut check = run_reads::Check::new();
     run_all("short", run_reads::short_inputs(length), |case, tally| check.case(case, tally))
 }
 
-#[cfg(matcher)]
 fn short_match(length: usize) -> bool {
     let mut check = run_texts::ShortCheck::new();
     run_all("match", run_texts::short_inputs(length), |case, tally| check.case(case, tally))
 }
 
-#[cfg(readers)]
 fn reads(seed: u64, count: u64) -> bool {
     let mut check = run_reads::Check::new();
     run_all("reads", run_reads::inputs(seed, count), |case, tally| check.case(case, tally))
 }
 
-#[cfg(matcher)]
 fn texts(seed: u64, count: u64) -> bool {
     let mut check = run_texts::Check::new();
     run_all("texts", run_texts::inputs(seed, count), |case, tally| check.case(case, tally))

@@ -80,10 +80,6 @@ mod exported {
             out_len: usize,
             answer: *mut u64,
         ) -> u64;
-    }
-
-    #[cfg(readers)]
-    extern "C" {
         pub fn berzhotun_from_str(
             text: *const u8,
             text_len: usize,
@@ -102,10 +98,6 @@ mod exported {
             names_len: usize,
             values: *mut u64,
         ) -> u64;
-    }
-
-    #[cfg(matcher)]
-    extern "C" {
         pub fn berzhotun_equivalent_to_str(
             words: *const u64,
             words_len: usize,
@@ -213,10 +205,8 @@ pub fn static_encoding_str_array(sheet: Sheet, out: &mut [u8], lent: usize) -> R
     (refusal, answers)
 }
 
-#[cfg(readers)]
 pub type Reader = fn(&[u8], &mut [u64], &mut [u8]) -> Reply;
 
-#[cfg(readers)]
 pub fn from_str(text: &[u8], words: &mut [u64], names: &mut [u8]) -> Reply {
     let mut values = [MARK; 4];
     // SAFETY: as in `pair`.
@@ -234,7 +224,6 @@ pub fn from_str(text: &[u8], words: &mut [u64], names: &mut [u8]) -> Reply {
     (refusal, values)
 }
 
-#[cfg(readers)]
 pub fn from_start_of_str(text: &[u8], words: &mut [u64], names: &mut [u8]) -> Reply {
     let mut values = [MARK; 4];
     // SAFETY: as in `pair`.
@@ -252,7 +241,6 @@ pub fn from_start_of_str(text: &[u8], words: &mut [u64], names: &mut [u8]) -> Re
     (refusal, values)
 }
 
-#[cfg(matcher)]
 pub fn equivalent_to_str(sheet: Sheet, text: &[u8]) -> Reply {
     let mut answers = [MARK; 4];
     let Sheet { words, names } = sheet;

@@ -47,20 +47,18 @@ mod random;
 #[cfg(diff)]
 mod report;
 #[cfg(diff)]
+mod run_reads;
+#[cfg(diff)]
 mod run_sheets;
+#[cfg(diff)]
+mod run_texts;
 #[cfg(diff)]
 mod run_trees;
 #[cfg(diff)]
 mod stack;
-
-// The library's readers and its tree against text come later than the rest.
-#[cfg(readers)]
-mod run_reads;
-#[cfg(matcher)]
-mod run_texts;
-#[cfg(any(readers, matcher))]
-#[allow(dead_code)]
+#[cfg(diff)]
 mod texts;
+
 
 // A tree of 2,001 nested nodes is walked by recursion in the crate.
 const STACK: usize = 1 << 30;

@@ -100,9 +100,23 @@ static void check_type(void) {
     }
 }
 
+/* Takes a line of the list apart; 0 where it has not exactly the six words of a row. */
+static int parse_row(const char *line) {
+    int end = 0;
+    int words = sscanf(line, "%15s %15s %63s %511s %23s %511s %n", row.target, row.how, row.name, row.text, row.size,
+                       row.outcome, &end);
+    return words == 6 && line[end] == '\0';
+}
+
 int main(void) {
-    while (scanf("%15s %15s %63s %511s %23s %511s", row.target, row.how, row.name, row.text, row.size,
-                 row.outcome) == 6) {
+    static char line[2048];
+    int unread = 0;
+    while (fgets(line, sizeof line, stdin) != NULL) {
+        if (!parse_row(line)) {
+            printf("not a row: %s", line);
+            unread++;
+            continue;
+        }
         counts.rows++;
         if (strcmp(row.how, "method") == 0) {
             check_signature();
@@ -114,5 +128,5 @@ int main(void) {
            counts.rows, counts.same, counts.otherwise, counts.refused);
     printf("%d sizes, %d signatures with %d types; %d differences\n", counts.sizes, counts.signatures, counts.types,
            counts.differences);
-    return counts.differences != 0 || counts.rows == 0;
+    return counts.differences != 0 || unread != 0 || counts.rows == 0;
 }

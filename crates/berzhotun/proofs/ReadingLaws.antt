@@ -9,10 +9,10 @@ use Rattle.kinds.specs.Refusal.{number, values}
 use Rattle.kinds.specs.declared.ErrorKind.the-variants as E
 use Rattle.kinds.specs.declared.Refusal.{Refusal}
 use Rattle.kinds.specs.declared.Refusal.the-variants as R
-use Rattle.parse.specs.EncodingBox.{answerWords, EndOf}
+use Rattle.parse.specs.Answer.{answerWords, EndOf}
 use Rattle.parse.specs.declared.Reading.{Reading}
 use Rattle.parse.specs.declared.Reading.the-variants as G
-use Rattle.berzhotun.specs.Numbers.{readNumber, readValues}
+use Rattle.berzhotun.specs.Answer.{readNumber, readValues}
 
 words-values : (r : Refusal) → answerWords (G.Refused r) ≡ number r ∷ values r
 words-values r = refl
@@ -47,7 +47,8 @@ pub refused-number : (ws : List ℕ) (a : Reading) → ws ≡ answerWords a → 
 refused-number ws G.Tree e z = absurd (z (ap (λ (l : List ℕ). getD l 0 0) e))
 refused-number ws (G.Refused r) e z = ap (λ (l : List ℕ). getD l 0 0) (e ∙ words-values r)
 
-pub refused-values : (ws : List ℕ) (a : Reading) (p : ℕ) → ws ≡ answerWords a → (getD ws 0 0 ≡ 0 → ⊥) → getD ws 1 0 ∷ getD ws 2 0 ∷ getD ws 3 0 ∷ [] ≡ readValues p a
+pub refused-values : (ws : List ℕ) (a : Reading) (p : ℕ) → ws ≡ answerWords a → (getD ws 0 0 ≡ 0 → ⊥) → getD ws 1 0 ∷ getD ws 2 0 ∷ getD ws 3 0 ∷ []
+    ≡ readValues p a
 refused-values ws G.Tree p e z = absurd (z (ap (λ (l : List ℕ). getD l 0 0) e))
 refused-values ws (G.Refused r) p e z = ap (λ (l : List ℕ). getD l 1 0 ∷ getD l 2 0 ∷ getD l 3 0 ∷ []) (e ∙ words-values r)
 

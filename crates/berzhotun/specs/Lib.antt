@@ -1,2 +1,2 @@
 -- The definitions.
-pub mod Numbers
+pub mod Answer

@@ -3,11 +3,11 @@
 ghost use mathlib.Core.Path.{_≡_};
 ghost use mathlib.Core.Bool.{true, false};
 ghost use lib.ListN.{length};
-ghost use Rattle.parse.specs.EncodingBox.{fromStrAnswer, fromStrWords, fromStrNames, fromStartAnswer, fromStartWords, fromStartNames};
+ghost use Rattle.parse.specs.Answer.{fromStrAnswer, fromStrWords, fromStrNames, fromStartAnswer, fromStartWords, fromStartNames};
 ghost use Rattle.expect.specs.Encoding.{compared};
 ghost use Rattle.helper.specs.Answer.{sizeAnswer, compareAnswer};
 ghost use Rattle.static_str.specs.Outcome.{encodingLen, encodingArray, encodingOutput};
-ghost use Rattle.berzhotun.specs.Numbers.{sizeNumber, sizeValues, compareNumber, compareValues, printNumber, printValues, readNumber, readValues, restPlace};
+ghost use Rattle.berzhotun.specs.Answer.{sizeNumber, sizeValues, compareNumber, compareValues, printNumber, printValues, readNumber, readValues, restPlace};
 use helper::Sized;
 use kinds::Compared;
 use parse::Reading;
@@ -180,7 +180,7 @@ pub extern "C" fn berzhotun_from_str(
     ensures fills { λ _. ⌜ now (words .exit) ≡ fromStrWords (now (text .entry)) (now (words .entry)) (now (names .entry)) ⌝ }
     ensures names { λ _. ⌜ now (names .exit) ≡ fromStrNames (now (text .entry)) (now (words .entry)) (now (names .entry)) ⌝ }
 {
-    give_reading(parse::from_str(text, words, names), values)
+    give_reading(encoding_box::from_str(text, words, names), values)
 }
 
 // The rest goes out as the place where it begins: the caller has the text.
@@ -197,7 +197,7 @@ pub extern "C" fn berzhotun_from_start_of_str(
     ensures names { λ _. ⌜ now (names .exit) ≡ fromStartNames (now (text .entry)) (now (words .entry)) (now (names .entry)) ⌝ }
 {
     let mut answer = [0; 4];
-    let rest = parse::from_start_of_str(text, words, names, &mut answer);
+    let rest = encoding_box::from_start_of_str(text, words, names, &mut answer);
     let number = answer[0];
     if number == 0 {
         *values = [(text.len() - rest.len()) as u64, 0, 0];
@@ -217,5 +217,5 @@ pub extern "C" fn berzhotun_equivalent_to_str(
     ensures returns { λ r. ⌜ r ≡ compareNumber (compared (now (words .entry)) (now (names .entry)) (now (text .entry))) ⌝ }
     ensures answers { λ _. ⌜ now (answer .exit) ≡ compareValues (compared (now (words .entry)) (now (names .entry)) (now (text .entry))) ⌝ }
 {
-    give_compared(expect::equivalent_to_str(words, names, text), answer)
+    give_compared(encoding::equivalent_to_str(words, names, text), answer)
 }

@@ -1,6 +1,7 @@
 // The tree's own operations (encoding.rs, `Encoding`).
 ghost use mathlib.Core.Path.{_≡_};
 ghost use mathlib.Core.Bool.{false};
+ghost use Rattle.expect.specs.Encoding.{compared};
 ghost use Rattle.helper.specs.Answer.{sizeAnswer, compareAnswer};
 use helper::Sized;
 use helper::compare_encodings;
@@ -18,6 +19,13 @@ pub fn equivalent_to_box(aw: &[u64], an: &[u8], bw: &[u64], bn: &[u8]) -> Compar
     ensures { λ r. ⌜ r ≡ compareAnswer false (now (aw .entry)) (now (an .entry)) (now (bw .entry)) (now (bn .entry)) ⌝ }
 {
     equivalent_to(aw, an, bw, bn)
+}
+
+// Whether the tree in a sheet matches a text, which is not read but walked along the tree.
+pub fn equivalent_to_str(words: &[u64], names: &[u8], text: &[u8]) -> Compared
+    ensures { λ r. ⌜ r ≡ compared (now (words .entry)) (now (names .entry)) (now (text .entry)) ⌝ }
+{
+    expect::equivalent_to_str(words, names, text)
 }
 
 // The size of the tree in a sheet.

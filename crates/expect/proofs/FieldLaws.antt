@@ -14,6 +14,7 @@ use Rattle.kinds.specs.Byte.{among, sameBytes}
 use Rattle.kinds.specs.Container.{prefixByte}
 use Rattle.kinds.specs.Expect as E
 use Rattle.kinds.specs.Expect.{remaining, mismatch, _then_, expectByte, expectBytes, expectPrimitive, expectNode, expectEncoding}
+use Rattle.kinds.specs.Kind.{insideKind}
 use Rattle.kinds.specs.Level.{indirection}
 use Rattle.kinds.specs.Primitive.{code, codes, isObject}
 use Rattle.kinds.specs.Sheet.{kindAt, secondAt, countAt, nests, trees}
@@ -86,8 +87,15 @@ module _ (k : ℕ) where
   own-code h = rw h
 
   pub after-indirection : (v here : NestingLevel) → isIndirection k ≡ true → indirection (indirectionOf k) here ≡ levelAfter k v here
-  unfolding levelAfter
-  after-indirection v here h = rw h
+  unfolding levelAfter insideKind
+  after-indirection v here h = rw (h, ne-eqb k 29 (λ e. omega (arith, r .1)), ne-eqb k 30 (λ e. omega (arith, r .1))) (go (eqb k 26) refl)
+    where
+      r : (26 ≤ k) × (k ≤ 27)
+      r = indirection-range k h
+
+      go : (t : Bool) → eqb k 26 ≡ t → indirection (cond t Pointer Atomic) here ≡ cond t (indirection Pointer here) (cond (eqb k 27) (indirection Atomic here) here)
+      go true e = refl
+      go false e = rw (sym (ap (λ (t : Bool). t || eqb k 27) e) ∙ h)
 
   pub after-code : (v here : NestingLevel) → isIndirection k ≡ false → v ≡ levelAfter k v here
   unfolding levelAfter

@@ -14,7 +14,8 @@ use Rattle.kinds.specs.Parse.{value, noNumber, parseNumber, maxU64, maxU8}
 use Rattle.kinds.specs.Container.{endByte}
 use Rattle.kinds.specs.Primitive.{code, codes, isObject}
 use Rattle.kinds.specs.declared.ErrorKind.{ErrorKind}
-use Rattle.expect.specs.Agree.{ExpectedIs, anyObject, containerOf, openingByte, opening, closing}
+use Rattle.kinds.specs.Kind.{containerOf}
+use Rattle.expect.specs.Agree.{ExpectedIs, anyObject, openingByte, opening, closing}
 use Rattle.expect.specs.declared.Expected as X
 
 -- What follows a match, and what follows none.
@@ -97,23 +98,6 @@ module _ (s : List ℕ) (i : ℕ) where
 module _ (s : List ℕ) (at : ℕ) where
   pub rest : take (length s - at) (drop at s) ≡ drop at s
   rest = take-all (length s - at) (drop at s) (simp length-drop (omega arith))
-
-  pub rest-drop : (to : ℕ) → drop to (take (length s - at) (drop at s)) ≡ drop (at + to) s
-  rest-drop to = ap (drop to) rest ∙ drop-drop to at s
-
-  pub rest-within : (to : ℕ) → at ≤ length s → to ≤ length (take (length s - at) (drop at s)) → at + to ≤ length s
-  rest-within to p q = let e = ap length rest in omega (arith, length-drop at s)
-
-  module _ (limit n : ℕ) where
-    pub rest-none : (e : ErrorKind) (t : List ℕ) → parseNumber limit (take (length s - at) (drop at s)) ≡ noNumber e t → expectNumber limit n (drop at s) ≡ mismatch
-    rest-none e t h = number-none limit n (drop at s) e t (ap (parseNumber limit) (sym rest) ∙ h)
-
-    module _ (m to : ℕ) (h : parseNumber limit (take (length s - at) (drop at s)) ≡ value m (drop to (take (length s - at) (drop at s)))) where
-      pub rest-other : (m ≡ n → ⊥) → expectNumber limit n (drop at s) ≡ mismatch
-      rest-other k = number-other limit n (drop at s) m _ (ap (parseNumber limit) (sym rest) ∙ h) k
-
-      pub rest-is : m ≡ n → expectNumber limit n (drop at s) ≡ remaining (drop (at + to) s)
-      rest-is k = number-is limit n (drop at s) m _ (ap (parseNumber limit) (sym rest) ∙ h) k ∙ ap remaining (rest-drop to)
 
 -- An outcome of a text that comes to the same.
 pub same-outcome : (text : List ℕ) (r : X.Expected) (p q : Expected) → p ≡ q → ExpectedIs text r q → ExpectedIs text r p

@@ -24,7 +24,8 @@ use Rattle.kinds.specs.declared.ContainerKind.the-variants.{Struct, Union}
 use Rattle.kinds.specs.declared.Fields.the-variants.{Included, Dropped}
 use Rattle.kinds.specs.declared.NestingLevel.{NestingLevel}
 use Rattle.kinds.specs.declared.NestingLevel.the-variants.{Top, Within, Bottom}
-use Rattle.expect.specs.Agree.{expectAt, ExpectedIs, InText, containerOf, indirectionOf, isIndirection, opening, closing, OpenedIs, OpenedAt}
+use Rattle.kinds.specs.Kind.{containerOf}
+use Rattle.expect.specs.Agree.{expectAt, ExpectedIs, InText, indirectionOf, isIndirection, opening, closing, OpenedIs, OpenedAt}
 use Rattle.expect.specs.declared.Expected as X
 use Rattle.expect.specs.declared.Expected.the-variants as XV
 use Rattle.expect.specs.declared.Opened.{Opened}

@@ -9,13 +9,12 @@ use Rattle.kinds.specs.Byte.{byte, bytes}
 use Rattle.kinds.specs.Container.{endByte, prefixByte}
 use Rattle.kinds.specs.Expect as E
 use Rattle.kinds.specs.Expect.{remaining, mismatch, _then_, orElse, expectByte, expectBytes, expectNumber, expectPrimitive, expectFields, expectNode, expectEncoding}
-use Rattle.kinds.specs.Level.{indirection}
+use Rattle.kinds.specs.Kind.{containerOf, insideKind}
 use Rattle.kinds.specs.Parse.{maxU64, maxU8}
 use Rattle.kinds.specs.Primitive.{code}
 use Rattle.kinds.specs.Sheet.{kindAt, secondAt, countAt, labelAt, trees}
 use Rattle.kinds.specs.Tree.{isEnd, inside}
 use Rattle.kinds.specs.declared.ContainerKind.{ContainerKind}
-use Rattle.kinds.specs.declared.ContainerKind.the-variants.{Struct, Union}
 use Rattle.kinds.specs.declared.IndirectionKind.{IndirectionKind}
 use Rattle.kinds.specs.declared.IndirectionKind.the-variants.{Atomic, Pointer}
 use Rattle.kinds.specs.declared.NestingLevel.{NestingLevel}
@@ -34,10 +33,6 @@ unfoldable pub expectAt : List ℕ → List ℕ → ℕ → NestingLevel → Lis
 expectAt names w at v s =
     expectNode (labelAt names w at) v (isEnd (trees names w (countAt w at - 1) (at + 4)))
     (λ t. expectEncoding (inside (labelAt names w at) v) (trees names w (countAt w at - 1) (at + 4)) t) s
-
--- The container of a kind word, 29 or 30.
-abbrev pub containerOf : ℕ → ContainerKind
-containerOf k = cond (eqb k 29) Struct Union
 
 -- The codes of Block, Object and Class.
 unfoldable pub anyObject : List ℕ → E.Expected
@@ -94,7 +89,7 @@ ownByte k = cond (isIndirection k) (prefixByte (indirectionOf k)) (codeByte k)
 
 -- The level after such a node: what it holds comes next, or the next tree at the level `v`.
 unfoldable pub levelAfter : ℕ → NestingLevel → NestingLevel → NestingLevel
-levelAfter k v here = cond (isIndirection k) (indirection (indirectionOf k) here) v
+levelAfter k v here = cond (isIndirection k) (insideKind k here) v
 
 -- The node at `at` up to its children: taken whole, no match, or its children, at a level, and what stands after them are still to come.
 abbrev pub OpenedAt : List ℕ → List ℕ → ℕ → NestingLevel → List ℕ → ℕ → Opened → Type 0

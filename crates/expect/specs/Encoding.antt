@@ -5,17 +5,13 @@ use mathlib.Core.List.{List}
 use lib.Dec.{ltb}
 use lib.ListN.{length}
 use Rattle.kinds.specs.Expect.{equivalentToStr}
-use Rattle.kinds.specs.Sheet.{treeOf}
+use Rattle.kinds.specs.Sheet.{treeOf, maxText}
 use Rattle.kinds.specs.declared.Refusal.the-variants as R
 use Rattle.sheet.specs.Check.{checked}
 use Rattle.sheet.specs.declared.Checked.{Checked}
 use Rattle.sheet.specs.declared.Checked.the-variants.{NotASheet, BadName, Good}
 use Rattle.kinds.specs.declared.Compared.{Compared}
 use Rattle.kinds.specs.declared.Compared.the-variants.{Refused, Decided}
-
--- The bytes that a text may have.
-abbrev pub maxText : ℕ
-maxText = 2000
 
 -- The answer for a sheet of which the test said `c`.
 abbrev pub comparedSheet : Checked → List ℕ → List ℕ → List ℕ → Compared

@@ -6,30 +6,40 @@ ghost use lib.Dec.{eqb};
 ghost use lib.ListN.{length, drop};
 ghost use Rattle.kinds.specs.Expect.{_then_, expectByte, expectBytes, expectNumber, expectQuote, className, expectPrimitive, expectNode, expectEncoding, isEmpty};
 ghost use Rattle.kinds.specs.Expect as E;
+ghost use Rattle.kinds.specs.Kind.{containerOf};
 ghost use Rattle.kinds.specs.Parse.{container, maxU64, maxU8};
 ghost use Rattle.kinds.specs.Primitive.{codeBytes};
 ghost use Rattle.kinds.specs.Sheet.{kindAt, countAt, isContainerKind, labelAt, trees};
 ghost use Rattle.kinds.specs.Tree.{isEnd};
 ghost use Rattle.kinds.specs.Walk.{NodeAt, TreesAt, KindAndName, KindsAndNames};
-ghost use Rattle.expect.specs.Agree.{ExpectedIs, containerOf, anyObject, expectLeaf, openingByte, opening, closing, afterName, InText, OpenedIs, isIndirection, codeByte, ownByte, levelAfter, OpenedAt};
+ghost use Rattle.expect.specs.Agree.{ExpectedIs, anyObject, expectLeaf, openingByte, opening, closing, afterName, InText, OpenedIs, isIndirection, codeByte, ownByte, levelAfter, OpenedAt};
 ghost use Rattle.expect.specs.Encoding.{compared};
+use kinds::ARRAY;
+use kinds::ATOMIC;
 use kinds::Code;
 use kinds::Compared;
 use kinds::ContainerKind;
 use kinds::Fields;
 use kinds::IndirectionKind;
+use kinds::MAX_TEXT;
+use kinds::NONE;
 use kinds::NestingLevel;
+use kinds::POINTER;
+use kinds::PRIMITIVES;
 use kinds::Refusal;
+use kinds::STRUCT;
+use kinds::TYPED_BIT_FIELD;
+use kinds::container_of;
 use kinds::is_object;
 use kinds::primitive_code;
-use parse::Number;
-use parse::SkippedFields;
-use parse::parse_u8;
-use parse::parse_u64;
-use parse::skip_fields;
-use parse::strip_leading_qualifiers;
+use numbers::Number;
+use numbers::parse_u8;
+use numbers::parse_u64;
+use parser::strip_leading_qualifiers;
 use sheet::Checked;
 use sheet::check;
+use skip::SkippedFields;
+use skip::skip_fields;
 
 // The place after what was taken, or no match.
 enum Expected {
@@ -79,11 +89,11 @@ fn expect_u64(n: u64, text: &[u8], at: usize) -> Expected
     requires { ⌜ at ≤ length (now text) ⌝ }
     ensures { λ r. ⌜ ExpectedIs (now (text .entry)) r (expectNumber maxU64 n (drop at (now (text .entry)))) ⌝ }
 {
-    match parse_u64(&text[at..]) {
+    match parse_u64(text, at) {
         Number::Refused(_, _) => Expected::Mismatch,
         Number::Value(m, to) => {
             if m == n {
-                return Expected::Remaining(at + to);
+                return Expected::Remaining(to);
             }
             Expected::Mismatch
         }
@@ -94,11 +104,11 @@ fn expect_u8(n: u64, text: &[u8], at: usize) -> Expected
     requires { ⌜ at ≤ length (now text) ⌝ }
     ensures { λ r. ⌜ ExpectedIs (now (text .entry)) r (expectNumber maxU8 n (drop at (now (text .entry)))) ⌝ }
 {
-    match parse_u8(&text[at..]) {
+    match parse_u8(text, at) {
         Number::Refused(_, _) => Expected::Mismatch,
         Number::Value(m, to) => {
             if m == n {
-                return Expected::Remaining(at + to);
+                return Expected::Remaining(to);
             }
             Expected::Mismatch
         }
@@ -193,7 +203,7 @@ fn expect_leaf(kind: u64, size: u64, text: &[u8], at: usize) -> Expected
     requires { ⌜ at ≤ length (now text) ⌝ }
     ensures { λ r. ⌜ ExpectedIs (now (text .entry)) r (expectLeaf kind size (drop at (now (text .entry)))) ⌝ }
 {
-    if kind < 24 {
+    if kind < PRIMITIVES {
         return expect_primitive(kind, text, at);
     }
     let Expected::Remaining(to) = expect_byte(b'b', text, at) else {
@@ -205,7 +215,7 @@ fn expect_leaf(kind: u64, size: u64, text: &[u8], at: usize) -> Expected
 fn opening_byte(kind: u64) -> u8
     ensures { λ r. ⌜ r ≡ openingByte kind ⌝ }
 {
-    if kind == 25 {
+    if kind == TYPED_BIT_FIELD {
         return b'b';
     }
     b'['
@@ -221,27 +231,18 @@ fn expect_opening(kind: u64, number: u64, text: &[u8], at: usize) -> Expected
     expect_u64(number, text, to)
 }
 
-fn container_kind(kind: u64) -> ContainerKind
-    ensures { λ r. ⌜ r ≡ containerOf kind ⌝ }
-{
-    if kind == 29 {
-        return ContainerKind::Struct;
-    }
-    ContainerKind::Union
-}
-
 // What stands after the children of a bitfield, an array or a container.
 fn expect_closing(kind: u64, size: u64, text: &[u8], at: usize) -> Expected
     requires { ⌜ at ≤ length (now text) ⌝ }
     ensures { λ r. ⌜ ExpectedIs (now (text .entry)) r (closing kind size (drop at (now (text .entry)))) ⌝ }
 {
-    if kind == 25 {
+    if kind == TYPED_BIT_FIELD {
         return expect_u8(size, text, at);
     }
-    if kind == 28 {
+    if kind == ARRAY {
         return expect_byte(b']', text, at);
     }
-    expect_byte(container_kind(kind).end_byte(), text, at)
+    expect_byte(container_of(kind).end_byte(), text, at)
 }
 
 // The same, after children of which `after` is the outcome.
@@ -270,9 +271,9 @@ fn open_fields(
     };
     if count == 0 {
         // An empty container matches whatever can be read up to its closer.
-        return match skip_fields(&text[next..], kind) {
+        return match skip_fields(text, next, kind) {
             SkippedFields::Refused => Opened::Mismatch,
-            SkippedFields::To(to) => Opened::Taken(next + to),
+            SkippedFields::To(to) => Opened::Taken(to),
         };
     }
     match expect_byte(kind.end_byte(), text, next) {
@@ -319,7 +320,7 @@ fn open_container(
     requires { ⌜ NodeAt (now nodes) at × KindAndName (now nodes) (length (now names)) at × (isContainerKind (kindAt (now nodes) at) ≡ true) ⌝ }
     ensures { λ r. ⌜ OpenedIs (now (text .entry)) (containerOf (kindAt (now (nodes .entry)) at)) NestingLevel.Within r (λ inner. expectNode (labelAt (now (names .entry)) (now (nodes .entry)) at) level (isEnd (trees (now (names .entry)) (now (nodes .entry)) (countAt (now (nodes .entry)) at - 1) (at + 4))) inner (drop place (now (text .entry)))) ⌝ }
 {
-    let kind = container_kind(nodes[at]);
+    let kind = container_of(nodes[at]);
     let from = nodes[at + 1] as usize;
     let size = nodes[at + 2] as usize;
     let count = nodes[at + 3] as usize;
@@ -333,20 +334,30 @@ const CODE_BYTES: [u8; 24] = *b"csilqCSILQfdD\x00\x00\x00Bv*\x00\x00\x00:?";
 fn code_byte(kind: u64) -> u8
     ensures { λ r. ⌜ r ≡ codeByte kind ⌝ }
 {
-    if 24 <= kind {
+    if PRIMITIVES <= kind {
         return 0;
     }
     CODE_BYTES[kind as usize]
+}
+
+// Pointer and atomic.
+fn is_indirection(kind: u64) -> bool
+    ensures { λ r. ⌜ r ≡ isIndirection kind ⌝ }
+{
+    if kind == POINTER {
+        return true;
+    }
+    kind == ATOMIC
 }
 
 // The byte of a node of whose own text it is the whole: such a code, a pointer's or an atomic's. 0 for the others.
 fn own_byte(kind: u64) -> u8
     ensures { λ r. ⌜ r ≡ ownByte kind ⌝ }
 {
-    if kind == 26 {
+    if kind == POINTER {
         return IndirectionKind::Pointer.prefix_byte();
     }
-    if kind == 27 {
+    if kind == ATOMIC {
         return IndirectionKind::Atomic.prefix_byte();
     }
     code_byte(kind)
@@ -356,11 +367,8 @@ fn own_byte(kind: u64) -> u8
 fn level_after(kind: u64, level: NestingLevel, here: NestingLevel) -> NestingLevel
     ensures { λ r. ⌜ r ≡ levelAfter kind level here ⌝ }
 {
-    if kind == 26 {
-        return here.indirection(IndirectionKind::Pointer);
-    }
-    if kind == 27 {
-        return here.indirection(IndirectionKind::Atomic);
+    if is_indirection(kind) {
+        return here.inside(kind);
     }
     level
 }
@@ -379,16 +387,16 @@ fn open_node(
     ensures { λ r. ⌜ OpenedAt (now (names .entry)) (now (nodes .entry)) at level (now (text .entry)) place r ⌝ }
 {
     let kind = nodes[at];
-    if kind < 25 {
+    if kind < TYPED_BIT_FIELD {
         return match expect_leaf(kind, nodes[at + 2], &text[0..], place) {
             Expected::Mismatch => Opened::Mismatch,
             Expected::Remaining(to) => Opened::Taken(to),
         };
     }
-    if kind == 31 {
+    if kind == NONE {
         return Opened::Taken(place);
     }
-    if kind < 29 {
+    if kind < STRUCT {
         // A bitfield and an array keep the level.
         return match expect_opening(kind, nodes[at + 1], text, place) {
             Expected::Mismatch => Opened::Mismatch,
@@ -471,7 +479,7 @@ fn decide(walked: Expected, text: &[u8]) -> bool
 pub fn equivalent_to_str(words: &[u64], names: &[u8], text: &[u8]) -> Compared
     ensures { λ r. ⌜ r ≡ compared (now (words .entry)) (now (names .entry)) (now (text .entry)) ⌝ }
 {
-    if 2000 < text.len() {
+    if MAX_TEXT < text.len() {
         return Compared::Refused(Refusal::TextTooLong);
     }
     match check(words, names) {

@@ -5,7 +5,7 @@ use native.Mathlib.Numerals.{add-one}
 use mathlib.Core.Path.{_≡_, refl, ap, ap₂, sym, _∙_, subst}
 use mathlib.Core.List.{List, [], _∷_}
 use mathlib.Core.Bool.{Bool, true, false, cond, _&&_, _||_, false≢true, and-true, and-false}
-use borrow.Author.Tests.{leb-true, leb-false, eq-eqb, ne-eqb, eqb-true}
+use borrow.Author.Tests.{leb-true, leb-false, ne-eqb, eqb-true}
 use lib.ListN.{length, getD, take, drop, drop-of-length-le}
 use lib.Seq.{drop-cons}
 use lib.Dec.{leb, eqb}
@@ -19,10 +19,12 @@ use Rattle.kinds.specs.Walk.{NodeAt, TreesAt, KindsAndNames}
 use Rattle.kinds.specs.declared.Fields.the-variants.{Included, Dropped}
 use Rattle.kinds.specs.declared.NestingLevel.{NestingLevel}
 use Rattle.kinds.specs.declared.NestingLevel.the-variants.{Top, Within, Bottom}
-use Rattle.kinds.proofs.SheetLaws.{both-left, arity-low, arity-high, nests-step, nests-none, trees-step}
-use Rattle.kinds.proofs.NodeLaws.{node-arity, node-child, node-inner, child-count, first-some, first-within, first-node, other-trees, label-primitive, label-struct, label-union, by-kind, kind-label, container-label, no-trees, some-trees, walk-here, walk-inner, walk-rest, held-trees}
+use Rattle.kinds.proofs.KindLaws.{inside-kind, included, dropped}
+use Rattle.kinds.proofs.SheetLaws.{arity-low, arity-high, nests-none, trees-step}
+use Rattle.kinds.proofs.TableLaws.{both-left}
+use Rattle.kinds.proofs.NodeLaws.{node-arity, node-child, node-inner, child-count, first-some, first-within, first-node, other-trees, label-primitive, label-struct, label-union, by-kind, kind-label}
+use Rattle.kinds.proofs.NodeLaws.{container-label, no-trees, some-trees, walk-here, walk-inner, walk-rest, held-trees}
 use Rattle.helper.specs.Measure.{compareFields, shownCount, levelAfter}
-use Rattle.helper.proofs.NodeSizeLaws.{included, dropped}
 
 -- ---- Bytes.
 
@@ -98,7 +100,8 @@ module _ (s t : List ℕ) (k a b c d : ℕ) where
   unfolding compareLabels equivalent kind lengthOrOffset bits name label sameBytes
   labels-plain lo hi p q r u =
       by-kind (λ (j : ℕ). isContainerKind j ≡ false → (j ≡ 24 → ⊥) → (j ≡ 25 → ⊥) → (j ≡ 28 → ⊥) → compareLabels (label s j a b) (label t j c d) ≡ true)
-      (λ x y z n. absurd (y refl)) (λ x y z n. absurd (z refl)) (λ x y z n. refl) (λ x y z n. refl) (λ x y z n. absurd (n refl)) (λ x y z n. absurd (false≢true (sym x))) (λ x y z n. absurd (false≢true (sym x))) (λ x y z n. refl) k lo hi p q r u
+      (λ x y z n. absurd (y refl)) (λ x y z n. absurd (z refl)) (λ x y z n. refl) (λ x y z n. refl) (λ x y z n. absurd (n refl)) (λ x y z n. absurd (false≢true (sym x)))
+      (λ x y z n. absurd (false≢true (sym x))) (λ x y z n. refl) k lo hi p q r u
 
 module _ (s w : List ℕ) (at : ℕ) (s' w' : List ℕ) (bt : ℕ) where
   pub labels-differ : kindAt w at ≤ 31 → kindAt w' bt ≤ 31 → equivalent (kindAt w at) (kindAt w' bt) ≡ false → compareLabels (labelAt s w at) (labelAt s' w' bt) ≡ false
@@ -119,7 +122,8 @@ module _ (s w : List ℕ) (at : ℕ) (s' w' : List ℕ) (bt : ℕ) where
     unfolding compareLabels equivalent kind lengthOrOffset bits name
     labels-named p = go (eqb (kindAt w at) 29) refl (eqb (kindAt w at) 30) refl p
       where
-        go : (t : Bool) → eqb (kindAt w at) 29 ≡ t → (u : Bool) → eqb (kindAt w at) 30 ≡ u → (t || u) ≡ true → compareLabels (labelAt s w at) (labelAt s' w' bt) ≡ sameBytes (take (secondAt w at) (drop (firstAt w at) s)) (take (secondAt w' bt) (drop (firstAt w' bt) s'))
+        go : (t : Bool) → eqb (kindAt w at) 29 ≡ t → (u : Bool) → eqb (kindAt w at) 30 ≡ u → (t || u) ≡ true → compareLabels (labelAt s w at) (labelAt s' w' bt)
+            ≡ sameBytes (take (secondAt w at) (drop (firstAt w at) s)) (take (secondAt w' bt) (drop (firstAt w' bt) s'))
         go true e u d r =
             let k = eqb-true (kindAt w at) 29 e in
             rw (label-struct s (kindAt w at) (firstAt w at) (secondAt w at) k, label-struct s' (kindAt w' bt) (firstAt w' bt) (secondAt w' bt) (partner (kindAt w at) (kindAt w' bt) h (omega arith) ∙ k))
@@ -136,7 +140,10 @@ module _ (s w : List ℕ) (at : ℕ) (s' w' : List ℕ) (bt : ℕ) where
 -- The nodes after one that is no container: what it holds, or the trees after it.
 module _ (w : List ℕ) (at n : ℕ) (h : TreesAt w at n) (p : 0 < n) (plain : isContainerKind (kindAt w at) ≡ false) where
   pub leaf-count : (kindAt w at < 25 → countAt w at ≡ 1) × (28 < kindAt w at → countAt w at ≡ 1)
-  leaf-count = (λ q. eqb-true (countAt w at) 1 (sym (arity-low (kindAt w at) (countAt w at) (countAt w (at + 4)) q) ∙ node-arity w at (first-node w at n h p)), λ q. eqb-true (countAt w at) 1 (sym (arity-high (kindAt w at) (countAt w at) (countAt w (at + 4)) q plain) ∙ node-arity w at (first-node w at n h p)))
+  leaf-count = (
+    λ q. eqb-true (countAt w at) 1 (sym (arity-low (kindAt w at) (countAt w at) (countAt w (at + 4)) q) ∙ node-arity w at (first-node w at n h p)),
+    λ q. eqb-true (countAt w at) 1 (sym (arity-high (kindAt w at) (countAt w at) (countAt w (at + 4)) q plain) ∙ node-arity w at (first-node w at n h p)),
+  )
 
   module _ (lo : 25 ≤ kindAt w at) (hi : kindAt w at ≤ 28) where
     held : NodeAt w (at + 4)
@@ -195,13 +202,8 @@ resume-level all v end (node m ds us) = refl
 resume-level all v (node l cs ts) end = refl
 resume-level all v (node l cs ts) (node m ds us) = refl
 
-inside-label : (s t : List ℕ) (k a b c d : ℕ) (v : NestingLevel) → 25 ≤ k → k ≤ 28 → inside (label s k a b) v ≡ inside (label t k c d) v
-unfolding label
-inside-label s t k a b c d v lo hi =
-    by-kind (λ (j : ℕ). j ≤ 28 → inside (label s j a b) v ≡ inside (label t j c d) v)
-    (λ q. refl) (λ q. refl) (λ q. refl) (λ q. refl) (λ q. refl) (λ q. absurd (omega arith)) (λ q. absurd (omega arith)) (λ q. absurd (omega arith)) k (omega arith) (omega arith) hi
-
-shown-fields : (all : Bool) (u : NestingLevel) (s w : List ℕ) (n at : ℕ) (t : Trees) → cond (showsFields u) ((isEnd (trees s w n at) || isEnd t) || compareEncodings all Within (trees s w n at) t) true ≡ compareFields all Within (trees s w (shownCount u n) at) t
+shown-fields : (all : Bool) (u : NestingLevel) (s w : List ℕ) (n at : ℕ) (t : Trees) → cond (showsFields u) ((isEnd (trees s w n at) || isEnd t) || compareEncodings all Within (trees s w n at) t) true
+    ≡ compareFields all Within (trees s w (shownCount u n) at) t
 unfolding compareFields shownCount trees read isEnd
 shown-fields all Top s w n at t = refl
 shown-fields all Within s w n at t = refl
@@ -224,7 +226,8 @@ pub count-dropped : (v : NestingLevel) (n : ℕ) → containerIncludeFields v �
 unfolding shownCount
 count-dropped v n h = sym (ap (λ x. cond x n 0) (dropped v h))
 
-regroup : (all : Bool) (here v : NestingLevel) (l : Label) (cs ts : Trees) (m : Label) (ds us : Trees) → (compareEncodings all here (node l cs end) (node m ds end) && compareEncodings all v ts us) ≡ resume all here v (node l cs ts) (node m ds us)
+regroup : (all : Bool) (here v : NestingLevel) (l : Label) (cs ts : Trees) (m : Label) (ds us : Trees) → (compareEncodings all here (node l cs end) (node m ds end) && compareEncodings all v ts us)
+    ≡ resume all here v (node l cs ts) (node m ds us)
 unfolding compareEncodings resume
 regroup all here v l cs ts m ds us = go (compareLabels l m) (compareChildren (isContainer l) (shows l (levelFor all here)) (isEnd cs || isEnd ds) (compareEncodings all (inside l (levelFor all here)) cs ds))
   where
@@ -254,7 +257,9 @@ module _ (all : Bool) (here v : NestingLevel) (s w s' w' : List ℕ) (n m at bt 
 
   module _ (g : TreesAt w at n) (h : TreesAt w' bt m) (p : 0 < n) (q : 0 < m) where
     resume-step : resume all here v (trees s w n at) (trees s' w' m bt) ≡ (compareLabels (labelAt s w at) (labelAt s' w' bt)
-        && (compareChildren (isContainer (labelAt s w at)) (shows (labelAt s w at) (levelFor all here)) (isEnd (trees s w (countAt w at - 1) (at + 4)) || isEnd (trees s' w' (countAt w' bt - 1) (bt + 4))) (compareEncodings all (inside (labelAt s w at) (levelFor all here)) (trees s w (countAt w at - 1) (at + 4)) (trees s' w' (countAt w' bt - 1) (bt + 4)))
+        && (compareChildren (isContainer (labelAt s w at)) (shows (labelAt s w at) (levelFor all here))
+        (isEnd (trees s w (countAt w at - 1) (at + 4)) || isEnd (trees s' w' (countAt w' bt - 1) (bt + 4)))
+        (compareEncodings all (inside (labelAt s w at) (levelFor all here)) (trees s w (countAt w at - 1) (at + 4)) (trees s' w' (countAt w' bt - 1) (bt + 4)))
         && compareEncodings all v (trees s w (n - countAt w at) (at + 4 * countAt w at)) (trees s' w' (m - countAt w' bt) (bt + 4 * countAt w' bt))))
     unfolding resume
     resume-step = ap₂ (resume all here v) (trees-step s w n at (first-some w at n g p) (first-within w at n g p)) (trees-step s' w' m bt (first-some w' bt m h q) (first-within w' bt m h q))
@@ -272,14 +277,18 @@ module _ (all : Bool) (here v : NestingLevel) (s w s' w' : List ℕ) (n m at bt 
           && compareEncodings all v (trees s w (n - countAt w at) (at + 4 * countAt w at)) (trees s' w' (m - countAt w' bt) (bt + 4 * countAt w' bt)))
       unfolding compareChildren isContainer
       resume-container c =
-          resume-step ∙ rw e (ap (λ x. x && compareEncodings all v (trees s w (n - countAt w at) (at + 4 * countAt w at)) (trees s' w' (m - countAt w' bt) (bt + 4 * countAt w' bt))) (fields (eqb (kindAt w at) 29) refl (eqb (kindAt w at) 30) refl c))
+          resume-step ∙ rw e (ap (λ x. x && compareEncodings all v (trees s w (n - countAt w at) (at + 4 * countAt w at)) (trees s' w' (m - countAt w' bt) (bt + 4 * countAt w' bt)))
+          (fields (eqb (kindAt w at) 29) refl (eqb (kindAt w at) 30) refl c))
         where
-          shown : cond (showsFields (levelFor all here)) ((isEnd (trees s w (countAt w at - 1) (at + 4)) || isEnd (trees s' w' (countAt w' bt - 1) (bt + 4))) || compareEncodings all Within (trees s w (countAt w at - 1) (at + 4)) (trees s' w' (countAt w' bt - 1) (bt + 4))) true
+          shown : cond (showsFields (levelFor all here)) ((isEnd (trees s w (countAt w at - 1) (at + 4)) || isEnd (trees s' w' (countAt w' bt - 1) (bt + 4))) || compareEncodings all Within
+              (trees s w (countAt w at - 1) (at + 4)) (trees s' w' (countAt w' bt - 1) (bt + 4))) true
               ≡ compareFields all Within (trees s w (shownCount (levelFor all here) (countAt w at - 1)) (at + 4)) (trees s' w' (countAt w' bt - 1) (bt + 4))
           shown = shown-fields all (levelFor all here) s w (countAt w at - 1) (at + 4) (trees s' w' (countAt w' bt - 1) (bt + 4))
 
           fields : (t : Bool) → eqb (kindAt w at) 29 ≡ t → (u : Bool) → eqb (kindAt w at) 30 ≡ u → (t || u) ≡ true
-              → compareChildren (isContainer (labelAt s w at)) (shows (labelAt s w at) (levelFor all here)) (isEnd (trees s w (countAt w at - 1) (at + 4)) || isEnd (trees s' w' (countAt w' bt - 1) (bt + 4))) (compareEncodings all (inside (labelAt s w at) (levelFor all here)) (trees s w (countAt w at - 1) (at + 4)) (trees s' w' (countAt w' bt - 1) (bt + 4)))
+              → compareChildren (isContainer (labelAt s w at)) (shows (labelAt s w at) (levelFor all here))
+              (isEnd (trees s w (countAt w at - 1) (at + 4)) || isEnd (trees s' w' (countAt w' bt - 1) (bt + 4)))
+              (compareEncodings all (inside (labelAt s w at) (levelFor all here)) (trees s w (countAt w at - 1) (at + 4)) (trees s' w' (countAt w' bt - 1) (bt + 4)))
               ≡ compareFields all Within (trees s w (shownCount (levelFor all here) (countAt w at - 1)) (at + 4)) (trees s' w' (countAt w' bt - 1) (bt + 4))
           fields true i u j r = rw (label-struct s (kindAt w at) (firstAt w at) (secondAt w at) (eqb-true (kindAt w at) 29 i)) shown
           fields false i true j r = rw (label-union s (kindAt w at) (firstAt w at) (secondAt w at) (eqb-true (kindAt w at) 30 j)) shown
@@ -312,7 +321,8 @@ module _ (all : Bool) (here v : NestingLevel) (s w s' w' : List ℕ) (n m at bt 
               let c' = other-plain in
               resume-step
               ∙ rw (e, plain, held-alone w at n g p c lo hi s, held-alone w' bt m h q c' lo' hi' s')
-              (regroup all (inside (labelAt s w at) (levelFor all here)) v (labelAt s w (at + 4)) (trees s w (countAt w (at + 4) - 1) (at + 4 + 4)) (trees s w (n - countAt w at) (at + 4 * countAt w at)) (labelAt s' w' (bt + 4)) (trees s' w' (countAt w' (bt + 4) - 1) (bt + 4 + 4)) (trees s' w' (m - countAt w' bt) (bt + 4 * countAt w' bt)))
+              (regroup all (inside (labelAt s w at) (levelFor all here)) v (labelAt s w (at + 4)) (trees s w (countAt w (at + 4) - 1) (at + 4 + 4))
+              (trees s w (n - countAt w at) (at + 4 * countAt w at)) (labelAt s' w' (bt + 4)) (trees s' w' (countAt w' (bt + 4) - 1) (bt + 4 + 4)) (trees s' w' (m - countAt w' bt) (bt + 4 * countAt w' bt)))
               ∙ sym (ap₂ (resume all (inside (labelAt s w at) (levelFor all here)) v) (held-then w at n g p c lo hi s) (held-then w' bt m h q c' lo' hi' s'))
 
         leaf-low : kindAt w at < 25 → countAt w' bt ≡ 1
@@ -333,8 +343,9 @@ module _ (all : Bool) (here v : NestingLevel) (s w s' w' : List ℕ) (n m at bt 
         unfolding levelAfter
         resume-plain = go (leb 25 (kindAt w at)) refl (leb (kindAt w at) 28) refl
           where
-            go : (t : Bool) → leb 25 (kindAt w at) ≡ t → (u : Bool) → leb (kindAt w at) 28 ≡ u → resume all here v (trees s w n at) (trees s' w' m bt) ≡ resume all (levelAfter all (kindAt w at) v here) v (trees s w (n - 1) (at + 4)) (trees s' w' (m - 1) (bt + 4))
-            go true i true j = holder (leb-true 25 (kindAt w at) i) (leb-true (kindAt w at) 28 j) ∙ rw (i, j, inside-label s [] (kindAt w at) (firstAt w at) (secondAt w at) 0 0 (levelFor all here) (leb-true 25 (kindAt w at) i) (leb-true (kindAt w at) 28 j))
+            go : (t : Bool) → leb 25 (kindAt w at) ≡ t → (u : Bool) → leb (kindAt w at) 28 ≡ u → resume all here v (trees s w n at) (trees s' w' m bt)
+                ≡ resume all (levelAfter all (kindAt w at) v here) v (trees s w (n - 1) (at + 4)) (trees s' w' (m - 1) (bt + 4))
+            go true i true j = holder (leb-true 25 (kindAt w at) i) (leb-true (kindAt w at) 28 j) ∙ rw (i, j, inside-kind s (kindAt w at) (firstAt w at) (secondAt w at) (levelFor all here))
             go true i false j = leaf (leaf-count w at n g p c .1 (leb-false (kindAt w at) 28 j)) (leaf-high (leb-false (kindAt w at) 28 j)) ∙ rw (i, j) (sym (resume-level all v (trees s w (n - 1) (at + 4)) (trees s' w' (m - 1) (bt + 4))))
             go false i u j = leaf (leaf-count w at n g p c .0 (leb-false 25 (kindAt w at) i)) (leaf-low (leb-false 25 (kindAt w at) i)) ∙ rw i (sym (resume-level all v (trees s w (n - 1) (at + 4)) (trees s' w' (m - 1) (bt + 4))))
 
@@ -440,7 +451,8 @@ module _ {all : Bool} {v : NestingLevel} {s w s' w' : List ℕ} {at n bt m : ℕ
           container : (compareFields all Within (trees s w k (at + 4)) (trees s' w' (countAt w' bt - 1) (bt + 4))
               && compareEncodings all v (trees s w (n - countAt w at) (at + 4 * countAt w at)) (trees s' w' (m - countAt w' bt) (bt + 4 * countAt w' bt))) ≡ r
           container =
-              ap (λ i. compareFields all Within (trees s w i (at + 4)) (trees s' w' (countAt w' bt - 1) (bt + 4)) && compareEncodings all v (trees s w (n - countAt w at) (at + 4 * countAt w at)) (trees s' w' (m - countAt w' bt) (bt + 4 * countAt w' bt))) (lk ∙ ap (λ x. shownCount x (countAt w at - 1)) lu)
+              ap (λ i. compareFields all Within (trees s w i (at + 4)) (trees s' w' (countAt w' bt - 1) (bt + 4)) && compareEncodings all v (trees s w (n - countAt w at) (at + 4 * countAt w at))
+              (trees s' w' (m - countAt w' bt) (bt + 4 * countAt w' bt))) (lk ∙ ap (λ x. shownCount x (countAt w at - 1)) lu)
               ∙ sym (resume-container all here v s w s' w' n m at bt (l .first) (l .second) p q ka kb e c) ∙ l .rest
 
           pub left-fields : compareFields all Within (trees s w k (at + 4)) (trees s' w' (countAt w' bt - 1) (bt + 4)) ≡ false → false ≡ r
@@ -480,7 +492,8 @@ module _ {all : Bool} {v : NestingLevel} {s w s' w' : List ℕ} {at n bt m : ℕ
             second-walk = left-inner .2 .1;
             rest = resume-level all Within (trees s w k (at + 4)) (trees s' w' (countAt w' bt - 1) (bt + 4))
                 ∙ sym (fields-some all Within s w s' w' k (countAt w' bt - 1) (at + 4) (bt + 4) i j)
-                ∙ sym (rw (no-trees s w (n - countAt w at) (at + 4 * countAt w at) (omega arith), no-trees s' w' (m - countAt w' bt) (bt + 4 * countAt w' bt) (omega arith)) (and-true (compareFields all Within (trees s w k (at + 4)) (trees s' w' (countAt w' bt - 1) (bt + 4)))))
+                ∙ sym (rw (no-trees s w (n - countAt w at) (at + 4 * countAt w at) (omega arith), no-trees s' w' (m - countAt w' bt) (bt + 4 * countAt w' bt) (omega arith))
+                (and-true (compareFields all Within (trees s w k (at + 4)) (trees s' w' (countAt w' bt - 1) (bt + 4)))))
                 ∙ container;
           }
 
@@ -492,27 +505,3 @@ module _ {all : Bool} {v : NestingLevel} {s w s' w' : List ℕ} {at n bt m : ℕ
           second-walk = walk-rest w' (length s') bt m (l .second-walk) 1 (omega arith);
           rest = sym (resume-plain all here v s w s' w' n m at bt (l .first) (l .second) p q ka kb e c) ∙ l .rest;
         })
-
--- two trees of which the first is a code
-pub code-alone : {all : Bool} {v : NestingLevel} {s w s' w' : List ℕ} {at n bt m : ℕ} {r : Bool} → Left all v s w s' w' at n bt m v r → 0 < n → countAt w at ≡ n → 0 < m → countAt w' bt ≡ m → kindAt w at < 24 → equivalent (kindAt w at) (kindAt w' bt) ≡ r
-code-alone {all} {v} {s} {w} {s'} {w'} {at} {n} {bt} {m} {r} l p x q y k = go (equivalent (kindAt w at) (kindAt w' bt)) refl
-  where
-    ka : kindAt w at ≤ 31
-    ka = omega arith
-
-    kb : kindAt w' bt ≤ 31
-    kb = walk-here w' (length s') bt m (l .second-walk) q .kind
-
-    plain : {j : ℕ} → j < 24 → isContainerKind j ≡ false
-    plain {j} h = rw (ne-eqb j 29 (λ e. omega arith), ne-eqb j 30 (λ e. omega arith))
-
-    one : n ≡ 1
-    one = sym x ∙ leaf-count w at n (l .first) p (plain k) .0 (omega arith)
-
-    go : (t : Bool) → equivalent (kindAt w at) (kindAt w' bt) ≡ t → t ≡ r
-    go false h = left-differ l p q (labels-differ s w at s' w' bt ka kb h)
-    go true h =
-        let j = low-partner (kindAt w at) (kindAt w' bt) h k in
-        let e = one in
-        let o : m ≡ 1 = sym y ∙ leaf-count w' bt m (l .second) q (plain j) .0 (omega arith) in
-        sym (eq-eqb (m - 1) 0 (omega arith)) ∙ left-end (left-next l p q (labels-primitive s w at s' w' bt h k) (plain k) refl refl refl) (omega arith)

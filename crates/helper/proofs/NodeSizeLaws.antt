@@ -1,5 +1,5 @@
 -- The size of each kind of node, and the walk over a container's fields.
-use Prim.Native.Nat.{ℕ, zero, suc, _+_, _-_, _*_, _≤_, _<_, max}
+use Prim.Native.Nat.{ℕ, zero, suc, _+_, _-_, _*_, _/_, _≤_, _<_, max}
 use native.Mathlib.Omega.{arith}
 use mathlib.Core.Path.{_≡_, refl, ap, ap₂, sym, _∙_, subst}
 use mathlib.Core.List.{List, _∷_}
@@ -10,15 +10,17 @@ use lib.Dec.{leb, eqb}
 use lib.ListN.{length}
 use Rattle.kinds.specs.Level.{showsFields, containerIncludeFields}
 use Rattle.kinds.specs.Parse.{maxU64}
-use Rattle.kinds.specs.Sheet.{kindAt, firstAt, secondAt, countAt, labelAt, isContainerKind, read, trees, nests}
+use Rattle.kinds.specs.Sheet.{kindAt, firstAt, secondAt, countAt, labelAt, isContainerKind, read, trees}
 use Rattle.kinds.specs.Size.{bitBytes, plus, larger, times, orZero, sum, largest, only, nodeSize, sizes}
 use Rattle.kinds.specs.Tree.{Trees, inside}
 use Rattle.kinds.specs.Walk.{NodeAt, TreesAt}
 use Rattle.kinds.specs.declared.Fields.the-variants.{Included, Dropped}
 use Rattle.kinds.specs.declared.NestingLevel.{NestingLevel}
-use Rattle.kinds.specs.declared.NestingLevel.the-variants.{Top, Within, Bottom}
-use Rattle.kinds.proofs.SheetLaws.{arity-low, nests-step, trees-step}
-use Rattle.kinds.proofs.NodeLaws.{node-arity, node-inner, no-trees, child-count, node-child, first-some, first-within, first-node, other-trees, label-primitive, label-bits, label-typed, label-pointer, label-atomic, label-array, label-struct, label-union, label-none}
+use Rattle.kinds.specs.declared.NestingLevel.the-variants.{Within, Bottom}
+use Rattle.kinds.proofs.KindLaws.{included, dropped}
+use Rattle.kinds.proofs.SheetLaws.{arity-low, trees-step}
+use Rattle.kinds.proofs.NodeLaws.{node-arity, node-inner, no-trees, child-count, node-child, first-some, first-within, first-node, other-trees, inner-count, inner-end, inner-trees, label-primitive}
+use Rattle.kinds.proofs.NodeLaws.{label-bits, label-typed, label-pointer, label-atomic, label-array, label-struct, label-union, label-none}
 use Rattle.helper.specs.Measure.{clip, joinMeasured, join, fold, holding, isLeaf, leafSize, sizeAt}
 use Rattle.helper.specs.declared.Measured.{Measured}
 use Rattle.helper.specs.declared.Measured.the-variants.{Bytes}
@@ -53,7 +55,8 @@ module _ (s w : List ℕ) (at : ℕ) where
   unfolding sizeAt nodeSize fold
   size-container v p = go (eqb (kindAt w at) 29) refl (eqb (kindAt w at) 30) refl p
     where
-      go : (t : Bool) → eqb (kindAt w at) 29 ≡ t → (u : Bool) → eqb (kindAt w at) 30 ≡ u → (t || u) ≡ true → sizeAt s w at v ≡ cond (showsFields v) (cond (eqb (kindAt w at) 29) (sum (sizes Within (trees s w (countAt w at - 1) (at + 4)))) (largest (sizes Within (trees s w (countAt w at - 1) (at + 4))))) none
+      go : (t : Bool) → eqb (kindAt w at) 29 ≡ t → (u : Bool) → eqb (kindAt w at) 30 ≡ u → (t || u) ≡ true → sizeAt s w at v
+          ≡ cond (showsFields v) (cond (eqb (kindAt w at) 29) (sum (sizes Within (trees s w (countAt w at - 1) (at + 4)))) (largest (sizes Within (trees s w (countAt w at - 1) (at + 4))))) none
       go true e u d r = rw (label-struct s (kindAt w at) (firstAt w at) (secondAt w at) (eqb-true (kindAt w at) 29 e), e)
       go false e true d r = rw (label-union s (kindAt w at) (firstAt w at) (secondAt w at) (eqb-true (kindAt w at) 30 d), e)
       go false e false d r = absurd (false≢true r)
@@ -113,7 +116,7 @@ pub bits-fit : (n : ℕ) → bitBytes n ≤ maxU64
 unfolding bitBytes
 bits-fit n = go (leb n 8) (leb n 16) (leb n 32) (leb n 64) (leb n 128)
   where
-    go : (a b c d e : Bool) → cond a 1 (cond b 2 (cond c 4 (cond d 8 (cond e 16 32)))) ≤ maxU64
+    go : (a b c d e : Bool) → cond a 8 (cond b 16 (cond c 32 (cond d 64 (cond e 128 256)))) / 8 ≤ maxU64
     go true b c d e = omega arith
     go false true c d e = omega arith
     go false false true d e = omega arith
@@ -142,27 +145,6 @@ not-leaf k h = go (leb k 24) refl (eqb k 26) refl (leb 31 k) refl h
         le : k < 31 → k ≤ 30
         le p = omega arith
 
--- kinds 29 and 30
-pub container-kind : (k : ℕ) → 29 ≤ k → k ≤ 30 → isContainerKind k ≡ true
-container-kind k p q = go (eqb k 29) refl
-  where
-    other : (k ≡ 29 → ⊥) → k ≡ 30
-    other r = omega arith
-
-    go : (t : Bool) → eqb k 29 ≡ t → isContainerKind k ≡ true
-    go true e = rw (eqb-true k 29 e)
-    go false e = rw (other (eqb-false k 29 e))
-
-pub dropped : (v : NestingLevel) → containerIncludeFields v ≡ Dropped → showsFields v ≡ false
-dropped Top h = absurd (let z : _≡_ {A = ℕ} 0 1 = cc in omega arith)
-dropped Within h = absurd (let z : _≡_ {A = ℕ} 0 1 = cc in omega arith)
-dropped Bottom h = refl
-
-pub included : (v u : NestingLevel) → containerIncludeFields v ≡ Included u → (showsFields v ≡ true) × (u ≡ Within)
-included Top u h = (refl, cc)
-included Within u h = (refl, cc)
-included Bottom u h = absurd (let z : _≡_ {A = ℕ} 0 1 = cc in omega arith)
-
 module _ (s w : List ℕ) (at : ℕ) (v : NestingLevel) (p : isContainerKind (kindAt w at) ≡ true) where
   pub size-dropped : containerIncludeFields v ≡ Dropped → sizeAt s w at v ≡ none
   size-dropped h = size-container s w at v p ∙ rw (dropped v h)
@@ -176,18 +158,6 @@ module _ (s w : List ℕ) (at : ℕ) (v : NestingLevel) (p : isContainerKind (ki
 
 -- two runs of trees, one after the other
 module _ (w : List ℕ) (j : ℕ) where
-  nests-run : (f i at : ℕ) → i ≤ f → TreesAt w at i → nests w j (at + 4 * i) ≡ true → nests w (i + j) at ≡ true
-  nests-run zero i at p h g = ap₂ (nests w) (omega arith) (omega arith) ∙ g
-  nests-run (suc f) zero at p h g = ap₂ (nests w) (omega arith) (omega arith) ∙ g
-  nests-run (suc f) (suc i) at p h g =
-      let a = first-some w at (suc i) h (omega arith) in
-      let b = first-within w at (suc i) h (omega arith) in
-      let n = first-node w at (suc i) h (omega arith) in
-      nests-step w (suc i + j) at a (omega arith)
-      ∙ rw (node-arity w at n, node-inner w at n .nested)
-      (ap (λ (x : ℕ). nests w x (at + 4 * countAt w at)) (omega arith)
-      ∙ nests-run f (suc i - countAt w at) (at + 4 * countAt w at) (omega arith) (other-trees w at (suc i) h (omega arith)) (ap (λ (x : ℕ). nests w j x) (omega arith) ∙ g))
-
   module _ (s : List ℕ) (k : ℕ) (v : NestingLevel) where
     fold-first : (i at : ℕ) → i ≤ 0 → fold k (sizes v (trees s w (i + j) at)) ≡ join k (fold k (sizes v (trees s w i at))) (fold k (sizes v (trees s w j (at + 4 * i))))
     unfolding sizes
@@ -209,30 +179,17 @@ module _ (w : List ℕ) (j : ℕ) where
         ∙ fold-run f (suc i - countAt w at) (at + 4 * countAt w at) (omega arith) (other-trees w at (suc i) h (omega arith))
         ∙ ap (λ (x : ℕ). join k (fold k (sizes v (trees s w (suc i - countAt w at) (at + 4 * countAt w at)))) (fold k (sizes v (trees s w j x)))) (omega arith))
         ∙ sym (join-assoc k (sizeAt s w at v) (fold k (sizes v (trees s w (suc i - countAt w at) (at + 4 * countAt w at)))) (fold k (sizes v (trees s w j (at + 4 * suc i)))))
-        ∙ ap (λ (x : Option ℕ). join k x (fold k (sizes v (trees s w j (at + 4 * suc i))))) (sym (ap (fold k) (sizes-step s w at v (suc i) a b) ∙ fold-cons k (sizeAt s w at v) (sizes v (trees s w (suc i - countAt w at) (at + 4 * countAt w at)))))
+        ∙ ap (λ (x : Option ℕ). join k x (fold k (sizes v (trees s w j (at + 4 * suc i)))))
+        (sym (ap (fold k) (sizes-step s w at v (suc i) a b) ∙ fold-cons k (sizeAt s w at v) (sizes v (trees s w (suc i - countAt w at) (at + 4 * countAt w at)))))
 
 module _ (w : List ℕ) (at n : ℕ) (h : TreesAt w at n) (p : 0 < n) where
-  -- the fields of the first and the trees after it
-  run : countAt w at - 1 + (n - countAt w at) ≡ n - 1
-  run = let a = first-some w at n h p in let b = first-within w at n h p in omega arith
-
-  after-inner : at + 4 + 4 * (countAt w at - 1) ≡ at + 4 * countAt w at
-  after-inner = let a = first-some w at n h p in omega arith
-
-  inner-trees : TreesAt w (at + 4) (n - 1)
-  inner-trees = record {
-    room = let r = h .room in omega arith;
-    nested = ap (λ (x : ℕ). nests w x (at + 4)) (sym run)
-        ∙ nests-run w (n - countAt w at) (countAt w at - 1) (countAt w at - 1) (at + 4) (omega arith) (node-inner w at (first-node w at n h p)) (ap (nests w (n - countAt w at)) after-inner ∙ other-trees w at n h p .nested);
-  }
-
   fold-inner : (s : List ℕ) → isContainerKind (kindAt w at) ≡ true → fold (kindAt w at) (sizes Within (trees s w n at)) ≡ fold (kindAt w at) (sizes Within (trees s w (n - 1) (at + 4)))
   fold-inner s c =
       ap (fold (kindAt w at)) (sizes-step s w at Within n (first-some w at n h p) (first-within w at n h p))
       ∙ fold-cons (kindAt w at) (sizeAt s w at Within) (sizes Within (trees s w (n - countAt w at) (at + 4 * countAt w at)))
-      ∙ ap₂ (join (kindAt w at)) (size-container s w at Within c) (ap (λ (x : ℕ). fold (kindAt w at) (sizes Within (trees s w (n - countAt w at) x))) (sym after-inner))
+      ∙ ap₂ (join (kindAt w at)) (size-container s w at Within c) (ap (λ (x : ℕ). fold (kindAt w at) (sizes Within (trees s w (n - countAt w at) x))) (sym (inner-end w at n h p)))
       ∙ sym (fold-run w (n - countAt w at) s (kindAt w at) Within (countAt w at - 1) (countAt w at - 1) (at + 4) (omega arith) (node-inner w at (first-node w at n h p)))
-      ∙ ap (λ (x : ℕ). fold (kindAt w at) (sizes Within (trees s w x (at + 4)))) run
+      ∙ ap (λ (x : ℕ). fold (kindAt w at) (sizes Within (trees s w x (at + 4)))) (inner-count w at n h p)
 
 -- What is gathered of a container's fields: `all` of those before `at`, with the sizes of the `n` nodes from there on, makes `total`.
 pub record Gathered (k : ℕ) (v : NestingLevel) (w : List ℕ) (at n : ℕ) (all : Measured) (total : List ℕ → Option ℕ) : Type 0 where
@@ -263,7 +220,8 @@ module _ {k : ℕ} {v : NestingLevel} {w : List ℕ} {at n : ℕ} {all : Measure
 
     -- a code, or a bitfield without a type, is one node
     pub gathered-code : kindAt w at < 25 → (x : Measured) → ((s : List ℕ) → x ≡ clip (sizeAt s w at v)) → {y : Measured} → y ≡ joinMeasured k all x → Gathered k v w (at + 4) (n - 1) y total
-    gathered-code lo x e {y} d = subst (λ (c : ℕ). Gathered k v w (at + 4 * c) (n - c) y total) (eqb-true (countAt w at) 1 (sym (arity-low (kindAt w at) (countAt w at) (countAt w (at + 4)) lo) ∙ node-arity w at gathered-node)) (gathered-turn x e d)
+    gathered-code lo x e {y} d = subst (λ (c : ℕ). Gathered k v w (at + 4 * c) (n - c) y total)
+        (eqb-true (countAt w at) 1 (sym (arity-low (kindAt w at) (countAt w at) (countAt w (at + 4)) lo) ∙ node-arity w at gathered-node)) (gathered-turn x e d)
 
     -- a container of the same kind: its fields stand in its place
     pub gathered-inner : isContainerKind k ≡ true → kindAt w at ≡ k → v ≡ Within → Gathered k v w (at + 4) (n - 1) all total
@@ -273,4 +231,5 @@ module _ {k : ℕ} {v : NestingLevel} {w : List ℕ} {at n : ℕ} {all : Measure
     }
       where
         same : (s : List ℕ) → fold k (sizes v (trees s w n at)) ≡ fold k (sizes v (trees s w (n - 1) (at + 4)))
-        same s = subst (λ (j : ℕ). fold j (sizes v (trees s w n at)) ≡ fold j (sizes v (trees s w (n - 1) (at + 4)))) e (subst (λ (u : NestingLevel). fold (kindAt w at) (sizes u (trees s w n at)) ≡ fold (kindAt w at) (sizes u (trees s w (n - 1) (at + 4)))) (sym l) (fold-inner w at n (g .there) p s (ap isContainerKind e ∙ c)))
+        same s = subst (λ (j : ℕ). fold j (sizes v (trees s w n at)) ≡ fold j (sizes v (trees s w (n - 1) (at + 4)))) e
+            (subst (λ (u : NestingLevel). fold (kindAt w at) (sizes u (trees s w n at)) ≡ fold (kindAt w at) (sizes u (trees s w (n - 1) (at + 4)))) (sym l) (fold-inner w at n (g .there) p s (ap isContainerKind e ∙ c)))

@@ -1,21 +1,23 @@
 -- What the functions below the entry points answer: sizes cut off at 2^64 - 1, and the comparison of fields.
 use Prim.Native.Nat.{ℕ, _+_, _-_, _*_, max}
 use mathlib.Core.Bool.{Bool, cond, _||_}
-use mathlib.Core.List.{List, []}
+use mathlib.Core.List.{List}
 use mathlib.Core.Option.{Option, some, none}
 use lib.Dec.{leb, eqb}
 use Rattle.kinds.specs.Compare.{compareEncodings, levelFor}
+use Rattle.kinds.specs.Kind.{insideKind}
 use Rattle.kinds.specs.Level.{showsFields}
 use Rattle.kinds.specs.Parse.{maxU64}
 use Rattle.kinds.specs.Primitive.{primitiveSize}
-use Rattle.kinds.specs.Sheet.{countAt, labelAt, trees, hasOneChild, label}
+use Rattle.kinds.specs.Sheet.{countAt, labelAt, trees, hasOneChild}
 use Rattle.kinds.specs.Size.{nodeSize, sizes, plus, larger, times, bitBytes, sum, largest}
 use Rattle.kinds.specs.Tree.{Trees, isEnd, inside}
 use Rattle.kinds.specs.declared.NestingLevel.{NestingLevel}
-use Rattle.sheet.specs.declared.Checked.{Checked}
-use Rattle.sheet.specs.declared.Checked.the-variants.{NotASheet, BadName, Good}
+use Rattle.kinds.specs.declared.Refusal.the-variants.{SizeTooLarge}
 use Rattle.helper.specs.declared.Measured.{Measured}
 use Rattle.helper.specs.declared.Measured.the-variants.{Nothing, Bytes, TooLarge}
+use Rattle.helper.specs.declared.Sized.{Sized}
+use Rattle.helper.specs.declared.Sized.the-variants as S
 
 -- ---- Sizes.
 
@@ -25,6 +27,12 @@ fit n = cond (leb n maxU64) (Bytes n) TooLarge
 unfoldable pub clip : Option ℕ → Measured
 clip none = Nothing
 clip (some n) = fit n
+
+-- A size as `size` hands it out.
+abbrev pub measured : Measured → Sized
+measured Nothing = S.Nothing
+measured (Bytes n) = S.Bytes n
+measured TooLarge = S.Refused SizeTooLarge
 
 -- The sum of two sizes: none goes before too large.
 unfoldable pub plusMeasured : Measured → Measured → Measured
@@ -91,14 +99,4 @@ shownCount v n = cond (showsFields v) n 0
 
 -- The level after a node that is no container of kind `k`: what it holds comes next, or the next tree at the level `v`.
 unfoldable pub levelAfter : Bool → ℕ → NestingLevel → NestingLevel → NestingLevel
-levelAfter all k v here = cond (hasOneChild k) (inside (label [] k 0 0) (levelFor all here)) v
-
--- ---- Two sheets.
-
--- That a sheet breaks the layout goes before a bad name of either.
-abbrev pub bothChecked : Checked → Checked → Checked
-bothChecked NotASheet b = NotASheet
-bothChecked BadName NotASheet = NotASheet
-bothChecked BadName BadName = BadName
-bothChecked BadName Good = BadName
-bothChecked Good b = b
+levelAfter all k v here = cond (hasOneChild k) (insideKind k (levelFor all here)) v

@@ -13,18 +13,26 @@ ghost use Rattle.kinds.specs.Size.{bitBytes};
 ghost use Rattle.kinds.specs.Tree.{inside};
 ghost use Rattle.kinds.specs.Walk.{NodeAt, TreesAt, KindAndName, KindsAndNames};
 ghost use Rattle.helper.specs.Answer.{sizeAnswer, compareAnswer};
-ghost use Rattle.helper.specs.Measure.{clip, plusMeasured, largerMeasured, timesMeasured, joinMeasured, fold, holdingMeasured, isLeaf, leafSize, sizeAt, compareFields, shownCount, levelAfter, bothChecked};
+ghost use Rattle.helper.specs.Measure.{clip, plusMeasured, largerMeasured, timesMeasured, joinMeasured, fold, holdingMeasured, isLeaf, leafSize, sizeAt, compareFields, shownCount, levelAfter, measured};
+use kinds::ARRAY;
+use kinds::BIT_FIELD;
 use kinds::Compared;
 use kinds::Fields;
-use kinds::IndirectionKind;
+use kinds::NONE;
 use kinds::NestingLevel;
+use kinds::POINTER;
+use kinds::PRIMITIVES;
 use kinds::PrimitiveSize;
 use kinds::Refusal;
+use kinds::STRUCT;
+use kinds::TYPED_BIT_FIELD;
 use kinds::equivalent_kinds;
 use kinds::is_container;
 use kinds::primitive_size;
 use sheet::Checked;
+use sheet::CheckedBoth;
 use sheet::check;
+use sheet::check_both;
 
 // A size: none, a count of bytes, or one above 2^64 - 1.
 pub enum Measured {
@@ -119,10 +127,20 @@ impl Measured {
         }
     }
 
+    fn answer(self) -> Sized
+        ensures { λ r. ⌜ r ≡ measured self ⌝ }
+    {
+        match self {
+            Measured::Nothing => Sized::Nothing,
+            Measured::Bytes(n) => Sized::Bytes(n),
+            Measured::TooLarge => Sized::Refused(Refusal::SizeTooLarge),
+        }
+    }
+
     fn of_no_fields(kind: u64) -> Measured
         ensures { λ r. ⌜ r ≡ clip (fold kind []) ⌝ }
     {
-        if kind == 29 {
+        if kind == STRUCT {
             return Measured::Bytes(0);
         }
         Measured::Nothing
@@ -132,7 +150,7 @@ impl Measured {
     fn join(self, kind: u64, other: Measured) -> Measured
         ensures { λ r. ⌜ r ≡ joinMeasured kind self other ⌝ }
     {
-        if kind == 29 {
+        if kind == STRUCT {
             self.plus(other)
         } else {
             self.larger(other)
@@ -143,10 +161,10 @@ impl Measured {
     fn held_by(self, kind: u64, first: u64, second: u64) -> Measured
         ensures { λ r. ⌜ r ≡ holdingMeasured kind first second self ⌝ }
     {
-        if kind == 25 {
+        if kind == TYPED_BIT_FIELD {
             return Measured::Bytes(bit_bytes(second)).larger(self);
         }
-        if kind == 28 {
+        if kind == ARRAY {
             return self.times(first);
         }
         self
@@ -175,46 +193,29 @@ fn bit_bytes(n: u64) -> u64
     32
 }
 
-// The level of what a node with one child holds.
-fn level_below(kind: u64, level: NestingLevel) -> NestingLevel
-    requires { ⌜ (25 ≤ kind) × (kind ≤ 28) ⌝ }
-    ensures { λ r. ⌜ ((s : List ℕ) (x y : ℕ) → r ≡ inside (label s kind x y) level) ⌝ }
-{
-    if kind == 26 {
-        return level.indirection(IndirectionKind::Pointer);
-    }
-    if kind == 27 {
-        return level.indirection(IndirectionKind::Atomic);
-    }
-    if kind == 28 {
-        return level.array();
-    }
-    level.bitfield()
-}
-
 // A node whose size does not depend on what it holds: a primitive, a bitfield without a type, a pointer, None.
 fn is_leaf(kind: u64) -> bool
     ensures { λ r. ⌜ r ≡ isLeaf kind ⌝ }
 {
-    if kind < 25 {
+    if kind < TYPED_BIT_FIELD {
         return true;
     }
-    if kind == 26 {
+    if kind == POINTER {
         return true;
     }
-    30 < kind
+    NONE <= kind
 }
 
 fn leaf_size(kind: u64, bits: u64) -> Measured
     ensures { λ r. ⌜ r ≡ clip (leafSize kind bits) ⌝ }
 {
-    if kind < 24 {
+    if kind < PRIMITIVES {
         return Measured::of_primitive(kind);
     }
-    if kind == 24 {
+    if kind == BIT_FIELD {
         return Measured::Bytes(bit_bytes(bits));
     }
-    if kind == 26 {
+    if kind == POINTER {
         return Measured::Bytes(8);
     }
     Measured::Nothing
@@ -229,8 +230,8 @@ fn size_of(nodes: &[u64], at: usize, level: NestingLevel) -> Measured
     if is_leaf(kind) {
         return leaf_size(kind, nodes[at + 2]);
     }
-    if kind < 29 {
-        let item = size_of(&nodes[0..], at + 4, level_below(kind, level));
+    if kind < STRUCT {
+        let item = size_of(&nodes[0..], at + 4, level.inside(kind));
         return item.held_by(kind, nodes[at + 1], nodes[at + 2]);
     }
     let Fields::Included(inner) = level.container_include_fields() else {
@@ -241,7 +242,7 @@ fn size_of(nodes: &[u64], at: usize, level: NestingLevel) -> Measured
     let mut all = Measured::of_no_fields(kind);
     while 0 < left {
         let field = nodes[child];
-        if field < 25 {
+        if field < TYPED_BIT_FIELD {
             all = all.join(kind, leaf_size(field, nodes[child + 2]));
             child += 4;
             left -= 1;
@@ -300,16 +301,16 @@ fn same_numbers(kind: u64, af: u64, al: u64, bf: u64, bl: u64) -> bool
     requires { ⌜ (24 ≤ kind) × (kind ≤ 31) × (isContainerKind kind ≡ false) ⌝ }
     ensures { λ r. ⌜ ((s t : List ℕ) → r ≡ compareLabels (label s kind af al) (label t kind bf bl)) ⌝ }
 {
-    if kind == 24 {
+    if kind == BIT_FIELD {
         return al == bl;
     }
-    if kind == 25 {
+    if kind == TYPED_BIT_FIELD {
         if af != bf {
             return false;
         }
         return al == bl;
     }
-    if kind == 28 {
+    if kind == ARRAY {
         return af == bf;
     }
     true
@@ -325,7 +326,7 @@ fn compare_labels(a: &[u64], an: &[u8], at: usize, b: &[u64], bn: &[u8], bt: usi
     if !equivalent_kinds(kind, b[bt]) {
         return false;
     }
-    if kind < 24 {
+    if kind < PRIMITIVES {
         return true;
     }
     if is_container(kind) {
@@ -347,13 +348,13 @@ fn level_for(all: bool, level: NestingLevel) -> NestingLevel
 fn level_after(all: bool, kind: u64, level: NestingLevel, here: NestingLevel) -> NestingLevel
     ensures { λ r. ⌜ r ≡ levelAfter all kind level here ⌝ }
 {
-    if kind < 25 {
+    if kind < TYPED_BIT_FIELD {
         return level;
     }
-    if 28 < kind {
+    if ARRAY < kind {
         return level;
     }
-    level_below(kind, level_for(all, here))
+    level_for(all, here).inside(kind)
 }
 
 // How many of a container's `n` field nodes are compared.
@@ -453,33 +454,14 @@ fn compare_fields(
     more == 0
 }
 
-// The check of two sheets: that a sheet breaks the layout goes before a bad name of either.
-fn both(a: Checked, b: Checked) -> Checked
-    ensures { λ r. ⌜ r ≡ bothChecked a b ⌝ }
-{
-    match a {
-        Checked::NotASheet => Checked::NotASheet,
-        Checked::BadName => match b {
-            Checked::NotASheet => Checked::NotASheet,
-            Checked::BadName => Checked::BadName,
-            Checked::Good => Checked::BadName,
-        },
-        Checked::Good => b,
-    }
-}
-
 // The size of the tree in a sheet.
 pub fn size(words: &[u64], names: &[u8]) -> Sized
     ensures { λ r. ⌜ r ≡ sizeAnswer (now (words .entry)) (now (names .entry)) ⌝ }
 {
     match check(words, names) {
-        Checked::NotASheet => Sized::Refused(Refusal::NotASheet),
-        Checked::BadName => Sized::Refused(Refusal::BadName),
-        Checked::Good => match size_of(&words[4..], 0, NestingLevel::new()) {
-            Measured::Nothing => Sized::Nothing,
-            Measured::Bytes(n) => Sized::Bytes(n),
-            Measured::TooLarge => Sized::Refused(Refusal::SizeTooLarge),
-        },
+        Checked::Refused(why) => Sized::Refused(why),
+        Checked::Code(kind) => Measured::of_primitive(kind).answer(),
+        Checked::Nodes(first, _) => size_of(&words[first..], 0, NestingLevel::new()).answer(),
     }
 }
 
@@ -487,28 +469,13 @@ pub fn size(words: &[u64], names: &[u8]) -> Sized
 pub fn compare_encodings(aw: &[u64], an: &[u8], bw: &[u64], bn: &[u8], all: bool) -> Compared
     ensures { λ r. ⌜ r ≡ compareAnswer all (now (aw .entry)) (now (an .entry)) (now (bw .entry)) (now (bn .entry)) ⌝ }
 {
-    match both(check(&aw[0..], &an[0..]), check(&bw[0..], &bn[0..])) {
-        Checked::NotASheet => Compared::Refused(Refusal::NotASheet),
-        Checked::BadName => Compared::Refused(Refusal::BadName),
-        Checked::Good => {
-            if aw[4] < 24 {
-                return Compared::Decided(equivalent_kinds(aw[4], bw[4]));
-            }
+    match check_both(aw, an, bw, bn) {
+        CheckedBoth::Refused(why) => Compared::Refused(why),
+        CheckedBoth::Codes(k, j) => Compared::Decided(equivalent_kinds(k, j)),
+        CheckedBoth::Nodes(f, n, g, m) => {
             let top = NestingLevel::new();
-            let n = aw[0] as usize;
-            let m = bw[0] as usize;
-            Compared::Decided(compare_fields(
-                &aw[4..],
-                &an[0..],
-                0,
-                n,
-                &bw[4..],
-                &bn[0..],
-                0,
-                m,
-                top,
-                all,
-            ))
+            let same = compare_fields(&aw[f..], &an[0..], 0, n, &bw[g..], &bn[0..], 0, m, top, all);
+            Compared::Decided(same)
         }
     }
 }

@@ -4,20 +4,19 @@ use native.Mathlib.Omega.{arith}
 use native.Mathlib.Numerals.{add-one}
 use mathlib.Core.Path.{_≡_, refl, ap, ap₂, sym, _∙_, subst}
 use mathlib.Core.List.{List, [], _∷_, _++_, append-assoc}
-use mathlib.Core.Option.{Option, some, none}
-use mathlib.Core.Bool.{Bool, true, false, cond, _&&_, _||_, false≢true}
-use borrow.Author.Tests.{lt-ltb, le-leb, lt-leb, leb-true, leb-false, eq-eqb, ne-eqb, eqb-true, eqb-false}
-use lib.ListN.{length, getD, take, drop, length-append, length-drop, length-take, take-append-drop}
+use mathlib.Core.Bool.{Bool, true, false, _&&_, false≢true}
+use borrow.Author.Tests.{lt-ltb, leb-true, leb-false, ne-eqb, eqb-true}
+use lib.ListN.{length, getD, take, drop, length-append, length-drop, take-append-drop}
 use lib.Seq.{drop-drop, drop-append-seam, drop-cons, length-take-le}
 use lib.Dec.{leb, eqb}
-use Rattle.kinds.specs.Tree as T
-use Rattle.kinds.specs.Tree.{Label, Trees, end, node, primitive, bitField, typedBitField, pointer, atomic, array, struct, union, isEnd, isOne, count, kind, name}
+use Rattle.kinds.specs.Tree.{Label, Trees, end, node, isEnd, isOne, count, kind, name}
 use Rattle.kinds.specs.Parse.{maxU64}
 use Rattle.kinds.specs.Sound.{validLabel, validCount, valid}
-use Rattle.kinds.specs.Sheet.{first, second, namesOf, nodes, headerOf, sheetOf, Holds, nodeWords, treeOf, kindAt, firstAt, secondAt, countAt, labelAt, label, isContainerKind, trees, arity, nests, numbers, nextName, packed, header, isSheet, decode}
+use Rattle.kinds.specs.Sheet.{first, second, namesOf, nodes, headerOf, sheetOf, Holds, nodeWords, treeOf, kindAt, firstAt, secondAt, countAt, labelAt, label, isContainerKind, trees, arity, nests, numbers, nextName, packed, isSheet}
 use Rattle.kinds.specs.Walk.{NodeAt, TreesAt}
-use Rattle.kinds.proofs.SheetLaws.{Header, both-left, both-right, trees-step, arity-one, arity-low, arity-high, packed-first, packed-rest, container-first, container-fits, nextName-le, packed-none}
-use Rattle.kinds.proofs.NodeLaws.{first-some, first-within, first-node, node-arity, node-inner, node-child, child-count, other-trees, label-primitive, SheetSays, sheet-says, by-kind, no-trees, leaf-end, numbers-kind}
+use Rattle.kinds.proofs.SheetLaws.{Header, trees-step, arity-low, arity-high, packed-first, packed-rest, packed-none}
+use Rattle.kinds.proofs.TableLaws.{both, both-left, both-right}
+use Rattle.kinds.proofs.NodeLaws.{first-some, first-within, first-node, node-inner, node-child, child-count, other-trees, label-primitive, sheet-says, by-kind, no-trees, leaf-end, numbers-kind}
 use Rattle.kinds.proofs.LayoutLaws.{Stands, okNode, nodes-length, layout-sheet, layout-tree}
 
 -- what a node's words say of its label
@@ -28,9 +27,6 @@ record Says (s : List ℕ) (k a b p e : ℕ) : Type 0 where
   the-next : nextName k b p ≡ p + length (name (label s k a b))
   the-name : Stands s p (name (label s k a b))
   the-end : p + length (name (label s k a b)) ≤ e
-
-two : (a b : Bool) → (a && b) ≡ true → (a ≡ true) × (b ≡ true)
-two a b h = (both-left a b h, both-right a b h)
 
 take-stands : (s : List ℕ) (p b : ℕ) → Stands s p (take b (drop p s))
 take-stands s p b = (drop b (drop p s), sym (take-append-drop b (drop p s)))
@@ -56,7 +52,7 @@ module _ (s : List ℕ) (a b p e : ℕ) (pe : p ≤ e) (es : e ≤ length s) whe
       over = omega arith
 
       zeros : (x : Bool) → (x && (eqb a 0 && eqb b 0)) ≡ true → (0 ≡ a) × (0 ≡ b)
-      zeros x g = let t = two (eqb a 0) (eqb b 0) (both-right x (eqb a 0 && eqb b 0) g) in (sym (eqb-true a 0 (t .0)), sym (eqb-true b 0 (t .1)))
+      zeros x g = let t = both (eqb a 0) (eqb b 0) (both-right x (eqb a 0 && eqb b 0) g) in (sym (eqb-true a 0 (t .0)), sym (eqb-true b 0 (t .1)))
 
       bits : (eqb a 0 && leb b 255) ≡ true → 0 ≡ a
       bits g = sym (eqb-true a 0 (both-left (eqb a 0) (leb b 255) g))
@@ -84,8 +80,22 @@ module _ (s : List ℕ) (a b p e : ℕ) (pe : p ≤ e) (es : e ≤ length s) whe
           (λ g. record { the-kind = refl; the-first = zeros true g .0; the-second = zeros true g .1; the-next = plain p; the-name = none-stands; the-end = over })
           (λ g. record { the-kind = refl; the-first = zeros true g .0; the-second = zeros true g .1; the-next = plain p; the-name = none-stands; the-end = over })
           (λ g. record { the-kind = refl; the-first = refl; the-second = sym (eqb-true b 0 (both-right (leb a maxU64) (eqb b 0) g)); the-next = plain p; the-name = none-stands; the-end = over })
-          (λ g. record { the-kind = refl; the-first = sym (named g .0); the-second = name-length (named g .0) (named g .1); the-next = ap (λ (n : ℕ). p + n) (sym (name-length (named g .0) (named g .1))); the-name = subst (λ (n : ℕ). Stands s p (take b (drop n s))) (sym (named g .0)) (take-stands s p b); the-end = subst (λ (n : ℕ). p + n ≤ e) (sym (name-length (named g .0) (named g .1))) (named g .1) })
-          (λ g. record { the-kind = refl; the-first = sym (named g .0); the-second = name-length (named g .0) (named g .1); the-next = ap (λ (n : ℕ). p + n) (sym (name-length (named g .0) (named g .1))); the-name = subst (λ (n : ℕ). Stands s p (take b (drop n s))) (sym (named g .0)) (take-stands s p b); the-end = subst (λ (n : ℕ). p + n ≤ e) (sym (name-length (named g .0) (named g .1))) (named g .1) })
+          (λ g. record {
+            the-kind = refl;
+            the-first = sym (named g .0);
+            the-second = name-length (named g .0) (named g .1);
+            the-next = ap (λ (n : ℕ). p + n) (sym (name-length (named g .0) (named g .1)));
+            the-name = subst (λ (n : ℕ). Stands s p (take b (drop n s))) (sym (named g .0)) (take-stands s p b);
+            the-end = subst (λ (n : ℕ). p + n ≤ e) (sym (name-length (named g .0) (named g .1))) (named g .1);
+          })
+          (λ g. record {
+            the-kind = refl;
+            the-first = sym (named g .0);
+            the-second = name-length (named g .0) (named g .1);
+            the-next = ap (λ (n : ℕ). p + n) (sym (name-length (named g .0) (named g .1)));
+            the-name = subst (λ (n : ℕ). Stands s p (take b (drop n s))) (sym (named g .0)) (take-stands s p b);
+            the-end = subst (λ (n : ℕ). p + n ≤ e) (sym (name-length (named g .0) (named g .1))) (named g .1);
+          })
           (λ g. record { the-kind = refl; the-first = zeros true g .0; the-second = zeros true g .1; the-next = plain p; the-name = none-stands; the-end = over })
           k (leb-false k 23 q) (numbers-kind k a b p e h) h
 
@@ -199,7 +209,10 @@ module _ (s w : List ℕ) (e : ℕ) (es : e ≤ length s) where
       let e₁ : at + 4 * countAt w at + 4 * (n - countAt w at) ≡ at + 4 * n = omega arith in
       let e₂ : p + length (name l) + length (namesOf cs) + length (namesOf ts) ≡ p + length (name l ++ (namesOf cs ++ namesOf ts)) = omega arith in
       record {
-        stands = subst (λ (j : ℕ). Stands w at (kind l ∷ first l p ∷ second l ∷ j ∷ (xs ++ ys))) c (subst (λ (j : ℕ). Stands w at (kind l ∷ first l p ∷ j ∷ countAt w at ∷ (xs ++ ys))) (sym b) (subst (λ (j : ℕ). Stands w at (kind l ∷ j ∷ secondAt w at ∷ countAt w at ∷ (xs ++ ys))) (sym a) (subst (λ (j : ℕ). Stands w at (j ∷ firstAt w at ∷ secondAt w at ∷ countAt w at ∷ (xs ++ ys))) (sym k) (four-words w at (xs ++ ys) (omega arith) after))));
+        stands = subst (λ (j : ℕ). Stands w at (kind l ∷ first l p ∷ second l ∷ j ∷ (xs ++ ys))) c
+            (subst (λ (j : ℕ). Stands w at (kind l ∷ first l p ∷ j ∷ countAt w at ∷ (xs ++ ys))) (sym b)
+            (subst (λ (j : ℕ). Stands w at (kind l ∷ j ∷ secondAt w at ∷ countAt w at ∷ (xs ++ ys))) (sym a)
+            (subst (λ (j : ℕ). Stands w at (j ∷ firstAt w at ∷ secondAt w at ∷ countAt w at ∷ (xs ++ ys))) (sym k) (four-words w at (xs ++ ys) (omega arith) after))));
         names = stands-append s p (name l) (namesOf cs ++ namesOf ts) nm (stands-append s (p + length (name l)) (namesOf cs) (namesOf ts) (x .names) (y .names));
         ok = rw (o, x .ok, y .ok);
         cnt = omega arith;
@@ -210,7 +223,8 @@ module _ (s w : List ℕ) (e : ℕ) (es : e ≤ length s) where
   laid : (f n at p m : ℕ) → n ≤ f → TreesAt w at n → p ≤ e → packed w (n + m) at p e ≡ true → Laid s w e (trees s w n at) n at p m
   laid zero n at p m nf h pe g =
       let z : n ≡ 0 = omega arith in
-      subst (λ (j : ℕ). Laid s w e (trees s w j at) j at p m) (sym z) (subst (λ (t : Trees). Laid s w e t 0 at p m) (sym (no-trees s w 0 at (omega arith))) (laid-none at p m pe (subst (λ (j : ℕ). packed w j at p e ≡ true) (zero-left n m z) g)))
+      subst (λ (j : ℕ). Laid s w e (trees s w j at) j at p m) (sym z)
+      (subst (λ (t : Trees). Laid s w e t 0 at p m) (sym (no-trees s w 0 at (omega arith))) (laid-none at p m pe (subst (λ (j : ℕ). packed w j at p e ≡ true) (zero-left n m z) g)))
     where
       zero-left : (a b : ℕ) → a ≡ 0 → a + b ≡ b
       zero-left a b q = omega arith
@@ -226,12 +240,15 @@ module _ (s w : List ℕ) (e : ℕ) (es : e ≤ length s) where
       let y = says s (firstAt w at) (secondAt w at) p e pe es (kindAt w at) num in
       let e₁ : suc n + m - 1 ≡ countAt w at - 1 + (suc n - countAt w at + m) = omega arith in
       let e₂ : at + 4 + 4 * (countAt w at - 1) ≡ at + 4 * countAt w at = omega arith in
-      let q₁ : packed w (countAt w at - 1 + (suc n - countAt w at + m)) (at + 4) (p + length (name (labelAt s w at))) e ≡ true = subst (λ (j : ℕ). packed w j (at + 4) (p + length (name (labelAt s w at))) e ≡ true) e₁ (subst (λ (j : ℕ). packed w (suc n + m - 1) (at + 4) j e ≡ true) (y .the-next) (packed-rest w (suc n + m) at p e (omega arith) g)) in
+      let q₁ : packed w (countAt w at - 1 + (suc n - countAt w at + m)) (at + 4) (p + length (name (labelAt s w at))) e
+      ≡ true = subst (λ (j : ℕ). packed w j (at + 4) (p + length (name (labelAt s w at))) e ≡ true) e₁ (subst (λ (j : ℕ). packed w (suc n + m - 1) (at + 4) j e ≡ true) (y .the-next) (packed-rest w (suc n + m) at p e (omega arith) g)) in
       let kids = laid f (countAt w at - 1) (at + 4) (p + length (name (labelAt s w at))) (suc n - countAt w at + m) (omega arith) (node-inner w at hn) (y .the-end) q₁ in
       let q₂ = subst (λ (j : ℕ). packed w (suc n - countAt w at + m) j (p + length (name (labelAt s w at)) + length (namesOf (trees s w (countAt w at - 1) (at + 4)))) e ≡ true) e₂ (kids .on) in
-      let rest = laid f (suc n - countAt w at) (at + 4 * countAt w at) (p + length (name (labelAt s w at)) + length (namesOf (trees s w (countAt w at - 1) (at + 4)))) m (omega arith) (other-trees w at (suc n) h (omega arith)) (kids .le) q₂ in
+      let rest = laid f (suc n - countAt w at) (at + 4 * countAt w at) (p + length (name (labelAt s w at)) + length (namesOf (trees s w (countAt w at - 1) (at + 4)))) m (omega arith)
+      (other-trees w at (suc n) h (omega arith)) (kids .le) q₂ in
       subst (λ (t : Trees). Laid s w e t (suc n) at p m) (sym (trees-step s w (suc n) at c₁ c₂))
-      (laid-node (labelAt s w at) (trees s w (countAt w at - 1) (at + 4)) (trees s w (suc n - countAt w at) (at + 4 * countAt w at)) (suc n) at p m hn (y .the-kind) (y .the-first) (y .the-second) (ok-node s w at hn p e num) (y .the-name) c₁ c₂ kids rest)
+      (laid-node (labelAt s w at) (trees s w (countAt w at - 1) (at + 4)) (trees s w (suc n - countAt w at) (at + 4 * countAt w at)) (suc n) at p m hn (y .the-kind) (y .the-first) (y .the-second)
+      (ok-node s w at hn p e num) (y .the-name) c₁ c₂ kids rest)
 
 header-stands : {m : ℕ} (w : List ℕ) (t : Trees) → Header w m → count t ≡ getD w 0 0 → length (namesOf t) ≡ getD w 2 0 → Stands w 4 (nodes t 0) → Stands w 0 (sheetOf t)
 unfolding sheetOf headerOf
@@ -254,7 +271,7 @@ is-end = refl
 begins : (w xs : List ℕ) (n : ℕ) → length xs ≡ n → Stands w 0 xs → w ≡ xs ++ drop n w
 begins w xs n e h = h .1 ∙ ap (λ (z : List ℕ). xs ++ z) (sym (drop-append-seam xs (h .0)) ∙ ap (drop (length xs)) (sym (h .1)) ∙ ap (λ (k : ℕ). drop k w) e)
 
-sheet-length : (t : Trees) → length (sheetOf t) ≡ 4 + 4 * count t
+pub sheet-length : (t : Trees) → length (sheetOf t) ≡ 4 + 4 * count t
 unfolding sheetOf headerOf
 sheet-length t = let e = nodes-length t 0 in omega arith
 

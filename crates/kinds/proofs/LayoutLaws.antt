@@ -1,21 +1,22 @@
 -- The layout of a tree passes the test of a sheet and reads back as the tree.
-use Prim.Native.Nat.{ℕ, zero, suc, _+_, _-_, _*_, _≤_, _<_}
+use Prim.Native.Nat.{ℕ, suc, _+_, _-_, _*_, _≤_, _<_}
 use native.Mathlib.Omega.{arith}
 use mathlib.Core.Path.{_≡_, refl, ap, ap₂, sym, _∙_, subst}
 use mathlib.Core.List.{List, [], _∷_, _++_, append-assoc}
-use mathlib.Core.Bool.{Bool, true, false, cond, _&&_, _||_, false≢true}
+use mathlib.Core.Bool.{Bool, true, _&&_, false≢true}
 use borrow.Author.Tests.{le-leb, ltb-true, eq-eqb, ne-eqb}
 use lib.ListN.{length, getD, take, drop, length-append}
 use lib.Seq.{drop-drop, drop-append-seam, take-append-seam, getD-drop}
-use lib.Dec.{leb, ltb, eqb}
+use lib.Dec.{leb, ltb}
 use Rattle.kinds.specs.Tree as T
 use Rattle.kinds.specs.Tree.{Label, Trees, end, node, primitive, bitField, typedBitField, pointer, atomic, array, struct, union, isEnd, isOne, count, kind, name}
 use Rattle.kinds.specs.Parse.{maxU64}
 use Rattle.kinds.specs.Sound.{validLabel, validCount, valid}
-use Rattle.kinds.specs.Sheet.{first, second, namesOf, nodes, headerOf, sheetOf, nodeWords, treeOf, kindAt, firstAt, secondAt, countAt, labelAt, label, read, trees, arity, nests, numbers, nextName, packed, header, isSheet, decode}
-use Rattle.kinds.proofs.SheetLaws.{both-left, both-right, trees-step, nests-step, nests-none, arity-one, arity-low, packed-step, packed-on, packed-none}
+use Rattle.kinds.specs.Sheet.{first, second, namesOf, nodes, headerOf, sheetOf, nodeWords, treeOf, kindAt, firstAt, secondAt, countAt, labelAt, label, trees, arity, nests, numbers, nextName, packed, header, isSheet}
+use Rattle.kinds.proofs.SheetLaws.{trees-step, nests-step, nests-none, arity-one, arity-low, packed-on, packed-none}
+use Rattle.kinds.proofs.TableLaws.{both-left, both-right}
 use Rattle.kinds.proofs.NodeLaws.{no-trees}
-use mathlib.Core.Option.{Option, some, none}
+use mathlib.Core.Option.{none}
 
 -- A label's numbers and children are those of a sheet.
 abbrev pub okNode : Label → Trees → Bool
@@ -103,7 +104,8 @@ module _ (s w : List ℕ) where
       let e₁ : countAt w at - 1 ≡ count cs = omega arith in
       let e₂ : suc (count cs + count ts) - countAt w at ≡ count ts = omega arith in
       let e₃ : at + 4 * countAt w at ≡ at + 4 + length xs = omega arith in
-      let lab : labelAt s w at ≡ l = ap (λ (x : ℕ). label s x (firstAt w at) (secondAt w at)) k ∙ ap (λ (x : ℕ). label s (kind l) x (secondAt w at)) a ∙ ap (λ (x : ℕ). label s (kind l) (first l p) x) b ∙ label-back s l cs p o₁ (stands-first s p (name l) (namesOf cs ++ namesOf ts) n) in
+      let lab : labelAt s w at ≡ l = ap (λ (x : ℕ). label s x (firstAt w at) (secondAt w at)) k ∙ ap (λ (x : ℕ). label s (kind l) x (secondAt w at)) a
+      ∙ ap (λ (x : ℕ). label s (kind l) (first l p) x) b ∙ label-back s l cs p o₁ (stands-first s p (name l) (namesOf cs ++ namesOf ts) n) in
       trees-step s w (suc (count cs + count ts)) at (omega arith) (omega arith)
       ∙ ap (λ (x : Label). node x (trees s w (countAt w at - 1) (at + 4)) (trees s w (suc (count cs + count ts) - countAt w at) (at + 4 * countAt w at))) lab
       ∙ ap₂ (node l) (ap (λ (j : ℕ). trees s w j (at + 4)) e₁ ∙ kids) (ap₂ (trees s w) e₂ e₃ ∙ rest)

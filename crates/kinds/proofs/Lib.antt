@@ -5,5 +5,7 @@ pub mod TableLaws
 pub mod PrimitiveLaws
 pub mod SheetLaws
 pub mod NodeLaws
+pub mod KindLaws
+pub mod ParseLaws
 pub mod LayoutLaws
 pub mod HoldsLaws

@@ -2,16 +2,17 @@
 use Prim.Native.Nat.{ℕ, zero, suc, _+_, _-_, _*_, _≤_, _<_}
 use native.Mathlib.Omega.{arith}
 use mathlib.Core.Path.{_≡_, refl, ap, ap₂, sym, _∙_, subst}
-use mathlib.Core.List.{List, [], _∷_}
-use mathlib.Core.Bool.{Bool, true, false, cond, _&&_, _||_, false≢true}
-use borrow.Author.Tests.{le-leb, lt-leb, leb-true, leb-false, eq-eqb, ne-eqb, eqb-true, eqb-false}
+use mathlib.Core.List.{List}
+use mathlib.Core.Bool.{Bool, true, false, _&&_, false≢true}
+use borrow.Author.Tests.{le-leb, lt-leb, leb-true, leb-false, ne-eqb, eqb-true, eqb-false}
 use lib.ListN.{length, getD, take, drop, length-drop}
 use lib.Dec.{leb, eqb}
 use Rattle.kinds.specs.Tree as T
-use Rattle.kinds.specs.Tree.{Label, Trees, end, node, primitive, bitField, typedBitField, pointer, atomic, array, struct, union, isEnd, kind, isContainer}
-use Rattle.kinds.specs.Sheet.{header, numbers, nextName, packed, isSheet, nodeWords, kindAt, firstAt, secondAt, countAt, labelAt, label, isContainerKind, read, trees, arity, nests}
+use Rattle.kinds.specs.Tree.{end, primitive, bitField, typedBitField, pointer, atomic, array, struct, union, isEnd, kind, isContainer}
+use Rattle.kinds.specs.Sheet.{header, numbers, nextName, packed, isSheet, nodeWords, kindAt, firstAt, secondAt, countAt, label, isContainerKind, read, trees, arity, nests}
 use Rattle.kinds.specs.Walk.{NodeAt, TreesAt, KindAndName, KindsAndNames}
-use Rattle.kinds.proofs.SheetLaws.{Header, header-says, both-left, both-right, arity-one, nests-step, nests-zero, nests-over, nests-none, packed-first, packed-rest, container-first, container-fits}
+use Rattle.kinds.proofs.SheetLaws.{Header, header-says, arity-one, nests-step, nests-zero, nests-over, nests-none, packed-first, packed-rest, container-first, container-fits}
+use Rattle.kinds.proofs.TableLaws.{both-left, both-right}
 
 module _ (w : List ℕ) (at : ℕ) (h : NodeAt w at) where
   step : (arity (kindAt w at) (countAt w at) (countAt w (at + 4)) && (nests w (countAt w at - 1) (at + 4) && nests w (countAt w at - countAt w at) (at + 4 * countAt w at))) ≡ true
@@ -113,7 +114,16 @@ module _ (s : List ℕ) (k a b : ℕ) where
 
   pub label-none : 30 < k → label s k a b ≡ T.none
   unfolding label
-  label-none p = rw (lt-leb k 23 (omega arith), ne-eqb k 24 (λ e. omega arith), ne-eqb k 25 (λ e. omega arith), ne-eqb k 26 (λ e. omega arith), ne-eqb k 27 (λ e. omega arith), ne-eqb k 28 (λ e. omega arith), ne-eqb k 29 (λ e. omega arith), ne-eqb k 30 (λ e. omega arith))
+  label-none p = rw (
+    lt-leb k 23 (omega arith),
+    ne-eqb k 24 (λ e. omega arith),
+    ne-eqb k 25 (λ e. omega arith),
+    ne-eqb k 26 (λ e. omega arith),
+    ne-eqb k 27 (λ e. omega arith),
+    ne-eqb k 28 (λ e. omega arith),
+    ne-eqb k 29 (λ e. omega arith),
+    ne-eqb k 30 (λ e. omega arith),
+  )
 
 pub not-container : (k : ℕ) → isContainerKind k ≡ false → (k ≡ 29 → ⊥) × (k ≡ 30 → ⊥)
 not-container k h = (λ e. false≢true (sym h ∙ ap isContainerKind e), λ e. false≢true (sym h ∙ ap isContainerKind e))
@@ -214,7 +224,9 @@ packed-walk w m (suc n) at s e le h zero p =
       name = λ k. let a = container-first (kindAt w at) (firstAt w at) (secondAt w at) s e k q in let b = container-fits (kindAt w at) (firstAt w at) (secondAt w at) s e k q in omega arith;
     })
 packed-walk w m (suc n) at s e le h (suc i) p =
-    subst (KindAndName w m) (omega arith) (packed-walk w m n (at + 4) (nextName (kindAt w at) (secondAt w at) s) e le (subst (λ (j : ℕ). packed w j (at + 4) (nextName (kindAt w at) (secondAt w at) s) e ≡ true) (omega arith) (packed-rest w (suc n) at s e (omega arith) h)) i (omega arith))
+    subst (KindAndName w m) (omega arith)
+    (packed-walk w m n (at + 4) (nextName (kindAt w at) (secondAt w at) s) e le
+    (subst (λ (j : ℕ). packed w j (at + 4) (nextName (kindAt w at) (secondAt w at) s) e ≡ true) (omega arith) (packed-rest w (suc n) at s e (omega arith) h)) i (omega arith))
 
 -- A node with one child is followed by that child: what it holds and the trees after it are trees side by side.
 pub held-trees : (w : List ℕ) (at n : ℕ) → TreesAt w at n → 0 < n → 25 ≤ kindAt w at → kindAt w at ≤ 28 → TreesAt w (at + 4) (n - 1)
@@ -229,6 +241,36 @@ held-trees w at n h p lo hi =
       nested = nests-step w (n - 1) (at + 4) (d .some-node) (omega arith)
           ∙ rw (node-arity w (at + 4) d, node-inner w (at + 4) d .nested) (ap₂ (nests w) (omega arith) (omega arith) ∙ o .nested);
     }
+
+-- Two runs of trees, one after the other, are one.
+pub nests-run : (w : List ℕ) (j f i at : ℕ) → i ≤ f → TreesAt w at i → nests w j (at + 4 * i) ≡ true → nests w (i + j) at ≡ true
+nests-run w j zero i at p h g = ap₂ (nests w) (omega arith) (omega arith) ∙ g
+nests-run w j (suc f) zero at p h g = ap₂ (nests w) (omega arith) (omega arith) ∙ g
+nests-run w j (suc f) (suc i) at p h g =
+    let a = first-some w at (suc i) h (omega arith) in
+    let b = first-within w at (suc i) h (omega arith) in
+    let n = first-node w at (suc i) h (omega arith) in
+    nests-step w (suc i + j) at a (omega arith)
+    ∙ rw (node-arity w at n, node-inner w at n .nested)
+    (ap (λ (x : ℕ). nests w x (at + 4 * countAt w at)) (omega arith)
+    ∙ nests-run w j f (suc i - countAt w at) (at + 4 * countAt w at) (omega arith) (other-trees w at (suc i) h (omega arith)) (ap (λ (x : ℕ). nests w j x) (omega arith) ∙ g))
+
+-- So are the children of the first and the trees after it.
+module _ (w : List ℕ) (at n : ℕ) (h : TreesAt w at n) (p : 0 < n) where
+  pub inner-count : countAt w at - 1 + (n - countAt w at) ≡ n - 1
+  inner-count = let a = first-some w at n h p in let b = first-within w at n h p in omega arith
+
+  pub inner-end : at + 4 + 4 * (countAt w at - 1) ≡ at + 4 * countAt w at
+  inner-end = let a = first-some w at n h p in omega arith
+
+  pub inner-trees : TreesAt w (at + 4) (n - 1)
+  inner-trees =
+      let c = countAt w at in
+      record {
+        room = let r = h .room in omega arith;
+        nested = ap (λ (x : ℕ). nests w x (at + 4)) (sym inner-count)
+            ∙ nests-run w (n - c) (c - 1) (c - 1) (at + 4) (omega arith) (node-inner w at (first-node w at n h p)) (ap (nests w (n - c)) inner-end ∙ other-trees w at n h p .nested);
+      }
 
 -- What a sheet is.
 pub record SheetSays (words names : List ℕ) : Type 0 where

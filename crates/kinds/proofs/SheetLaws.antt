@@ -1,24 +1,17 @@
 -- Laws of the test of a sheet, one node at a time.
-use Prim.Native.Nat.{ℕ, zero, suc, _+_, _-_, _*_, _≤_, _<_, min}
+use Prim.Native.Nat.{ℕ, zero, suc, _+_, _-_, _*_, _≤_, _<_}
 use native.Mathlib.Omega.{arith}
 use native.Mathlib.Nat.{min-eq-left}
-use native.Mathlib.Numerals.{add-one, sub-one}
+use native.Mathlib.Numerals.{sub-one}
 use mathlib.Core.Path.{_≡_, refl, ap, ap₂, sym, _∙_, subst}
-use mathlib.Core.List.{List, [], _∷_}
-use mathlib.Core.Bool.{Bool, true, false, cond, _&&_, _||_, false≢true}
+use mathlib.Core.List.{List}
+use mathlib.Core.Bool.{Bool, true, false, cond, _&&_}
 use borrow.Author.Tests.{le-leb, lt-leb, leb-true, leb-false, eq-eqb, ne-eqb, eqb-true, eqb-false}
-use lib.ListN.{length, getD, take, drop}
+use lib.ListN.{length, getD}
 use lib.Dec.{leb, eqb}
 use Rattle.kinds.specs.Tree.{node}
-use Rattle.kinds.specs.Sheet.{kindAt, firstAt, secondAt, countAt, labelAt, isContainerKind, numbers, nextName, packed, header, below, read, trees, arity, nest, nests}
-
-pub both-left : (a b : Bool) → (a && b) ≡ true → a ≡ true
-both-left true b h = refl
-both-left false b h = h
-
-pub both-right : (a b : Bool) → (a && b) ≡ true → b ≡ true
-both-right true b h = h
-both-right false b h = absurd (false≢true h)
+use Rattle.kinds.specs.Sheet.{kindAt, firstAt, secondAt, countAt, labelAt, isContainerKind, numbers, nextName, packed, header, below, read, trees, arity, nest, nests, maxNodes, maxNames}
+use Rattle.kinds.proofs.TableLaws.{both, both-left, both-right}
 
 module _ (s w : List ℕ) where
   -- any fuel that suffices gives the same
@@ -53,7 +46,8 @@ module _ (w : List ℕ) where
   nest-fuel zero g (suc n) at p q = absurd (omega arith)
   nest-fuel (suc f) zero (suc n) at p q = absurd (omega arith)
   nest-fuel (suc f) (suc g) (suc n) at p q =
-      ap₂ (λ (a b : Bool). leb 1 (countAt w at) && (leb (countAt w at) (suc n) && (arity (kindAt w at) (countAt w at) (countAt w (at + 4)) && (a && b)))) (nest-fuel f g (below w n at) (at + 4) (omega arith) (omega arith)) (nest-fuel f g (n - below w n at) (at + 4 + 4 * below w n at) (omega arith) (omega arith))
+      ap₂ (λ (a b : Bool). leb 1 (countAt w at) && (leb (countAt w at) (suc n) && (arity (kindAt w at) (countAt w at) (countAt w (at + 4)) && (a && b))))
+      (nest-fuel f g (below w n at) (at + 4) (omega arith) (omega arith)) (nest-fuel f g (n - below w n at) (at + 4 + 4 * below w n at) (omega arith) (omega arith))
 
   pub nests-step : (n at : ℕ) → 1 ≤ countAt w at → countAt w at ≤ n → nests w n at ≡ (arity (kindAt w at) (countAt w at) (countAt w (at + 4)) && (nests w (countAt w at - 1) (at + 4) && nests w (n - countAt w at) (at + 4 * countAt w at)))
   unfolding nests nest
@@ -193,30 +187,27 @@ packed-none w (suc n) at s e p = absurd (omega arith)
 -- what a header says
 pub record Header (w : List ℕ) (m : ℕ) : Type 0 where
   pub some-nodes : 1 ≤ getD w 0 0
-  pub few-nodes : getD w 0 0 ≤ 2001
-  pub few-bytes : getD w 2 0 ≤ 2000
+  pub few-nodes : getD w 0 0 ≤ maxNodes
+  pub few-bytes : getD w 2 0 ≤ maxNames
   pub offset : getD w 1 0 ≡ 4
   pub used : getD w 3 0 ≡ 4 + 4 * getD w 0 0
   pub room : 4 + 4 * getD w 0 0 ≤ length w
   pub bytes : getD w 2 0 ≤ m
 
-and : (a b : Bool) → (a && b) ≡ true → (a ≡ true) × (b ≡ true)
-and a b h = (both-left a b h, both-right a b h)
-
 pub header-says : (w : List ℕ) (m : ℕ) → header w m ≡ true → Header w m
 unfolding header
 header-says w m h =
-    let a = and (leb 4 (length w)) _ h in
-    let b = and (leb 1 (getD w 0 0)) _ (a .1) in
-    let c = and (leb (getD w 0 0) 2001) _ (b .1) in
-    let d = and (eqb (getD w 1 0) 4) _ (c .1) in
-    let e = and (leb (getD w 2 0) 2000) _ (d .1) in
-    let f = and (eqb (getD w 3 0) (4 + 4 * getD w 0 0)) _ (e .1) in
-    let g = and (leb (getD w 3 0) (length w)) _ (f .1) in
+    let a = both (leb 4 (length w)) _ h in
+    let b = both (leb 1 (getD w 0 0)) _ (a .1) in
+    let c = both (leb (getD w 0 0) maxNodes) _ (b .1) in
+    let d = both (eqb (getD w 1 0) 4) _ (c .1) in
+    let e = both (leb (getD w 2 0) maxNames) _ (d .1) in
+    let f = both (eqb (getD w 3 0) (4 + 4 * getD w 0 0)) _ (e .1) in
+    let g = both (leb (getD w 3 0) (length w)) _ (f .1) in
     record {
       some-nodes = leb-true 1 (getD w 0 0) (b .0);
-      few-nodes = leb-true (getD w 0 0) 2001 (c .0);
-      few-bytes = leb-true (getD w 2 0) 2000 (e .0);
+      few-nodes = leb-true (getD w 0 0) maxNodes (c .0);
+      few-bytes = leb-true (getD w 2 0) maxNames (e .0);
       offset = eqb-true (getD w 1 0) 4 (d .0);
       used = eqb-true (getD w 3 0) (4 + 4 * getD w 0 0) (f .0);
       room = subst (λ (n : ℕ). n ≤ length w) (eqb-true (getD w 3 0) (4 + 4 * getD w 0 0) (f .0)) (leb-true (getD w 3 0) (length w) (g .0));

@@ -57,7 +57,3 @@ compareEncodings all v (node l cs ts) (node m ds us) =
 -- `equivalent_to` and `equivalent_to_box`: by levels.
 unfoldable pub equivalentTo : Trees → Trees → Bool
 equivalentTo t u = compareEncodings false Top t u
-
--- `==` between `Encoding` and `EncodingBox`: with all fields.
-unfoldable pub equal : Trees → Trees → Bool
-equal t u = compareEncodings true Top t u

@@ -13,4 +13,5 @@ pub mod Parse
 pub mod Expect
 pub mod Sound
 pub mod Sheet
+pub mod Kind
 pub mod Walk

@@ -1,7 +1,7 @@
 -- Primitives (helper.rs, `Primitive`): their kind words in a sheet (01, "The sheet"), codes, equivalents and sizes.
-use Prim.Native.Nat.{ℕ, zero, suc}
+use Prim.Native.Nat.{ℕ, _*_}
 use mathlib.Core.Bool.{Bool, _&&_, _||_}
-use mathlib.Core.List.{List, [], _∷_}
+use mathlib.Core.List.{List, [], _∷_, map}
 use mathlib.Core.Option.{Option, some, none}
 use lib.Dec.{eqb}
 use lib.ListN.{getD}
@@ -66,20 +66,55 @@ isObject p = among p (19 ∷ 20 ∷ 21 ∷ [])
 unfoldable pub equivalent : ℕ → ℕ → Bool
 equivalent p q = eqb p q || (isObject p && isObject q)
 
--- The sizes on 64-bit Apple ARM, in the order of `Primitive`; 0 for none.
-unfoldable pub primitiveSizes : List ℕ
-primitiveSizes =
-    1 ∷ 2 ∷ 4 ∷ 8 ∷ 8
-    ∷ 1 ∷ 2 ∷ 4 ∷ 8 ∷ 8
-    ∷ 4 ∷ 8 ∷ 8 ∷ 8 ∷ 16 ∷ 16
-    ∷ 1 ∷ 0 ∷ 8 ∷ 8 ∷ 8 ∷ 8 ∷ 8 ∷ 0 ∷ []
+-- The widths, in bytes, that machines have of their own.
+pub record Widths : Type 0 where
+  pub long : ℕ
+  pub pointer : ℕ
+  pub long-double : ℕ
 
-unfoldable pub positive : ℕ → Option ℕ
-positive zero = none
-positive (suc n) = some (suc n)
+-- Those of 64-bit Apple ARM.
+abbrev pub appleArm : Widths
+appleArm = record { long = 8; pointer = 8; long-double = 8 }
 
+-- Char and bool 1, short 2, int and float 4, long, long long, double, long double and pointers 8, complex twice its part; void and
+-- Unknown have none (01, "Sizes").
+abbrev pub width : Widths → Primitive → Option ℕ
+width w P.Char = some 1
+width w P.UChar = some 1
+width w P.Bool = some 1
+width w P.Short = some 2
+width w P.UShort = some 2
+width w P.Int = some 4
+width w P.UInt = some 4
+width w P.Float = some 4
+width w P.Long = some (w .long)
+width w P.ULong = some (w .long)
+width w P.LongLong = some 8
+width w P.ULongLong = some 8
+width w P.Double = some 8
+width w P.LongDouble = some (w .long-double)
+width w P.String = some (w .pointer)
+width w P.Object = some (w .pointer)
+width w P.Block = some (w .pointer)
+width w P.Class = some (w .pointer)
+width w P.Sel = some (w .pointer)
+width w P.FloatComplex = some (2 * 4)
+width w P.DoubleComplex = some (2 * 8)
+width w P.LongDoubleComplex = some (2 * w .long-double)
+width w P.Void = none
+width w P.Unknown = none
+
+-- The primitives in order.
+abbrev pub primitives : List Primitive
+primitives =
+    P.Char ∷ P.Short ∷ P.Int ∷ P.Long ∷ P.LongLong
+    ∷ P.UChar ∷ P.UShort ∷ P.UInt ∷ P.ULong ∷ P.ULongLong
+    ∷ P.Float ∷ P.Double ∷ P.LongDouble ∷ P.FloatComplex ∷ P.DoubleComplex ∷ P.LongDoubleComplex
+    ∷ P.Bool ∷ P.Void ∷ P.String ∷ P.Object ∷ P.Block ∷ P.Class ∷ P.Sel ∷ P.Unknown ∷ []
+
+-- The size of the primitive of kind `p`; other kinds have none.
 unfoldable pub primitiveSize : ℕ → Option ℕ
-primitiveSize p = positive (getD primitiveSizes p 0)
+primitiveSize p = getD (map (width appleArm) primitives) p none
 
 -- A size as the functions hand it out.
 abbrev pub sizeOf : PrimitiveSize → Option ℕ

@@ -4,84 +4,60 @@ use mathlib.Core.List.{List, [], _∷_}
 use mathlib.Core.Option.{Option, some, none}
 use Rattle.kinds.specs.declared.ContainerKind.{ContainerKind}
 use Rattle.kinds.specs.declared.ContainerKind.the-variants.{Struct, Union}
-use Rattle.kinds.specs.declared.ErrorKind.{ErrorKind}
 use Rattle.kinds.specs.declared.ErrorKind.the-variants as E
 use Rattle.kinds.specs.declared.Refusal.{Refusal}
 use Rattle.kinds.specs.declared.Refusal.the-variants as R
 
-abbrev pub errorNumber : ErrorKind → ℕ
-errorNumber E.UnexpectedEnd = 7
-errorNumber (E.Unknown b) = 8
-errorNumber (E.UnknownAfterComplex b) = 9
-errorNumber E.ExpectedInteger = 10
-errorNumber E.IntegerTooLarge = 11
-errorNumber E.WrongEndArray = 12
-errorNumber (E.WrongEndContainer k) = 13
-errorNumber (E.InvalidIdentifier k) = 14
-errorNumber E.NotAllConsumed = 15
+-- What a refusal is made of: its number, and the place, the byte and the container where it carries them.
+pub record Row : Type 0 where
+  pub its-number : ℕ
+  pub its-place : Option ℕ
+  pub its-byte : Option ℕ
+  pub its-container : Option ContainerKind
+
+abbrev pub plain : ℕ → Row
+plain n = record { its-number = n; its-place = none; its-byte = none; its-container = none }
+
+abbrev pub placed : ℕ → ℕ → Row
+placed n at = record { its-number = n; its-place = some at; its-byte = none; its-container = none }
+
+abbrev pub withByte : ℕ → ℕ → ℕ → Row
+withByte n at b = record { its-number = n; its-place = some at; its-byte = some b; its-container = none }
+
+abbrev pub within : ℕ → ℕ → ContainerKind → Row
+within n at k = record { its-number = n; its-place = some at; its-byte = none; its-container = some k }
+
+-- The table. A refusal more is its name in an enum, its row here and its row in the code's `words`.
+abbrev pub row : Refusal → Row
+row R.TextTooLong = plain 1
+row R.ListTooShort = plain 2
+row R.NotASheet = plain 3
+row R.BadName = plain 4
+row R.OutputTooShort = plain 5
+row R.SizeTooLarge = plain 6
+row (R.Parse E.UnexpectedEnd at) = placed 7 at
+row (R.Parse (E.Unknown b) at) = withByte 8 at b
+row (R.Parse (E.UnknownAfterComplex b) at) = withByte 9 at b
+row (R.Parse E.ExpectedInteger at) = placed 10 at
+row (R.Parse E.IntegerTooLarge at) = placed 11 at
+row (R.Parse E.WrongEndArray at) = placed 12 at
+row (R.Parse (E.WrongEndContainer k) at) = within 13 at k
+row (R.Parse (E.InvalidIdentifier k) at) = within 14 at k
+row (R.Parse E.NotAllConsumed at) = placed 15 at
 
 abbrev pub number : Refusal → ℕ
-number R.TextTooLong = 1
-number R.ListTooShort = 2
-number R.NotASheet = 3
-number R.BadName = 4
-number R.OutputTooShort = 5
-number R.SizeTooLarge = 6
-number (R.Parse e place) = errorNumber e
+number r = row r .its-number
 
--- 7 to 15 carry the place.
 abbrev pub place : Refusal → Option ℕ
-place R.TextTooLong = none
-place R.ListTooShort = none
-place R.NotASheet = none
-place R.BadName = none
-place R.OutputTooShort = none
-place R.SizeTooLarge = none
-place (R.Parse e at) = some at
+place r = row r .its-place
 
-abbrev pub errorByte : ErrorKind → Option ℕ
-errorByte E.UnexpectedEnd = none
-errorByte (E.Unknown b) = some b
-errorByte (E.UnknownAfterComplex b) = some b
-errorByte E.ExpectedInteger = none
-errorByte E.IntegerTooLarge = none
-errorByte E.WrongEndArray = none
-errorByte (E.WrongEndContainer k) = none
-errorByte (E.InvalidIdentifier k) = none
-errorByte E.NotAllConsumed = none
-
--- 8 and 9 carry the byte.
 abbrev pub refusedByte : Refusal → Option ℕ
-refusedByte R.TextTooLong = none
-refusedByte R.ListTooShort = none
-refusedByte R.NotASheet = none
-refusedByte R.BadName = none
-refusedByte R.OutputTooShort = none
-refusedByte R.SizeTooLarge = none
-refusedByte (R.Parse e at) = errorByte e
+refusedByte r = row r .its-byte
 
-abbrev pub errorContainer : ErrorKind → Option ContainerKind
-errorContainer E.UnexpectedEnd = none
-errorContainer (E.Unknown b) = none
-errorContainer (E.UnknownAfterComplex b) = none
-errorContainer E.ExpectedInteger = none
-errorContainer E.IntegerTooLarge = none
-errorContainer E.WrongEndArray = none
-errorContainer (E.WrongEndContainer k) = some k
-errorContainer (E.InvalidIdentifier k) = some k
-errorContainer E.NotAllConsumed = none
-
--- 13 and 14 say struct or union.
 abbrev pub refusedContainer : Refusal → Option ContainerKind
-refusedContainer R.TextTooLong = none
-refusedContainer R.ListTooShort = none
-refusedContainer R.NotASheet = none
-refusedContainer R.BadName = none
-refusedContainer R.OutputTooShort = none
-refusedContainer R.SizeTooLarge = none
-refusedContainer (R.Parse e at) = errorContainer e
+refusedContainer r = row r .its-container
 
--- ---- The values as plain numbers, 0 where a refusal carries none; a container by its kind word.
+-- ---- The same as plain numbers, 0 where a refusal carries none; a container by its kind word.
 
 abbrev pub orZero : Option ℕ → ℕ
 orZero none = 0
@@ -95,3 +71,7 @@ containerWord (some Union) = 30
 -- Place, byte and container.
 abbrev pub values : Refusal → List ℕ
 values r = orZero (place r) ∷ orZero (refusedByte r) ∷ containerWord (refusedContainer r) ∷ []
+
+-- The number and these.
+abbrev pub words : Refusal → List ℕ
+words r = number r ∷ values r

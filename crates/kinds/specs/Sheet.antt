@@ -2,11 +2,9 @@
 use Prim.Native.Nat.{ℕ, zero, suc, _+_, _-_, _*_, _≤_, min}
 use mathlib.Core.Bool.{Bool, true, false, cond, _&&_, _||_}
 use mathlib.Core.List.{List, [], _∷_, _++_}
-use mathlib.Core.Option.{Option, some, none}
 use mathlib.Core.Path.{_≡_}
 use lib.Dec.{leb, eqb}
 use lib.ListN.{length, getD, take, drop}
-use Rattle.kinds.specs.Name.{verifyName}
 use Rattle.kinds.specs.Parse.{maxU64, maxU8}
 use Rattle.kinds.specs.Sound.{valid}
 use Rattle.kinds.specs.Tree as T
@@ -58,6 +56,10 @@ headerOf t = count t ∷ headerWords ∷ length (namesOf t) ∷ (headerWords + 4
 
 unfoldable pub sheetOf : Trees → List ℕ
 sheetOf t = headerOf t ++ nodes t 0
+
+-- The most bytes of a text, nodes of a tree and name bytes of a tree.
+abbrev pub maxText : ℕ
+maxText = 2000
 
 abbrev pub maxNodes : ℕ
 maxNodes = 2001
@@ -188,7 +190,3 @@ trees names w n at = read names w n n at
 
 unfoldable pub treeOf : List ℕ → List ℕ → Trees
 treeOf words names = trees names (nodeWords words) (getD words 0 0) 0
-
--- The tree of a sheet, or none where the lists begin with no sheet.
-unfoldable pub decode : List ℕ → List ℕ → Option Trees
-decode words names = cond (isSheet words names) (some (treeOf words names)) none

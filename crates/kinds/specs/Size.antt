@@ -1,19 +1,24 @@
 -- `size` (helper.rs), in numbers of any length. `none` is no size.
-use Prim.Native.Nat.{ℕ, _+_, _*_, max}
+use Prim.Native.Nat.{ℕ, zero, suc, _+_, _*_, _/_, max}
 use mathlib.Core.Bool.{cond}
 use mathlib.Core.List.{List, [], _∷_}
 use mathlib.Core.Option.{Option, some, none}
 use lib.Dec.{leb}
 use Rattle.kinds.specs.Level.{showsFields}
-use Rattle.kinds.specs.Primitive.{primitiveSize}
+use Rattle.kinds.specs.Primitive.{appleArm, primitiveSize}
 use Rattle.kinds.specs.Tree as T
 use Rattle.kinds.specs.Tree.{Label, Trees, end, node, primitive, bitField, typedBitField, pointer, atomic, array, struct, union, inside}
 use Rattle.kinds.specs.declared.NestingLevel.{NestingLevel}
 use Rattle.kinds.specs.declared.NestingLevel.the-variants.{Top}
 
--- The bits of a bitfield raised to a power of two, at least 8, in bytes; a bitfield has at most 255.
+-- `n` raised to a power of two, at least `p`, by at most `fuel` doublings.
+abbrev pub raised : ℕ → ℕ → ℕ → ℕ
+raised zero n p = p
+raised (suc fuel) n p = cond (leb n p) p (raised fuel n (2 * p))
+
+-- The bits of a bitfield raised to a power of two, at least 8, divided by 8; it has at most 255, so the last power is 256.
 unfoldable pub bitBytes : ℕ → ℕ
-bitBytes n = cond (leb n 8) 1 (cond (leb n 16) 2 (cond (leb n 32) 4 (cond (leb n 64) 8 (cond (leb n 128) 16 32))))
+bitBytes n = raised 5 n 8 / 8
 
 unfoldable pub plus : Option ℕ → Option ℕ → Option ℕ
 plus none b = none
@@ -53,7 +58,7 @@ unfoldable pub nodeSize : Label → NestingLevel → List (Option ℕ) → Optio
 nodeSize (primitive p) v xs = primitiveSize p
 nodeSize (bitField n) v xs = some (bitBytes n)
 nodeSize (typedBitField o n) v xs = some (max (bitBytes n) (orZero (only xs)))
-nodeSize pointer v xs = some 8
+nodeSize pointer v xs = some (appleArm .pointer)
 nodeSize atomic v xs = only xs
 nodeSize (array n) v xs = times n (only xs)
 nodeSize (struct s) v xs = cond (showsFields v) (sum xs) none

@@ -1,12 +1,46 @@
 // The types that helper.rs and parse.rs of the crate share with everything above them.
 ghost use mathlib.Core.Path.{_≡_};
+ghost use Rattle.kinds.specs.Kind.{containerOf, insideKind, childrenLevel};
 ghost use Rattle.kinds.specs.Level.{indirection, containerIncludeFields};
 ghost use Rattle.kinds.specs.Name.{isNameByte, verifyName};
 ghost use Rattle.kinds.specs.Primitive.{kindOf, codeBytes, code, isObject, equivalent, sizeOf, primitiveSize};
 ghost use Rattle.kinds.specs.Container.{startByte, endByte, prefixByte};
 ghost use Rattle.kinds.specs.Sheet.{isContainerKind};
-ghost use Rattle.kinds.specs.Refusal.{errorNumber, errorByte, errorContainer, number, orZero, containerWord, values};
+ghost use Rattle.kinds.specs.Refusal.{number, containerWord, values, words};
 ghost use mathlib.Core.Option.{some};
+
+// The kind words of a sheet from 24 on; below are the primitives, of which there are so many.
+pub const PRIMITIVES: u64 = 24;
+
+pub const BIT_FIELD: u64 = 24;
+
+pub const TYPED_BIT_FIELD: u64 = 25;
+
+pub const POINTER: u64 = 26;
+
+pub const ATOMIC: u64 = 27;
+
+pub const ARRAY: u64 = 28;
+
+pub const STRUCT: u64 = 29;
+
+pub const UNION: u64 = 30;
+
+pub const NONE: u64 = 31;
+
+// The kind words of the one group of primitives that are compared as equals.
+const OBJECT: u64 = 19;
+
+const BLOCK: u64 = 20;
+
+const CLASS: u64 = 21;
+
+// The most bytes of a text, nodes of a sheet and name bytes of a sheet.
+pub const MAX_TEXT: usize = 2000;
+
+pub const MAX_NODES: u64 = 2001;
+
+pub const MAX_NAMES: u64 = 2000;
 
 pub enum NestingLevel {
     Top,
@@ -144,6 +178,32 @@ impl NestingLevel {
             NestingLevel::Bottom => Fields::Dropped,
         }
     }
+
+    // The level of the children of a node of this kind.
+    pub fn inside(self, kind: u64) -> Self
+        ensures { λ r. ⌜ r ≡ insideKind kind self ⌝ }
+    {
+        if kind == POINTER {
+            return self.indirection(IndirectionKind::Pointer);
+        }
+        if kind == ATOMIC {
+            return self.indirection(IndirectionKind::Atomic);
+        }
+        if is_container(kind) {
+            return NestingLevel::Within;
+        }
+        self
+    }
+
+    // The same, or that a node of this kind does not show its children.
+    pub fn children(self, kind: u64) -> Fields
+        ensures { λ r. ⌜ r ≡ childrenLevel kind self ⌝ }
+    {
+        if is_container(kind) {
+            return self.container_include_fields();
+        }
+        Fields::Included(self.inside(kind))
+    }
 }
 
 impl IndirectionKind {
@@ -183,94 +243,63 @@ impl ContainerKind {
         ensures { λ r. ⌜ r ≡ containerWord (some self) ⌝ }
     {
         match self {
-            ContainerKind::Struct => 29,
-            ContainerKind::Union => 30,
+            ContainerKind::Struct => STRUCT,
+            ContainerKind::Union => UNION,
         }
     }
 }
 
+// The table of refusals, as in specs/Refusal.antt: number, place, byte and container, 0 where there is none. A refusal more is its
+// name in an enum, a row here and a row there.
 impl ErrorKind {
-    // Document 01's number.
-    pub fn number(self) -> u64
-        ensures { λ r. ⌜ r ≡ errorNumber self ⌝ }
+    // The row of what is refused by this at a place.
+    pub fn words(self, at: usize) -> [u64; 4]
+        ensures { λ r. ⌜ r ≡ words (Refusal.Parse self at) ⌝ }
     {
+        let place = at as u64;
         match self {
-            ErrorKind::UnexpectedEnd => 7,
-            ErrorKind::Unknown(_) => 8,
-            ErrorKind::UnknownAfterComplex(_) => 9,
-            ErrorKind::ExpectedInteger => 10,
-            ErrorKind::IntegerTooLarge => 11,
-            ErrorKind::WrongEndArray => 12,
-            ErrorKind::WrongEndContainer(_) => 13,
-            ErrorKind::InvalidIdentifier(_) => 14,
-            ErrorKind::NotAllConsumed => 15,
-        }
-    }
-
-    // The byte that 8 and 9 carry, else 0.
-    pub fn byte(self) -> u64
-        ensures { λ r. ⌜ r ≡ orZero (errorByte self) ⌝ }
-    {
-        match self {
-            ErrorKind::UnexpectedEnd => 0,
-            ErrorKind::Unknown(b) => wide(b),
-            ErrorKind::UnknownAfterComplex(b) => wide(b),
-            ErrorKind::ExpectedInteger => 0,
-            ErrorKind::IntegerTooLarge => 0,
-            ErrorKind::WrongEndArray => 0,
-            ErrorKind::WrongEndContainer(_) => 0,
-            ErrorKind::InvalidIdentifier(_) => 0,
-            ErrorKind::NotAllConsumed => 0,
-        }
-    }
-
-    // The kind word of the container that 13 and 14 name, else 0.
-    pub fn container(self) -> u64
-        ensures { λ r. ⌜ r ≡ containerWord (errorContainer self) ⌝ }
-    {
-        match self {
-            ErrorKind::UnexpectedEnd => 0,
-            ErrorKind::Unknown(_) => 0,
-            ErrorKind::UnknownAfterComplex(_) => 0,
-            ErrorKind::ExpectedInteger => 0,
-            ErrorKind::IntegerTooLarge => 0,
-            ErrorKind::WrongEndArray => 0,
-            ErrorKind::WrongEndContainer(k) => k.kind(),
-            ErrorKind::InvalidIdentifier(k) => k.kind(),
-            ErrorKind::NotAllConsumed => 0,
+            ErrorKind::UnexpectedEnd => [7, place, 0, 0],
+            ErrorKind::Unknown(b) => [8, place, wide(b), 0],
+            ErrorKind::UnknownAfterComplex(b) => [9, place, wide(b), 0],
+            ErrorKind::ExpectedInteger => [10, place, 0, 0],
+            ErrorKind::IntegerTooLarge => [11, place, 0, 0],
+            ErrorKind::WrongEndArray => [12, place, 0, 0],
+            ErrorKind::WrongEndContainer(k) => [13, place, 0, k.kind()],
+            ErrorKind::InvalidIdentifier(k) => [14, place, 0, k.kind()],
+            ErrorKind::NotAllConsumed => [15, place, 0, 0],
         }
     }
 }
 
 impl Refusal {
+    pub fn words(self) -> [u64; 4]
+        ensures { λ r. ⌜ r ≡ words self ⌝ }
+    {
+        match self {
+            Refusal::TextTooLong => [1, 0, 0, 0],
+            Refusal::ListTooShort => [2, 0, 0, 0],
+            Refusal::NotASheet => [3, 0, 0, 0],
+            Refusal::BadName => [4, 0, 0, 0],
+            Refusal::OutputTooShort => [5, 0, 0, 0],
+            Refusal::SizeTooLarge => [6, 0, 0, 0],
+            Refusal::Parse(e, at) => e.words(at),
+        }
+    }
+
     // Document 01's number.
     pub fn number(self) -> u64
         ensures { λ r. ⌜ r ≡ number self ⌝ }
     {
-        match self {
-            Refusal::TextTooLong => 1,
-            Refusal::ListTooShort => 2,
-            Refusal::NotASheet => 3,
-            Refusal::BadName => 4,
-            Refusal::OutputTooShort => 5,
-            Refusal::SizeTooLarge => 6,
-            Refusal::Parse(e, _) => e.number(),
-        }
+        let row = self.words();
+        row[0]
     }
 
     // Place, byte and container, 0 where the refusal carries none.
     pub fn values(self) -> [u64; 3]
         ensures { λ r. ⌜ r ≡ values self ⌝ }
     {
-        match self {
-            Refusal::TextTooLong => [0, 0, 0],
-            Refusal::ListTooShort => [0, 0, 0],
-            Refusal::NotASheet => [0, 0, 0],
-            Refusal::BadName => [0, 0, 0],
-            Refusal::OutputTooShort => [0, 0, 0],
-            Refusal::SizeTooLarge => [0, 0, 0],
-            Refusal::Parse(e, at) => [at as u64, e.byte(), e.container()],
-        }
+        let row = self.words();
+        [row[1], row[2], row[3]]
     }
 }
 
@@ -336,7 +365,7 @@ const SECOND_BYTES: [u8; 24] = *b"             fdD    ?   ";
 pub fn primitive_code(kind: u64) -> Code
     ensures { λ r. ⌜ codeBytes r ≡ code kind ⌝ }
 {
-    if 24 <= kind {
+    if PRIMITIVES <= kind {
         return Code::Empty;
     }
     let k = kind as usize;
@@ -362,7 +391,7 @@ fn wide(x: u8) -> u64
 pub fn primitive_size(kind: u64) -> PrimitiveSize
     ensures { λ r. ⌜ sizeOf r ≡ primitiveSize kind ⌝ }
 {
-    if 24 <= kind {
+    if PRIMITIVES <= kind {
         return PrimitiveSize::Nothing; // beyond the table
     }
     let k = kind as usize;
@@ -377,13 +406,13 @@ pub fn primitive_size(kind: u64) -> PrimitiveSize
 pub fn is_object(kind: u64) -> bool
     ensures { λ r. ⌜ r ≡ isObject kind ⌝ }
 {
-    if kind == 19 {
+    if kind == OBJECT {
         return true;
     }
-    if kind == 20 {
+    if kind == BLOCK {
         return true;
     }
-    kind == 21
+    kind == CLASS
 }
 
 // `Primitive::equivalents` on kind words; a kind that is no primitive is equivalent to itself alone.
@@ -403,10 +432,20 @@ pub fn equivalent_kinds(p: u64, q: u64) -> bool
 pub fn is_container(kind: u64) -> bool
     ensures { λ r. ⌜ r ≡ isContainerKind kind ⌝ }
 {
-    if kind == 29 {
+    if kind == STRUCT {
         return true;
     }
-    kind == 30
+    kind == UNION
+}
+
+// Which of the two a container's kind word names; any other kind word goes with the union's.
+pub fn container_of(kind: u64) -> ContainerKind
+    ensures { λ r. ⌜ r ≡ containerOf kind ⌝ }
+{
+    if kind == STRUCT {
+        return ContainerKind::Struct;
+    }
+    ContainerKind::Union
 }
 
 // An ASCII letter, digit or underscore.

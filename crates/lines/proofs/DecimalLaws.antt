@@ -64,7 +64,8 @@ pub record Scan (list before words : List ℕ) (i n v : ℕ) : Type 0 where
 pub scan-start : (list words : List ℕ) → Scan list words words 0 0 0
 scan-start list words = record { fills = refl; good = refl; count = omega arith; within = omega arith; few = omega arith; same = refl }
 
-moved : {list before words words′ : List ℕ} {i m w m′ w′ : ℕ} → m ≡ m′ → w ≡ w′ → words ≡ words′ → Scan list before words′ i m′ w′ → Scan list before words i m w
+moved : {list before words words′ : List ℕ} {i m w m′ w′ : ℕ} → m ≡ m′ → w ≡ w′ → words ≡ words′ → Scan list before words′ i m′ w′
+    → Scan list before words i m w
 moved {list} {before} {words} {words′} {i} {m} {w} {m′} {w′} p q o s =
     subst (λ (k : ℕ). Scan list before words i k w) (sym p)
     (subst (λ (k : ℕ). Scan list before words i m′ k) (sym q)
@@ -89,7 +90,8 @@ module _ {list before words : List ℕ} {i n v : ℕ} where
         same = length-set words n v ∙ r .same;
       }
 
-  on-digit : (x : ℕ) → i < length list → eqb (getD list i 0) 44 ≡ false → grown v (getD list i 0) ≡ G.Value x → Scan list before words i n v → Scan list before words (i + 1) n x
+  on-digit : (x : ℕ) → i < length list → eqb (getD list i 0) 44 ≡ false → grown v (getD list i 0) ≡ G.Value x → Scan list before words i n v
+      → Scan list before words (i + 1) n x
   unfolding decimals isDecimals
   on-digit x h e g r =
       let u = unread list i h in
@@ -107,11 +109,13 @@ module _ {list before words : List ℕ} {i n v : ℕ} where
         same = r .same;
       }
 
-  pub scan-more : (m w : ℕ) (words′ : List ℕ) → i < length list → Scan list before words i n v → S.To m w ≡ stepped n v (getD list i 0) → words′ ≡ stepWords words n v (getD list i 0) → Scan list before words′ (i + 1) m w
+  pub scan-more : (m w : ℕ) (words′ : List ℕ) → i < length list → Scan list before words i n v → S.To m w ≡ stepped n v (getD list i 0) → words′
+      ≡ stepWords words n v (getD list i 0) → Scan list before words′ (i + 1) m w
   unfolding stepped stepGrown stepWords
   scan-more m w words′ h r e o = go (eqb (getD list i 0) 44) refl
     where
-      digit : (g : Grown) → eqb (getD list i 0) 44 ≡ false → grown v (getD list i 0) ≡ g → S.To m w ≡ stepGrown n g → words′ ≡ words → Scan list before words′ (i + 1) m w
+      digit : (g : Grown) → eqb (getD list i 0) 44 ≡ false → grown v (getD list i 0) ≡ g → S.To m w ≡ stepGrown n g → words′ ≡ words
+          → Scan list before words′ (i + 1) m w
       digit (G.Value x) c q k z = let p : m ≡ n = cc in let y : w ≡ x = cc in moved p y z (on-digit x h c q r)
       digit G.Bad c q k z = let f : _≡_ {A = ℕ} 0 1 = cc in absurd (omega arith)
 
@@ -123,11 +127,13 @@ module _ {list before words : List ℕ} {i n v : ℕ} where
           moved p q (o ∙ rw c) (on-comma h c r)
       go false c = digit (grown v (getD list i 0)) c refl (e ∙ rw c) (o ∙ rw c)
 
-  pub scan-bad : (room : ℕ) (words′ : List ℕ) → i < length list → Scan list before words i n v → S.Bad ≡ stepped n v (getD list i 0) → words′ ≡ stepWords words n v (getD list i 0) → (Bad ≡ decimalsAnswer list room) × (words′ ≡ sets before 0 (decimals 0 list))
+  pub scan-bad : (room : ℕ) (words′ : List ℕ) → i < length list → Scan list before words i n v → S.Bad ≡ stepped n v (getD list i 0) → words′
+      ≡ stepWords words n v (getD list i 0) → (Bad ≡ decimalsAnswer list room) × (words′ ≡ sets before 0 (decimals 0 list))
   unfolding stepped stepGrown stepWords decimals isDecimals decimalsAnswer
   scan-bad room words′ h r e o = go (eqb (getD list i 0) 44) refl
     where
-      digit : (g : Grown) → eqb (getD list i 0) 44 ≡ false → grown v (getD list i 0) ≡ g → S.Bad ≡ stepGrown n g → words′ ≡ words → (Bad ≡ decimalsAnswer list room) × (words′ ≡ sets before 0 (decimals 0 list))
+      digit : (g : Grown) → eqb (getD list i 0) 44 ≡ false → grown v (getD list i 0) ≡ g → S.Bad ≡ stepGrown n g → words′ ≡ words
+          → (Bad ≡ decimalsAnswer list room) × (words′ ≡ sets before 0 (decimals 0 list))
       digit (G.Value x) c q k z = let f : _≡_ {A = ℕ} 0 1 = cc in absurd (omega arith)
       digit G.Bad c q k z =
           let u = unread list i h in
@@ -139,7 +145,8 @@ module _ {list before words : List ℕ} {i n v : ℕ} where
       go true c = let k : S.Bad ≡ S.To (n + 1) 0 = e ∙ rw c in let f : _≡_ {A = ℕ} 0 1 = cc in absurd (omega arith)
       go false c = digit (grown v (getD list i 0)) c refl (e ∙ rw c) (o ∙ rw c)
 
-  last : length list ≤ i → Scan list before words i n v → (isDecimals 0 list ≡ true) × ((length (decimals 0 list) ≡ n + 1) × (set words n v ≡ sets before 0 (decimals 0 list)))
+  last : length list ≤ i → Scan list before words i n v → (isDecimals 0 list ≡ true) ×
+      ((length (decimals 0 list) ≡ n + 1) × (set words n v ≡ sets before 0 (decimals 0 list)))
   unfolding decimals isDecimals
   last h r =
       let u = unread-end list i h in
@@ -148,14 +155,16 @@ module _ {list before words : List ℕ} {i n v : ℕ} where
       let c = r .count in
       (sym (r .good) ∙ ap (isDecimals v) u, (omega arith, sym (ap (sets words n) d) ∙ r .fills))
 
-  pub scan-short : (words′ : List ℕ) → length list ≤ i → Scan list before words i n v → words′ ≡ set words n v → length words′ ≤ n → (Bad ≡ decimalsAnswer list (length before)) × (words′ ≡ sets before 0 (decimals 0 list))
+  pub scan-short : (words′ : List ℕ) → length list ≤ i → Scan list before words i n v → words′ ≡ set words n v → length words′ ≤ n
+      → (Bad ≡ decimalsAnswer list (length before)) × (words′ ≡ sets before 0 (decimals 0 list))
   unfolding decimalsAnswer
   scan-short words′ h r o k =
       let w = last h r in
       let j : length before < length (decimals 0 list) = let s = r .same in let c = w .1 .0 in let l = ap length o ∙ length-set words n v in omega arith in
       (sym (rw (w .0, lt-leb (length (decimals 0 list)) (length before) j)), o ∙ w .1 .1)
 
-  pub scan-items : (words′ : List ℕ) → length list ≤ i → Scan list before words i n v → words′ ≡ set words n v → n < length words′ → (Items (n + 1) ≡ decimalsAnswer list (length before)) × (words′ ≡ sets before 0 (decimals 0 list))
+  pub scan-items : (words′ : List ℕ) → length list ≤ i → Scan list before words i n v → words′ ≡ set words n v → n < length words′
+      → (Items (n + 1) ≡ decimalsAnswer list (length before)) × (words′ ≡ sets before 0 (decimals 0 list))
   unfolding decimalsAnswer
   scan-items words′ h r o k =
       let w = last h r in

@@ -32,7 +32,8 @@ digit-letter b h k = let j : 48 ≤ b = omega arith in let i : 57 < b = omega ar
 
 pub digit-high : (b : ℕ) → 102 < b → hexDigit b ≡ 16
 unfolding hexDigit isDigit
-digit-high b h = let j : 48 ≤ b = omega arith in let i : 57 < b = omega arith in let k : 97 ≤ b = omega arith in rw (le-leb 48 b j, lt-leb b 57 i, le-leb 97 b k, lt-leb b 102 h)
+digit-high b h = let j : 48 ≤ b = omega arith in let i : 57 < b = omega arith in let k : 97 ≤ b = omega arith
+    in rw (le-leb 48 b j, lt-leb b 57 i, le-leb 97 b k, lt-leb b 102 h)
 
 pub glyph-number : (d : ℕ) → d < 10 → 48 + d ≡ hexGlyph d
 unfolding hexGlyph
@@ -60,7 +61,8 @@ pub read-start : (hex out : List ℕ) → Read hex out out 0 0
 read-start hex out = record { fills = refl; good = refl; count = omega arith; within = omega arith; few = omega arith; same = refl }
 
 two : (hex : List ℕ) (i : ℕ) → i + 1 < length hex → drop i hex ≡ getD hex i 0 ∷ getD hex (i + 1) 0 ∷ drop (i + 2) hex
-two hex i h = unread hex i (omega arith) ∙ ap (λ (t : List ℕ). getD hex i 0 ∷ t) (unread hex (i + 1) h ∙ ap (λ (k : ℕ). getD hex (i + 1) 0 ∷ drop k hex) (next i))
+two hex i h = unread hex i (omega arith) ∙ ap (λ (t : List ℕ). getD hex i 0 ∷ t)
+    (unread hex (i + 1) h ∙ ap (λ (k : ℕ). getD hex (i + 1) 0 ∷ drop k hex) (next i))
   where
     next : (j : ℕ) → j + 1 + 1 ≡ j + 2
     next j = omega arith
@@ -102,7 +104,8 @@ module _ (hex : List ℕ) (i : ℕ) where
   ended h = (ap hexBytes (unread-end hex i h), ap isHex (unread-end hex i h))
 
 module _ {hex before out : List ℕ} {i n : ℕ} where
-  pub read-more : (x y : ℕ) → i + 1 < length hex → Read hex before out i n → x ≡ hexDigit (getD hex i 0) → y ≡ hexDigit (getD hex (i + 1) 0) → x < 16 → y < 16 → (out′ : List ℕ) → out′ ≡ set out n (16 * x + y) → Read hex before out′ (i + 2) (n + 1)
+  pub read-more : (x y : ℕ) → i + 1 < length hex → Read hex before out i n → x ≡ hexDigit (getD hex i 0) → y ≡ hexDigit (getD hex (i + 1) 0) → x < 16 → y < 16
+      → (out′ : List ℕ) → out′ ≡ set out n (16 * x + y) → Read hex before out′ (i + 2) (n + 1)
   unfolding hexBytes isHex
   read-more x y h r p q xs ys out′ o =
       let t = two hex i h in
@@ -141,7 +144,8 @@ module _ {hex before out : List ℕ} {i n : ℕ} where
       let j : length before < length (hexBytes hex) = let s = r .same in let c = w .1 .0 in omega arith in
       (sym (rw (w .0, lt-leb (length (hexBytes hex)) (length before) j)), w .1 .1)
 
-  pub answer-items : length hex ≤ i → Read hex before out i n → n ≤ length out → (Items n ≡ hexAnswer hex (length before)) × (out ≡ sets before 0 (hexBytes hex))
+  pub answer-items : length hex ≤ i → Read hex before out i n → n ≤ length out → (Items n ≡ hexAnswer hex (length before)) ×
+      (out ≡ sets before 0 (hexBytes hex))
   unfolding hexAnswer
   answer-items h r k =
       let w = whole h r in

@@ -31,7 +31,8 @@ sets-append (x ∷ xs) ys o a = go (ltb a (length o)) refl (sets-append xs ys (s
     m : List ℕ
     m = sets (set o a x) (suc a) xs
 
-    go : (t : Bool) → ltb a (length o) ≡ t → sets m (suc a + min (length xs) (length (set o a x) - suc a)) ys ≡ sets (set o a x) (suc a) (xs ++ ys) → sets m (a + min (suc (length xs)) (length o - a)) ys ≡ sets (set o a x) (suc a) (xs ++ ys)
+    go : (t : Bool) → ltb a (length o) ≡ t → sets m (suc a + min (length xs) (length (set o a x) - suc a)) ys ≡ sets (set o a x) (suc a) (xs ++ ys)
+        → sets m (a + min (suc (length xs)) (length o - a)) ys ≡ sets (set o a x) (suc a) (xs ++ ys)
     go true e rec =
         let h = ltb-true a (length o) e in
         let l = length-set o a x in
@@ -74,7 +75,8 @@ ToPut o a all m p rest = (e : List ℕ) (r : ℕ) → Put m p rest e r → Put o
 pub to-put : (o : List ℕ) (a : ℕ) (xs : List ℕ) → ToPut o a xs o a xs
 to-put o a xs e r w = w
 
-pub then-put : {o all m m′ : List ℕ} {a p p′ : ℕ} {rest : List ℕ} (xs next : List ℕ) → rest ≡ xs ++ next → ToPut o a all m p rest → Put m p xs m′ p′ → ToPut o a all m′ p′ next
+pub then-put : {o all m m′ : List ℕ} {a p p′ : ℕ} {rest : List ℕ} (xs next : List ℕ) → rest ≡ xs ++ next → ToPut o a all m p rest → Put m p xs m′ p′
+    → ToPut o a all m′ p′ next
 then-put xs next q h v e r w = h e r (put-same (sym q) (put-append xs next v w))
 
 pub all-put : {o all m : List ℕ} {a p : ℕ} {rest : List ℕ} → rest ≡ [] → ToPut o a all m p rest → Put o a all m p
@@ -100,10 +102,12 @@ unfolding wordsText
 words-some [] h = absurd (omega arith)
 words-some (w ∷ s) h = refl
 
-pub sheet-is : (words names used bytes : List ℕ) → used ≡ take (getD words 3 0) words → bytes ≡ take (getD words 2 0) names → (115 ∷ 58 ∷ []) ++ (wordsText used ++ ((58 ∷ []) ++ each hexPair bytes)) ≡ sheetText words names
+pub sheet-is : (words names used bytes : List ℕ) → used ≡ take (getD words 3 0) words → bytes ≡ take (getD words 2 0) names
+    → (115 ∷ 58 ∷ []) ++ (wordsText used ++ ((58 ∷ []) ++ each hexPair bytes)) ≡ sheetText words names
 unfolding sheetText
 sheet-is words names used bytes p q = rw (p, q)
 
-pub refusal-is : (why : Refusal) (n : ℕ) (v : List ℕ) → n ≡ number why → v ≡ values why → decimal n ++ ((32 ∷ decimal (getD v 0 0)) ++ ((32 ∷ decimal (getD v 1 0)) ++ ((32 ∷ decimal (getD v 2 0)) ++ []))) ≡ refusalText why
+pub refusal-is : (why : Refusal) (n : ℕ) (v : List ℕ) → n ≡ number why → v ≡ values why
+    → decimal n ++ ((32 ∷ decimal (getD v 0 0)) ++ ((32 ∷ decimal (getD v 1 0)) ++ ((32 ∷ decimal (getD v 2 0)) ++ []))) ≡ refusalText why
 unfolding refusalText each spaceNumber
 refusal-is why n v p q = rw (p, q)

@@ -2,11 +2,12 @@
 ghost use mathlib.Core.Path.{_≡_};
 ghost use Prim.Native.Nat.{_+_, _≤_, _<_};
 ghost use mathlib.Core.List.{[], _∷_};
-ghost use lib.ListN.{length, take, drop, set, getD};
+ghost use lib.ListN.{length, take, set, getD};
 ghost use lib.Seq.{sets};
 ghost use Rattle.kinds.specs.Parse.{maxU64};
 ghost use Rattle.kinds.specs.Print.{decimal};
-ghost use Rattle.lines.specs.Field.{until};
+ghost use Rattle.parser.specs.Place.{lent, remainingAt};
+ghost use Rattle.lines.specs.Field.{until, frontOf};
 ghost use Rattle.lines.specs.Hex.{hexDigit, hexBytes, hexAnswer, hexGlyph, hexPair};
 ghost use Rattle.lines.specs.Decimal.{grown, stepped, stepWords, decimals, decimalsAnswer};
 ghost use Rattle.lines.specs.Put.{Put, each, wordsText, sheetText, refusalText};
@@ -52,7 +53,7 @@ fn place_of(s: &[u8], b: u8) -> usize
 
 // What stands before the first `b`; all, where there is none.
 pub fn field(s: &[u8], b: u8) -> &[u8]
-    ensures { λ r. ⌜ now r ≡ take (until b (now (s .entry))) (now (s .entry)) ⌝ }
+    ensures { λ r. ⌜ lent r ≡ frontOf (s .entry) (until b (now (s .entry))) ⌝ }
 {
     let n = place_of(s, b);
     &s[..n]
@@ -60,7 +61,7 @@ pub fn field(s: &[u8], b: u8) -> &[u8]
 
 // What stands after the first `b`; nothing, where there is none.
 pub fn rest(s: &[u8], b: u8) -> &[u8]
-    ensures { λ r. ⌜ now r ≡ drop (until b (now (s .entry)) + 1) (now (s .entry)) ⌝ }
+    ensures { λ r. ⌜ lent r ≡ remainingAt (s .entry) (until b (now (s .entry)) + 1) ⌝ }
 {
     let n = place_of(s, b);
     if n < s.len() {
@@ -72,7 +73,7 @@ pub fn rest(s: &[u8], b: u8) -> &[u8]
 
 // The first `count` bytes, or all where there are fewer.
 pub fn front(s: &[u8], count: usize) -> &[u8]
-    ensures { λ r. ⌜ now r ≡ take count (now (s .entry)) ⌝ }
+    ensures { λ r. ⌜ lent r ≡ frontOf (s .entry) count ⌝ }
 {
     if count <= s.len() {
         return &s[..count];

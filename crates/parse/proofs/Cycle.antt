@@ -13,8 +13,8 @@ use Rattle.kinds.specs.Parse.{start, begin, encoding, refused, parseInner, pars
 use Rattle.kinds.specs.Sheet.{nodes, namesOf, first, second}
 use Rattle.kinds.specs.Tree.{Label, Trees, end, node, count, pointer, atomic, array, none, kind, name}
 use Rattle.parse.specs.Agree.{Lists, lists, Bound, ParsedIs, Simple, Reads, Ready, FoundBound, FoundIs, Frame, Kept, ItemsIs, ItemsReads, ItemsFound, ItemsBound, NamedIs, NameFound, ItemsWithin}
-use Rattle.parse.specs.EncodingBox.{kindWord}
-use Rattle.parse.specs.Out.{After, AfterItems, closed, pickList, pickParsed, pickItems, putNode, noneUnder, holdOut, holdWords, itemOut, itemWords, containOut, containWords, endOut}
+use Rattle.parse.specs.Answer.{kindWord}
+use Rattle.parse.specs.Out.{After, AfterItems, pickList, pickParsed, pickItems, putNode, noneUnder, holdOut, holdWords, itemOut, itemWords, containOut, containWords, endOut}
 use Rattle.parse.specs.Room.{slack, closes}
 use Rattle.kinds.specs.declared.ContainerKind.{ContainerKind}
 use Rattle.kinds.specs.declared.ContainerKind.the-variants.{Struct, Union}
@@ -28,7 +28,8 @@ use Rattle.kinds.specs.declared.ErrorKind.the-variants.{Unknown, WrongEndArray,
 use native.Mathlib.Decide.{decLt}
 use borrow.Author.Tests.{eq-eqb}
 use Rattle.kinds.proofs.ListLaws.{unread, unread-end}
-use Rattle.parse.proofs.Laws.{closed-in, closed-is, not-closed}
+use Rattle.codes.specs.Answer.{closed}
+use Rattle.codes.proofs.StepLaws.{parse-step, parse-nil, closed-in, closed-is, closes-it, closes-not}
 use Rattle.parse.proofs.Stores.{sets-append, sets-front-append, drop-sets}
 use Rattle.parse.proofs.Sheets.{slack-open, slack-closed, slack-end, slack-le}
 
@@ -73,11 +74,6 @@ count-alone l cs = ap suc (add-zero (count cs))
 
 -- ---- One byte of fuel.
 
-pub parse-step : (text : List ℕ) (at g : ℕ) → at < length text
-    → parseInner (suc g) (drop at text) ≡ begin (getD text at 0) (start (getD text at 0)) (drop (at + 1) text) (λ t. parseInner g t) (λ k t. parseItems g k t)
-unfolding parseInner
-parse-step text at g h = ap (parseInner (suc g)) (unread text at h)
-
 -- What a byte begins, with as much fuel as its rest takes, is what reading at its place says.
 module _ (text : List ℕ) (at n m : ℕ) (b a : Lists) (r : Parsed) (h : at < length text) where
   Begun : Type 0
@@ -90,11 +86,6 @@ module _ (text : List ℕ) (at n m : ℕ) (b a : Lists) (r : Parsed) (h : at < l
   begun s (suc g) l = subst (ParsedIs text n m b a r) (sym (parse-step text at g h)) (s g (omega (arith, length-drop at text, length-drop (at + 1) text)))
 
 -- ---- Nothing left, and a byte without parts.
-
-pub parse-nil : (f : ℕ) → parseInner f [] ≡ R.empty
-unfolding parseInner
-parse-nil zero = refl
-parse-nil (suc f) = refl
 
 pub reads-end : (text : List ℕ) (at n m : ℕ) (b : Lists) → at ≡ length text → Reads text at n m b b Empty
 reads-end text at n m b e = record {
@@ -287,17 +278,6 @@ found-frame text at n m b a to k j r =
     }
 
 -- ---- Arrays.
-
-pub closes-it : (text : List ℕ) (len : ℕ) (c : Label) (cs : Trees) (to : ℕ) → to < length text → getD text to 0 ≡ 93 → R.closeItem len c cs (drop to text) ≡ encoding (array len) (node c cs end) (drop (to + 1) text)
-unfolding R.closeItem
-closes-it text len c cs to l e = ap (R.closeItem len c cs) (unread text to l) ∙ rw (eq-eqb _ _ e, R.closeItem) refl
-
-pub closes-not : (text : List ℕ) (len : ℕ) (c : Label) (cs : Trees) (to : ℕ) → closed text to ≡ false → R.closeItem len c cs (drop to text) ≡ refused WrongEndArray (drop to text)
-unfolding R.closeItem
-closes-not text len c cs to e = elim (decLt to (length text)) [
-  | yes l ↦ ap (R.closeItem len c cs) (unread text to l) ∙ (rw (not-closed text to l e, R.closeItem) refl) ∙ sym (ap (refused WrongEndArray) (unread text to l))
-  | no l ↦ ap (R.closeItem len c cs) (unread-end text to (omega arith)) ∙ sym (ap (refused WrongEndArray) (unread-end text to (omega arith)))
-]
 
 module _ (text : List ℕ) (at n m len it : ℕ) (h : at < length text) (st : start (getD text at 0) ≡ R.openArray)
     (num : R.parseNumber maxU64 (drop (at + 1) text) ≡ R.value len (drop it text)) (on : at + 1 ≤ it) (in-text : it ≤ length text) (b a : Lists) where

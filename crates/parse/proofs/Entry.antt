@@ -22,7 +22,7 @@ use Rattle.kinds.specs.declared.ErrorKind.{ErrorKind}
 use Rattle.kinds.specs.declared.ErrorKind.the-variants.{Unknown}
 use Rattle.kinds.specs.declared.Refusal.the-variants.{TextTooLong, ListTooShort}
 use Rattle.parse.specs.Agree.{Lists, lists, Reads, Ready, Frame, FoundBound, Bound, TreeAt, NoTree, EncodedIs}
-use Rattle.parse.specs.EncodingBox.{used, hasRoom, turnedAway, padded, filled}
+use Rattle.parse.specs.Answer.{used, hasRoom, turnedAway, padded, filled}
 use Rattle.parse.specs.Out.{putNode, cleared, headed, noneSheet, codeSheet, Fits, encodedOut, encodedWords, encodedNames}
 use Rattle.parse.specs.declared.Encoded.{Encoded}
 use Rattle.parse.specs.declared.Encoded.the-variants as E
@@ -285,16 +285,16 @@ code-stays b p e = go (isQualifier b) refl
     go false q = q
 
 -- The outcome for a text of one code, from the sheet of its primitive.
-pub one-code : (text w ns : List ℕ) (p : ℕ) → length text ≡ 1 → used (length text) ≤ length w → length text ≤ length ns → start (getD text 0 0) ≡ R.single p → p < 24
+pub one-code : (text w ns : List ℕ) (p : ℕ) → length text ≡ 1 → used (length text) ≤ length w → length text ≤ length ns → start (getD text 0 0) ≡ R.single p
     → (w2 n2 : List ℕ) → w2 ≡ codeSheet p w → n2 ≡ cleared 1 ns → EncodedIs text (lists w ns) (lists w2 n2) (E.Tree 1)
-one-code text w ns p one hw hn st l w2 n2 ew en =
+one-code text w ns p one hw hn st w2 n2 ew en =
     let h : 0 < length text = omega arith in
     let front : List ℕ = cleared (used (length text)) w in
     let v : List ℕ = p ∷ 0 ∷ 0 ∷ 1 ∷ [] in
     let hd : List ℕ = 1 ∷ headerWords ∷ 0 ∷ (headerWords + 4) ∷ [] in
     let kept : List ℕ = cleared (length text) ns in
     let a : Lists = lists (putNode (drop headerWords front) 0 p 0 0 1) kept in
-    let reads : Reads text 0 0 0 (lists (drop headerWords front) kept) a (Encoding 1 1 0) = reads-simple text 0 0 0 (drop headerWords front) (putNode (drop headerWords front) 0 p 0 0 1) kept (Encoding 1 1 0) h (simple-code text 0 0 0 (drop headerWords front) h p st l) in
+    let reads : Reads text 0 0 0 (lists (drop headerWords front) kept) a (Encoding 1 1 0) = reads-simple text 0 0 0 (drop headerWords front) (putNode (drop headerWords front) 0 p 0 0 1) kept (Encoding 1 1 0) h (simple-code text 0 0 0 (drop headerWords front) h p st) in
     let words : headed 1 0 (take headerWords front ++ a .words) ≡ w2 =
     ap (headed 1 0) (sets-part headerWords front 0 v (omega (arith, cleared-length (used (length text)) w hw)))
     ∙ sets-front-append front 0 headerWords hd v refl

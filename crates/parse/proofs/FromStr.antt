@@ -20,7 +20,7 @@ use Rattle.kinds.specs.declared.ErrorKind.the-variants.{NotAllConsumed}
 use Rattle.kinds.specs.declared.Refusal.{Refusal}
 use Rattle.kinds.specs.declared.Refusal.the-variants.{Parse}
 use Rattle.parse.specs.Agree.{Lists, lists, TreeAt, NoTree}
-use Rattle.parse.specs.EncodingBox.{used, turnedAway, filled, sheetWords, sheetNames, unlessAway, wordsAfter, namesAfter, wholeTree, wholeReading, answerOr, fromStrAnswer, fromStrWords, fromStrNames, startTree, startReading, startRest, fromStartRest, fromStartAnswer, fromStartWords, fromStartNames, answerWords, EndOf}
+use Rattle.parse.specs.Answer.{used, turnedAway, filled, sheetWords, sheetNames, unlessAway, wordsAfter, namesAfter, wholeTree, wholeReading, answerOr, fromStrAnswer, fromStrWords, fromStrNames, startTree, startReading, startRest, fromStartRest, fromStartAnswer, fromStartWords, fromStartNames, answerWords, EndOf}
 use Rattle.parse.specs.Out.{cleared, noneSheet}
 use Rattle.parse.specs.declared.Reading.{Reading}
 use Rattle.parse.specs.declared.Reading.the-variants.{Tree, Refused}

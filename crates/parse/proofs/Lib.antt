@@ -1,5 +1,4 @@
 -- Laws of the definitions that belong to no one function.
-pub mod Laws
 pub mod Names
 pub mod Stores
 pub mod Text
@@ -8,4 +7,3 @@ pub mod Cycle
 pub mod Runs
 pub mod Entry
 pub mod FromStr
-pub mod Skip

@@ -11,8 +11,10 @@ use borrow.Author.Tests.{eqb-true}
 use Rattle.kinds.specs.Parse as R
 use Rattle.kinds.specs.Parse.{start, inSingles, singles, inOthers, others}
 use Rattle.kinds.specs.Tree.{Label, pointer, atomic, kind}
-use Rattle.parse.specs.Agree.{Lists, lists, Bound, Reads, Ready, IndirectionsEnd, ItemsReads, CodesRead}
-use Rattle.parse.specs.Out.{After, isIndirection, indirectionWord, holdOut, holdWords, putNode}
+use Rattle.parse.specs.Agree.{Lists, lists, Bound, Reads, Ready, ItemsReads, CodesRead}
+use Rattle.parse.specs.Out.{After, indirectionWord, holdOut, holdWords, putNode}
+use Rattle.parser.proofs.RunLaws.{RunTo}
+use Rattle.codes.specs.Answer.{isIndirection}
 use Rattle.parse.specs.Room.{slack, closes}
 use Rattle.kinds.specs.declared.ContainerKind.{ContainerKind}
 use Rattle.parse.specs.declared.Items.{Items}
@@ -35,17 +37,6 @@ indirection b e = go (eqb b 94) refl
     go : (d : Bool) → eqb b 94 ≡ d → Indirection b
     go true x = rw (eqb-true b 94 x) (record { label = pointer; begins = refl; word-is = refl; bare = bare-pointer })
     go false x = rw (eqb-true b 65 (ap (λ (y : Bool). y || eqb b 65) (sym x) ∙ e)) (record { label = atomic; begins = refl; word-is = refl; bare = bare-atomic })
-
-pub not-indirection : (b : ℕ) → isIndirection b ≡ false → (b ≡ 94 → ⊥) × (b ≡ 65 → ⊥)
-not-indirection b e = (λ x. false≢true (sym e ∙ ap isIndirection x), λ x. false≢true (sym e ∙ ap isIndirection x))
-
--- One more in the run.
-pub run-more : (text : List ℕ) (at i : ℕ) → ((j : ℕ) → at ≤ j → j < i → isIndirection (getD text j 0) ≡ true) → isIndirection (getD text i 0) ≡ true
-    → (j : ℕ) → at ≤ j → j < i + 1 → isIndirection (getD text j 0) ≡ true
-run-more text at i run s j on l = elim (decLt j i) [
-  | yes h ↦ run j on h
-  | no h ↦ let e : j ≡ i = omega arith in ap (λ (x : ℕ). isIndirection (getD text x 0)) e ∙ s
-]
 
 -- The pointer or atomic at `at` over what was read after it.
 pub reads-indirection : (text : List ℕ) (at next n k m : ℕ) → next ≡ at + 1 → k ≡ n + 1 → at < length text → isIndirection (getD text at 0) ≡ true
@@ -82,7 +73,7 @@ after-held (ContainerEnd c to) next n m r = omega arith
 after-held (ArrayEnd to) next n m r = omega arith
 after-held (Refused why to) next n m r = tt
 
-module _ (text : List ℕ) (at n m to : ℕ) (b : Lists) (r : Ready text at n m b) (e : IndirectionsEnd text at to) where
+module _ (text : List ℕ) (at n m to : ℕ) (b : Lists) (r : Ready text at n m b) (e : RunTo isIndirection text at to) where
   run-slack : at < to → slack (drop at text) ≡ length text - at + 1
   unfolding closes
   run-slack l =
@@ -107,11 +98,11 @@ module _ (text : List ℕ) (at n p : ℕ) (h : at < length text) (st : start (ge
   unfolding closes
   code-slack = omega (arith, slack-open text at h (ap closes st), slack-le text (at + 1))
 
-  pub items-code : p < 24 → (kind : ContainerKind) (m : ℕ) (w ns : List ℕ) (z : Lists) (i : Items)
+  pub items-code : (kind : ContainerKind) (m : ℕ) (w ns : List ℕ) (z : Lists) (i : Items)
       → ItemsReads text (at + 1) kind (n + 1) m (lists (putNode w n p 0 0 1) ns) z i → ItemsReads text at kind n m (lists w ns) z i
-  items-code l kind m w ns z i r =
+  items-code kind m w ns z i r =
       items-more text at kind n m (lists w ns) (lists (putNode w n p 0 0 1) ns) (at + 1) (n + 1) m z i
-      (reads-simple text at n m w (putNode w n p 0 0 1) ns (Encoding (at + 1) (n + 1) m) h (simple-code text at n m w h p st l)) r
+      (reads-simple text at n m w (putNode w n p 0 0 1) ns (Encoding (at + 1) (n + 1) m) h (simple-code text at n m w h p st)) r
 
 pub ready-codes : (text : List ℕ) (at n m to : ℕ) (w w' ns : List ℕ) → Ready text at n m (lists w ns) → CodesRead text at n w w' to → length w' ≡ length w → Ready text to (n + (to - at)) m (lists w' ns)
 ready-codes text at n m to w w' ns r c e = record {
@@ -128,12 +119,12 @@ codes-none text at n w l = record {
   reads = λ kind m ns z i r. subst (λ (k : ℕ). ItemsReads text at kind k m (lists w ns) z i) (omega arith) r;
 }
 
-pub codes-more : (text : List ℕ) (at n : ℕ) (w w' : List ℕ) (to p : ℕ) → CodesRead text at n w w' to → to < length text → start (getD text to 0) ≡ R.single p → p < 24
+pub codes-more : (text : List ℕ) (at n : ℕ) (w w' : List ℕ) (to p : ℕ) → CodesRead text at n w w' to → to < length text → start (getD text to 0) ≡ R.single p
     → CodesRead text at n w (putNode w' (n + (to - at)) p 0 0 1) (to + 1)
-codes-more text at n w w' to p c h st l = record {
+codes-more text at n w w' to p c h st = record {
   onward = omega (arith, c .onward);
   within = omega arith;
   room = omega (arith, c .onward, c .room, code-slack text to (n + (to - at)) p h st);
-  reads = λ kind m ns z i r. c .reads kind m ns z i (items-code text to (n + (to - at)) p h st l kind m w' ns z i
+  reads = λ kind m ns z i r. c .reads kind m ns z i (items-code text to (n + (to - at)) p h st kind m w' ns z i
       (subst (λ (k : ℕ). ItemsReads text (to + 1) kind k m (lists (putNode w' (n + (to - at)) p 0 0 1) ns) z i) (omega (arith, c .onward)) r));
 }

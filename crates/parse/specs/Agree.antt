@@ -1,4 +1,4 @@
--- What the reader's outcomes say, against the definitions.
+-- What the private functions of reading ask and promise, against the definitions.
 use Prim.Native.Nat.{ℕ, suc, _+_, _*_, _-_, _≤_, _<_}
 use mathlib.Core.Path.{_≡_}
 use mathlib.Core.List.{List, []}
@@ -13,35 +13,21 @@ use Rattle.kinds.specs.Container.{endByte}
 use Rattle.kinds.specs.Parse.{value, noNumber, empty, encoding, containerEnd, arrayEnd, refused, items, itemsRefused, parseInner, parseItems, start, integral}
 use Rattle.kinds.specs.Sheet.{nodes, namesOf, sheetOf}
 use Rattle.kinds.specs.Tree.{Label, Trees, end, node, count, primitive, bitField, typedBitField}
-use Rattle.parse.specs.Out.{After, isIndirection}
+use Rattle.parser.specs.Run.{runEnd}
+use Rattle.codes.specs.Answer.{isIndirection, hasParts}
+use Rattle.parse.specs.Out.{After}
 use Rattle.parse.specs.Room.{slack}
 use Rattle.kinds.specs.declared.ContainerKind.{ContainerKind}
-use Rattle.parse.specs.declared.Number.{Number}
-use Rattle.parse.specs.declared.Number.the-variants.{Value, Refused as NoNumber}
-use Rattle.parse.specs.declared.Leaf.{Leaf}
-use Rattle.parse.specs.declared.Leaf.the-variants.{Is, Refused as NoLeaf}
-use Rattle.parse.specs.declared.Bits.{Bits}
-use Rattle.parse.specs.declared.Bits.the-variants.{Plain, Typed, Refused as NoBits}
 use Rattle.parse.specs.declared.Items.{Items}
 use Rattle.parse.specs.declared.Items.the-variants.{Read, Refused as NoItems}
-use Rattle.parse.specs.declared.Name.{Name}
-use Rattle.parse.specs.declared.Name.the-variants as N
 use Rattle.parse.specs.declared.Named.{Named}
 use Rattle.parse.specs.declared.Named.the-variants as D
 use Rattle.kinds.specs.declared.ErrorKind.{ErrorKind}
-use Rattle.parse.specs.EncodingBox.{used, turnedAway, filled}
+use Rattle.parse.specs.Answer.{used, turnedAway, filled}
 use Rattle.parse.specs.declared.Encoded.{Encoded}
 use Rattle.parse.specs.declared.Encoded.the-variants as E
 use Rattle.parse.specs.declared.Parsed.{Parsed}
 use Rattle.parse.specs.declared.Parsed.the-variants.{Empty, Encoding, ContainerEnd, ArrayEnd, Refused}
-
--- A place at or after `at`, within the text.
-abbrev pub Onward : List ℕ → ℕ → ℕ → Type 0
-Onward text at to = (at ≤ to) × (to ≤ length text)
-
-abbrev pub NumberIs : List ℕ → ℕ → Number → R.Number → Type 0
-NumberIs text at (Value v to) q = (q ≡ value v (drop to text)) × Onward text at to
-NumberIs text at (NoNumber why to) q = (q ≡ noNumber why (drop to text)) × Onward text at to
 
 -- The lists at entry and at exit.
 pub record Lists : Type 0 where
@@ -108,43 +94,6 @@ pub record Reads (text : List ℕ) (at n m : ℕ) (before after : Lists) (r : Pa
   pub bound : Bound text at n m before after r
   pub says : (f : ℕ) → length (drop at text) + length (drop at text) ≤ f → ParsedIs text n m before after r (parseInner f (drop at text))
 
-abbrev pub LeafIs : List ℕ → ℕ → Leaf → R.Parsed → Type 0
-LeafIs text at (Is p to) q = ((q ≡ encoding (primitive p) end (drop to text)) × (p < 24)) × Onward text at to
-LeafIs text at (NoLeaf why to) q = (q ≡ refused why (drop to text)) × Onward text at to
-
-abbrev pub BitsIs : List ℕ → ℕ → Bits → R.Parsed → Type 0
-BitsIs text at (Plain size to) q = (q ≡ encoding (bitField size) end (drop to text)) × Onward text at to
-BitsIs text at (Typed offset p size to) q = (q ≡ encoding (typedBitField offset size) (node (primitive p) end end) (drop to text)) × ((at < to) × (to ≤ length text))
-BitsIs text at (NoBits why to) q = (q ≡ refused why (drop to text)) × Onward text at to
-
--- The primitive that a byte is the code of, or 255.
-pub record CodeIs (b r : ℕ) : Type 0 where
-  pub code-known : r < 255 → start b ≡ R.single r
-  pub code-none : r ≡ 255 → start b ≡ R.inOthers b R.others
-  pub integral-is : integral b ≡ (ltb r 10 || eqb r 16)
-  pub code-range : (r < 24) ⊎ (r ≡ 255)
-
-abbrev pub UntypedIs : ℕ → ℕ → Bits → Type 0
-UntypedIs n to r = (text : List ℕ) (at : ℕ) → at ≤ to → to ≤ length text → BitsIs text at r (R.untyped n (drop to text))
-
--- Where a name ends: at `=`, at the container's own closer, or with the text.
-pub record NameEnd (text : List ℕ) (at : ℕ) (kind : ContainerKind) (r : ℕ) : Type 0 where
-  pub onward : at ≤ r
-  pub within : r ≤ length text
-  pub scanned : R.parseName kind [] (drop at text) ≡ R.parseName kind (take (r - at) (drop at text)) (drop r text)
-  pub stopped : r < length text → (getD text r 0 ≡ 61 → ⊥) → getD text r 0 ≡ endByte kind
-
--- The name goes up to `e`, and reading goes on at `to`.
-pub record NameRead (text : List ℕ) (at e to : ℕ) (q : R.Named) : Type 0 where
-  pub is : q ≡ R.named (take (e - at) (drop at text)) (drop to text)
-  pub some : at < e
-  pub passed : e ≤ to
-  pub within : to ≤ length text
-
-abbrev pub NameIs : List ℕ → ℕ → Name → R.Named → Type 0
-NameIs text at (N.Is e to) q = NameRead text at e to q
-NameIs text at (N.Refused why to) q = (q ≡ R.unnamed why (drop to text)) × (to ≤ length text)
-
 pub record NameFound (text : List ℕ) (at m : ℕ) (before after : List ℕ) (to l : ℕ) (q : R.Named) : Type 0 where
   pub name : List ℕ
   pub is : q ≡ R.named name (drop to text)
@@ -167,27 +116,23 @@ pub record Simple (text : List ℕ) (at n m : ℕ) (w w' : List ℕ) (r : Parsed
   pub says : (ns : List ℕ) (inner : List ℕ → R.Parsed) (fields : ContainerKind → List ℕ → R.Items)
       → ParsedIs text n m (lists w ns) (lists w' ns) r (R.begin (getD text at 0) (R.start (getD text at 0)) (drop (at + 1) text) inner fields)
 
--- The byte begins nothing with parts.
-abbrev pub WithoutParts : ℕ → Type 0
-WithoutParts b = ((((b ≡ 94 → ⊥) × (b ≡ 65 → ⊥)) × (b ≡ 91 → ⊥)) × (b ≡ 123 → ⊥)) × (b ≡ 40 → ⊥)
-
 pub record SimpleReady (text : List ℕ) (at n : ℕ) (w : List ℕ) : Type 0 where
   pub at-place : at < length text
   pub words-room : 4 * (n + slack (drop at text)) ≤ length w
-  pub plain : WithoutParts (getD text at 0)
+  pub plain : hasParts (start (getD text at 0)) ≡ false
+
+-- No pointer or atomic stands at the place.
+pub record OneReady (text : List ℕ) (at n m : ℕ) (before : Lists) : Type 0 where
+  pub ready : Ready text at n m before
+  pub at-byte : at < length text
+  pub direct : isIndirection (getD text at 0) ≡ false
 
 -- ---- Runs of pointers and atomics.
 
--- Pointers and atomics stand from `at` on up to `to`, and no further.
-pub record IndirectionsEnd (text : List ℕ) (at to : ℕ) : Type 0 where
-  pub onward : at ≤ to
-  pub within : to ≤ length text
-  pub run : (i : ℕ) → at ≤ i → i < to → isIndirection (getD text i 0) ≡ true
-  pub stopped : to < length text → isIndirection (getD text to 0) ≡ false
-
 -- What writing the nodes of a run asks: the run, room for its nodes and a None, and its child's nodes after them.
 pub record ChildReady (text : List ℕ) (at to n : ℕ) (w : List ℕ) (child : Parsed) : Type 0 where
-  pub ends : IndirectionsEnd text at to
+  pub at-place : at ≤ length text
+  pub ends : to ≡ runEnd isIndirection text at
   pub room : at < to → 4 * (n + (to - at)) + 4 ≤ length w
   pub after : After child (n + (to - at))
 

@@ -1,7 +1,5 @@
--- The definitions that this crate's contracts cite beside those of `kinds`.
-pub mod EncodingBox
+-- The definitions; `Room`, `Out` and `Agree` serve private contracts alone.
+pub mod Answer
 pub mod Room
-pub mod Digits
-pub mod Agree
 pub mod Out
-pub mod Skip
+pub mod Agree

@@ -1,4 +1,4 @@
--- What the functions that end a reading step answer and write, as functions of what was read.
+-- What the private functions that end a reading step answer and write, as functions of what was read.
 use Prim.Native.Nat.{ℕ, _+_, _*_, _-_, _≤_}
 use mathlib.Core.Bool.{Bool, true, false, cond, _&&_, _||_}
 use mathlib.Core.List.{List, [], _∷_, _++_}
@@ -8,12 +8,11 @@ use lib.Seq.{sets}
 use Rattle.kinds.specs.Container.{endByte, sameContainer}
 use Rattle.kinds.specs.declared.ContainerKind.{ContainerKind}
 use Rattle.kinds.specs.declared.ErrorKind.the-variants.{Unknown, WrongEndArray, WrongEndContainer}
-use Rattle.parse.specs.declared.Leaf.{Leaf}
-use Rattle.parse.specs.declared.Leaf.the-variants.{Is, Refused as NoLeaf}
-use Rattle.parse.specs.declared.Bits.{Bits}
-use Rattle.parse.specs.declared.Bits.the-variants.{Plain, Typed, Refused as NoBits}
 use Rattle.kinds.specs.Sheet.{headerWords}
-use Rattle.parse.specs.EncodingBox.{used, kindWord}
+use Rattle.codes.specs.Answer.{closed}
+use Rattle.codes.specs.declared.Token.{Token}
+use Rattle.codes.specs.declared.Token.the-variants as T
+use Rattle.parse.specs.Answer.{used, kindWord}
 use Rattle.parse.specs.declared.Encoded.{Encoded}
 use Rattle.parse.specs.declared.Encoded.the-variants as E
 use Rattle.parse.specs.declared.Parsed.{Parsed}
@@ -24,23 +23,36 @@ use Rattle.parse.specs.declared.Items.the-variants.{Read, Refused as NoI
 abbrev pub putNode : List ℕ → ℕ → ℕ → ℕ → ℕ → ℕ → List ℕ
 putNode w n kind first second count = sets w (4 * n) (kind ∷ first ∷ second ∷ count ∷ [])
 
-abbrev pub leafOut : Leaf → ℕ → ℕ → Parsed
-leafOut (Is p to) n m = Encoding to (n + 1) m
-leafOut (NoLeaf why to) n m = Refused why to
+abbrev pub tokenOut : Token → ℕ → ℕ → Parsed
+tokenOut (T.Primitive p to) n m = Encoding to (n + 1) m
+tokenOut (T.BitField size to) n m = Encoding to (n + 1) m
+tokenOut (T.TypedBitField offset p size to) n m = Encoding to (n + 2) m
+tokenOut (T.ArrayEnd to) n m = ArrayEnd to
+tokenOut (T.ContainerEnd kind to) n m = ContainerEnd kind to
+tokenOut (T.Refused why to) n m = Refused why to
+tokenOut T.Parts n m = Empty
+tokenOut T.End n m = Empty
 
-abbrev pub leafWords : Leaf → ℕ → List ℕ → List ℕ
-leafWords (Is p to) n w = putNode w n p 0 0 1
-leafWords (NoLeaf why to) n w = w
+abbrev pub tokenWords : Token → ℕ → List ℕ → List ℕ
+tokenWords (T.Primitive p to) n w = putNode w n p 0 0 1
+tokenWords (T.BitField size to) n w = putNode w n 24 0 size 1
+tokenWords (T.TypedBitField offset p size to) n w = putNode (putNode w (n + 1) p 0 0 1) n 25 offset size 2
+tokenWords (T.ArrayEnd to) n w = w
+tokenWords (T.ContainerEnd kind to) n w = w
+tokenWords (T.Refused why to) n w = w
+tokenWords T.Parts n w = w
+tokenWords T.End n w = w
 
-abbrev pub bitsOut : Bits → ℕ → ℕ → Parsed
-bitsOut (Plain size to) n m = Encoding to (n + 1) m
-bitsOut (Typed offset p size to) n m = Encoding to (n + 2) m
-bitsOut (NoBits why to) n m = Refused why to
-
-abbrev pub bitsWords : Bits → ℕ → List ℕ → List ℕ
-bitsWords (Plain size to) n w = putNode w n 24 0 size 1
-bitsWords (Typed offset p size to) n w = putNode (putNode w (n + 1) p 0 0 1) n 25 offset size 2
-bitsWords (NoBits why to) n w = w
+-- Room for a token's nodes in `l` words.
+abbrev pub TokenRoom : Token → ℕ → ℕ → Type 0
+TokenRoom (T.Primitive p to) n l = 4 * n + 4 ≤ l
+TokenRoom (T.BitField size to) n l = 4 * n + 4 ≤ l
+TokenRoom (T.TypedBitField offset p size to) n l = 4 * n + 8 ≤ l
+TokenRoom (T.ArrayEnd to) n l = Unit {0}
+TokenRoom (T.ContainerEnd kind to) n l = Unit {0}
+TokenRoom (T.Refused why to) n l = Unit {0}
+TokenRoom T.Parts n l = Unit {0}
+TokenRoom T.End n l = Unit {0}
 
 -- What a node asks of the outcome of reading its child.
 abbrev pub After : Parsed → ℕ → Type 0
@@ -68,17 +80,9 @@ holdWords (ContainerEnd c to) kind n w = noneUnder kind 0 n w
 holdWords (ArrayEnd to) kind n w = noneUnder kind 0 n w
 holdWords (Refused why to) kind n w = w
 
--- A pointer or an atomic begins.
-abbrev pub isIndirection : ℕ → Bool
-isIndirection b = eqb b 94 || eqb b 65
-
 -- The kind word of the pointer or atomic that begins.
 abbrev pub indirectionWord : ℕ → ℕ
 indirectionWord b = cond (eqb b 94) 26 27
-
--- The item is closed: `]` follows it.
-abbrev pub closed : List ℕ → ℕ → Bool
-closed text to = ltb to (length text) && eqb (getD text to 0) 93
 
 abbrev pub pickParsed : Bool → Parsed → Parsed → Parsed
 pickParsed true a b = a

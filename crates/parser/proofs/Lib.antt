@@ -2,3 +2,5 @@
 pub mod TextLaws
 pub mod PlaceLaws
 pub mod TakenApart
+pub mod RestLaws
+pub mod RunLaws

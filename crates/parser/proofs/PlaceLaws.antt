@@ -66,7 +66,11 @@ strip-leaves (b ∷ s) = go (isQualifier b) (strip-leaves s)
     go true h = ap (λ (k : ℕ). drop k (b ∷ s)) (longer (length s) (length (stripLeadingQualifiers s)) (strip-shorter s)) ∙ h
     go false h = ap (λ (k : ℕ). drop k (b ∷ s)) (sub-self (suc (length s)))
 
-drop-on : (a b : ℕ) (s : List ℕ) → drop (a + b) s ≡ drop b (drop a s)
+-- The place after the qualifiers.
+pub strip-place : (s : List ℕ) (at : ℕ) → at ≡ length s - length (stripLeadingQualifiers s) → (drop at s ≡ stripLeadingQualifiers s) × (at ≤ length s)
+strip-place s at e = (ap (λ (k : ℕ). drop k s) e ∙ strip-leaves s, omega arith)
+
+pub drop-on : (a b : ℕ) (s : List ℕ) → drop (a + b) s ≡ drop b (drop a s)
 drop-on zero b s = ap (λ (k : ℕ). drop k s) (zero-add b)
 drop-on (suc a) b [] = drop-nil (suc a + b) ∙ sym (drop-nil b)
 drop-on (suc a) b (x ∷ s) = ap (λ (k : ℕ). drop k (x ∷ s)) (suc-add a b) ∙ drop-on a b s
@@ -83,6 +87,11 @@ part-remains s at h = ap₂ (λ (o : ℕ) (t : List ℕ). ((s .ptr .0, o), t)) f
   where
     further : at + s .ptr .1 ≡ s .ptr .1 + (length (now s) - length (drop at (now s)))
     further = omega (arith, length-drop at (now s))
+
+-- Its bytes are those from there on.
+pub remains-bytes : {p : ℕ × ℕ} {t : List ℕ} (s : RefT (List ℕ)) (at : ℕ) → (p, t) ≡ remainingAt s at → t ≡ drop at (now s)
+unfolding remainingAt endOf
+remains-bytes s at e = ap (λ (x : (ℕ × ℕ) × List ℕ). x .1) e
 
 pub end-remains : (s : RefT (List ℕ)) (at : ℕ) → length (now s) ≤ at → remainingAt s (length (now s)) ≡ remainingAt s at
 unfolding remainingAt

@@ -17,6 +17,10 @@ lent s = (ptr s, now s)
 unfoldable pub endOf : RefT (List ℕ) → List ℕ → (ℕ × ℕ) × List ℕ
 endOf s t = ((ptr s .0, ptr s .1 + (length (now s) - length t)), t)
 
+-- The place where what is unread begins.
+abbrev pub placeOf : List ℕ → List ℕ → ℕ
+placeOf text rest = length text - length rest
+
 -- From a place on; past the end, the empty part at the end.
 unfoldable pub remainingAt : RefT (List ℕ) → ℕ → (ℕ × ℕ) × List ℕ
 remainingAt s at = endOf s (drop at (now s))

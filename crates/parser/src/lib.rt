@@ -2,8 +2,8 @@
 // and leaves the work to a function on the text and the place.
 ghost use mathlib.Core.Path.{_≡_};
 ghost use Rattle.kinds.specs.Byte.{among};
-ghost use Rattle.kinds.specs.Parse.{isQualifier};
-ghost use Rattle.parser.specs.Place.{lent, peekAt, isEmptyAt, remainingAt, advanceAt, stripAt};
+ghost use Rattle.kinds.specs.Parse.{isQualifier, stripLeadingQualifiers};
+ghost use Rattle.parser.specs.Place.{lent, placeOf, peekAt, isEmptyAt, remainingAt, advanceAt, stripAt};
 ghost use Rattle.parser.specs.Reader.{newParser, peek, isEmpty, remaining, advance, stripQualifiers, skipQualifiers};
 
 pub struct Parser<'a> {
@@ -138,4 +138,12 @@ pub fn skip_qualifiers<'a>(text: &'a [u8]) -> &'a [u8]
     ensures { λ r. ⌜ lent r ≡ skipQualifiers (text .entry) ⌝ }
 {
     Parser::new(text).strip_leading_qualifiers().remaining()
+}
+
+// The place after the leading qualifiers.
+pub fn strip_leading_qualifiers(text: &[u8]) -> usize
+    ensures { λ r. ⌜ r ≡ placeOf (now (text .entry)) (stripLeadingQualifiers (now (text .entry))) ⌝ }
+{
+    let rest = skip_qualifiers(text);
+    text.len() - rest.len()
 }

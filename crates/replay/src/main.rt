@@ -43,7 +43,7 @@ fn load_tree(argument: &[u8], text: &mut [u8], words: &mut [u64], names: &mut [u
     let Decoded::Items(n) = load_text(argument, text) else {
         return Loaded::Bad;
     };
-    match parse::from_str(lines::front(text, n), words, names) {
+    match encoding_box::from_str(lines::front(text, n), words, names) {
         Reading::Tree => Loaded::Tree,
         Reading::Refused(why) => Loaded::Unread(why),
     }
@@ -90,7 +90,7 @@ fn put_compared(out: &mut [u8], at: usize, compared: Compared) -> usize {
 }
 
 fn answer_read(text: &[u8], words: &mut [u64], names: &mut [u8], out: &mut [u8]) -> usize {
-    match parse::from_str(text, words, names) {
+    match encoding_box::from_str(text, words, names) {
         Reading::Refused(why) => put_refused(out, b"no ", why),
         Reading::Tree => {
             let at = lines::put_bytes(out, 0, b"ok ");
@@ -109,7 +109,7 @@ fn place_after(all: usize, rest: usize) -> usize {
 
 fn answer_start(text: &[u8], words: &mut [u64], names: &mut [u8], out: &mut [u8]) -> usize {
     let mut answer = [0u64; 4];
-    let rest = parse::from_start_of_str(text, words, names, &mut answer);
+    let rest = encoding_box::from_start_of_str(text, words, names, &mut answer);
     if answer[0] == 0 {
         let at = lines::put_bytes(out, 0, b"ok ");
         let to = lines::put_sheet(out, at, words, names);
@@ -158,7 +158,7 @@ fn answer_equal(aw: &[u64], an: &[u8], bw: &[u64], bn: &[u8], out: &mut [u8]) ->
 }
 
 fn answer_text(words: &[u64], names: &[u8], text: &[u8], out: &mut [u8]) -> usize {
-    put_compared(out, 0, expect::equivalent_to_str(words, names, text))
+    put_compared(out, 0, encoding::equivalent_to_str(words, names, text))
 }
 
 fn is_reading(question: &[u8]) -> bool {

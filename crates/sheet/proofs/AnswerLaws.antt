@@ -6,17 +6,16 @@ use mathlib.Core.List.{List}
 use mathlib.Core.Bool.{Bool, true, false, cond, _&&_, and-true, and-false, and-assoc}
 use borrow.Author.Tests.{eq-eqb, ne-eqb}
 use lib.Dec.{eqb}
-use lib.ListN.{length, getD, take, drop, length-drop}
-use lib.Seq.{take-all, getD-drop}
+use lib.ListN.{length, getD, length-drop}
+use lib.Seq.{getD-drop}
 use Rattle.kinds.specs.Sheet.{kindAt, firstAt, secondAt, countAt, labelAt, numbers, nextName, packed, nests, header, nodeWords, isSheet, trees, treeOf}
 use Rattle.kinds.specs.Sound.{goodName, goodNames}
 use Rattle.kinds.specs.Walk.{TreesAt}
 use Rattle.kinds.proofs.SheetLaws.{header-says, trees-step}
 use Rattle.kinds.proofs.NodeLaws.{no-trees, first-some, first-within, first-node, node-inner, other-trees}
-use Rattle.sheet.specs.Check.{checked}
-use Rattle.sheet.specs.Walked.{inOrder, walked, answer}
+use Rattle.sheet.specs.Walked.{inOrder, walked, verdictOf, answer}
 use Rattle.sheet.proofs.WalkLaws.{walked-code}
-use Rattle.sheet.specs.declared.Checked.the-variants.{NotASheet, BadName, Good}
+use Rattle.sheet.specs.declared.Verdict.the-variants.{NotASheet, BadName, Good}
 use Rattle.sheet.specs.declared.Walked.{Walked}
 use Rattle.sheet.specs.declared.Walked.the-variants.{Broken, Next}
 
@@ -59,7 +58,8 @@ module _ (s w : List ℕ) where
       let i : at + 4 * countAt w at ≡ at + 4 + 4 * (countAt w at - 1) = omega arith in
       ap goodNames (trees-step s w (suc n) at a b)
       ∙ ap (λ (x : Bool). goodName (labelAt s w at) && x)
-      (ap₂ _&&_ (names-tree f (countAt w at - 1) (at + 4) (omega arith) (node-inner w at (first-node w at (suc n) h (omega arith)))) (names-tree f (suc n - countAt w at) (at + 4 * countAt w at) (omega arith) (other-trees w at (suc n) h (omega arith)))
+      (ap₂ _&&_ (names-tree f (countAt w at - 1) (at + 4) (omega arith) (node-inner w at (first-node w at (suc n) h (omega arith))))
+      (names-tree f (suc n - countAt w at) (at + 4 * countAt w at) (omega arith) (other-trees w at (suc n) h (omega arith)))
       ∙ ap (λ (j : ℕ). namesGood s w (countAt w at - 1) (at + 4) && namesGood s w (suc n - countAt w at) j) i
       ∙ sym (names-split (countAt w at - 1) (suc n - countAt w at) (at + 4))
       ∙ ap (λ (j : ℕ). namesGood s w j (at + 4)) d)
@@ -84,25 +84,26 @@ module _ (s w : List ℕ) where
         go false x m more = let z : _≡_ {A = ℕ} 0 1 = cc in absurd (omega arith)
 
 module _ (words names : List ℕ) where
-  pub checked-header : header words (length names) ≡ false → checked words names ≡ NotASheet
-  unfolding checked isSheet
-  checked-header h = rw h
+  pub verdict-header : header words (length names) ≡ false → verdictOf words names ≡ NotASheet
+  unfolding verdictOf isSheet
+  verdict-header h = rw h
 
   module _ (h : header words (length names) ≡ true) where
-    pub checked-count : (getD words 7 0 ≡ getD words 0 0 → ⊥) → checked words names ≡ NotASheet
-    unfolding checked isSheet
-    checked-count c = rw (h, ne-eqb (countAt (nodeWords words) 0) (getD words 0 0) (λ e. c (sym (getD-drop 4 words 3 0) ∙ e)), and-false (packed (nodeWords words) (getD words 0 0) 0 0 (getD words 2 0)))
+    pub verdict-count : (getD words 7 0 ≡ getD words 0 0 → ⊥) → verdictOf words names ≡ NotASheet
+    unfolding verdictOf isSheet
+    verdict-count c = rw (h, ne-eqb (countAt (nodeWords words) 0) (getD words 0 0) (λ e. c (sym (getD-drop 4 words 3 0) ∙ e)), and-false (packed (nodeWords words) (getD words 0 0) 0 0 (getD words 2 0)))
 
     nodes-room : 0 + 4 * getD words 0 0 ≤ length (nodeWords words)
     nodes-room = let a = header-says words (length names) h .room in let b = length-drop 4 words in omega arith
 
-    pub checked-walked : countAt (nodeWords words) 0 ≡ getD words 0 0 → checked words names ≡ answer (getD words 2 0) (walked names (nodeWords words) (getD words 0 0) 0 0 (getD words 2 0) true)
-    unfolding checked isSheet walked answer treeOf endsAt
-    checked-walked c =
+    pub verdict-walked : countAt (nodeWords words) 0 ≡ getD words 0 0 → verdictOf words names ≡ answer (getD words 2 0) (walked names (nodeWords words) (getD words 0 0) 0 0 (getD words 2 0) true)
+    unfolding verdictOf isSheet walked answer treeOf endsAt
+    verdict-walked c =
         rw (h, eq-eqb (countAt (nodeWords words) 0) (getD words 0 0) c, order-packed names (nodeWords words) (getD words 2 0) (getD words 0 0) 0 0 true)
         (go (nests (nodeWords words) (getD words 0 0) 0) refl (inOrder names (nodeWords words) (getD words 0 0) 0 0 (getD words 2 0) true) refl)
       where
-        go : (t : Bool) → nests (nodeWords words) (getD words 0 0) 0 ≡ t → (x : Walked) → inOrder names (nodeWords words) (getD words 0 0) 0 0 (getD words 2 0) true ≡ x → cond (endsAt (getD words 2 0) x && t) (cond (goodNames (trees names (nodeWords words) (getD words 0 0) 0)) Good BadName) NotASheet ≡ answer (getD words 2 0) (cond t x Broken)
+        go : (t : Bool) → nests (nodeWords words) (getD words 0 0) 0 ≡ t → (x : Walked) → inOrder names (nodeWords words) (getD words 0 0) 0 0 (getD words 2 0) true ≡ x
+            → cond (endsAt (getD words 2 0) x && t) (cond (goodNames (trees names (nodeWords words) (getD words 0 0) 0)) Good BadName) NotASheet ≡ answer (getD words 2 0) (cond t x Broken)
         go true n Broken o = refl
         go true n (Next q f) o =
             let r : TreesAt (nodeWords words) 0 (getD words 0 0) = record { room = nodes-room; nested = n } in
@@ -114,12 +115,13 @@ module _ (words names : List ℕ) where
       pub part-room : 0 + 4 * getD words 0 0 ≤ length w
       part-room = rw part nodes-room
 
-      pub checked-pass : getD words 7 0 ≡ getD words 0 0 → (x : Walked) → x ≡ walked names w (getD words 0 0) 0 0 (getD words 2 0) true → answer (getD words 2 0) x ≡ checked words names
-      checked-pass c x h = rw (h, part) (sym (checked-walked (getD-drop 4 words 3 0 ∙ c)))
+      pub verdict-pass : getD words 7 0 ≡ getD words 0 0 → (x : Walked) → x ≡ walked names w (getD words 0 0) 0 0 (getD words 2 0) true → answer (getD words 2 0) x ≡ verdictOf words names
+      verdict-pass c x h = rw (h, part) (sym (verdict-walked (getD-drop 4 words 3 0 ∙ c)))
 
     -- a lone code
-    pub checked-code : getD words 0 0 ≡ 1 → getD words 7 0 ≡ getD words 0 0 → getD words 4 0 < 24 → (x : Walked) → x ≡ cond (eqb (getD words 5 0) 0 && eqb (getD words 6 0) 0) (Next 0 true) Broken → answer (getD words 2 0) x ≡ checked words names
-    checked-code n c k x h = checked-pass (nodeWords words) refl c x (h ∙ sym code)
+    pub verdict-code : getD words 0 0 ≡ 1 → getD words 7 0 ≡ getD words 0 0 → getD words 4 0 < 24 → (x : Walked) → x ≡ cond (eqb (getD words 5 0) 0 && eqb (getD words 6 0) 0) (Next 0 true) Broken
+        → answer (getD words 2 0) x ≡ verdictOf words names
+    verdict-code n c k x h = verdict-pass (nodeWords words) refl c x (h ∙ sym code)
       where
         code : walked names (nodeWords words) (getD words 0 0) 0 0 (getD words 2 0) true ≡ cond (eqb (getD words 5 0) 0 && eqb (getD words 6 0) 0) (Next 0 true) Broken
         code =

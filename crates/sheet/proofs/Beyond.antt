@@ -8,14 +8,14 @@ use borrow.Author.Tests.{le-leb, leb-true, eqb-true}
 use lib.Dec.{leb, eqb}
 use lib.ListN.{length, getD, take, drop, length-append, length-drop, List·getD-append}
 use lib.Seq.{take-append-le, drop-append-le}
-use Rattle.kinds.specs.Tree.{node, struct, union}
+use Rattle.kinds.specs.Tree.{Trees, struct, union}
 use Rattle.kinds.specs.Sheet.{kindAt, firstAt, secondAt, countAt, label, isContainerKind, numbers, nextName, packed, below, arity, nest, nests, header, nodeWords, isSheet, read, trees, treeOf}
 use Rattle.kinds.specs.Sound.{goodNames}
 use Rattle.kinds.specs.Walk.{KindsAndNames}
 use Rattle.kinds.proofs.SheetLaws.{Header, header-says}
 use Rattle.kinds.proofs.NodeLaws.{label-struct, label-union, walk-here, walk-inner, walk-rest, packed-walk, sheet-says}
-use Rattle.sheet.specs.Check.{checked}
-use Rattle.sheet.specs.declared.Checked.the-variants.{NotASheet, BadName, Good}
+use Rattle.kinds.specs.declared.Refusal.the-variants.{NotASheet, BadName}
+use Rattle.sheet.specs.Answer.{Held, held, refused, holding}
 
 front : (v x : List ℕ) (i : ℕ) → i < length v → getD (v ++ x) i 0 ≡ getD v i 0
 front v x i h = List·getD-append v x 0 i h
@@ -70,7 +70,16 @@ module _ (v x s y : List ℕ) where
   read-beyond (suc f) zero at h w = refl
   read-beyond (suc f) (suc n) at h w =
       let i = walk-inner v (length s) at (suc n) w in
-      rw (front v x at (omega arith), front v x (at + 1) (omega arith), front v x (at + 2) (omega arith), front v x (at + 3) (omega arith), label-beyond s y (kindAt v at) (firstAt v at) (secondAt v at) (walk-here v (length s) at (suc n) w (omega arith) .name), read-beyond f (below v n at) (at + 4) (omega arith) (i (below v n at) (omega arith)), read-beyond f (n - below v n at) (at + 4 + 4 * below v n at) (omega arith) (walk-rest v (length s) (at + 4) n (i n (omega arith)) (below v n at) (omega arith)))
+      rw (
+        front v x at (omega arith),
+        front v x (at + 1) (omega arith),
+        front v x (at + 2) (omega arith),
+        front v x (at + 3) (omega arith),
+        label-beyond s y (kindAt v at) (firstAt v at) (secondAt v at) (walk-here v (length s) at (suc n) w (omega arith) .name),
+        read-beyond f (below v n at) (at + 4) (omega arith) (i (below v n at) (omega arith)),
+        read-beyond f (n - below v n at) (at + 4 + 4 * below v n at) (omega arith)
+            (walk-rest v (length s) (at + 4) n (i n (omega arith)) (below v n at) (omega arith)),
+      )
 
 -- ---- The lists. `w` has the words that its header says are used and `s` the name bytes; `x` and `y` stand behind them.
 
@@ -80,7 +89,18 @@ module _ (w s x y : List ℕ) (head : 4 ≤ length w) (words : getD w 3 0 ≤ le
   header-beyond =
       let a = length-append w x in
       let b = length-append s y in
-      rw (front w x 0 (omega arith), front w x 1 (omega arith), front w x 2 (omega arith), front w x 3 (omega arith), le-leb 4 (length (w ++ x)) (omega arith), le-leb 4 (length w) head, le-leb (getD w 3 0) (length (w ++ x)) (omega arith), le-leb (getD w 3 0) (length w) words, le-leb (getD w 2 0) (length (s ++ y)) (omega arith), le-leb (getD w 2 0) (length s) bytes)
+      rw (
+        front w x 0 (omega arith),
+        front w x 1 (omega arith),
+        front w x 2 (omega arith),
+        front w x 3 (omega arith),
+        le-leb 4 (length (w ++ x)) (omega arith),
+        le-leb 4 (length w) head,
+        le-leb (getD w 3 0) (length (w ++ x)) (omega arith),
+        le-leb (getD w 3 0) (length w) words,
+        le-leb (getD w 2 0) (length (s ++ y)) (omega arith),
+        le-leb (getD w 2 0) (length s) bytes,
+      )
 
   nodes-beyond : nodeWords (w ++ x) ≡ nodeWords w ++ x
   nodes-beyond = drop-append-le 4 w x head
@@ -96,7 +116,9 @@ module _ (w s x y : List ℕ) (head : 4 ≤ length w) (words : getD w 3 0 ≤ le
       same-when true b c h = h refl
       same-when false b c h = refl
 
-      nodes : header w (length s) ≡ true → (packed (nodeWords w ++ x) (getD w 0 0) 0 0 (getD w 2 0) && (eqb (countAt (nodeWords w ++ x) 0) (getD w 0 0) && nest (nodeWords w ++ x) (getD w 0 0) (getD w 0 0) 0)) ≡ (packed (nodeWords w) (getD w 0 0) 0 0 (getD w 2 0) && (eqb (countAt (nodeWords w) 0) (getD w 0 0) && nest (nodeWords w) (getD w 0 0) (getD w 0 0) 0))
+      nodes : header w (length s) ≡ true
+          → (packed (nodeWords w ++ x) (getD w 0 0) 0 0 (getD w 2 0) && (eqb (countAt (nodeWords w ++ x) 0) (getD w 0 0) && nest (nodeWords w ++ x) (getD w 0 0) (getD w 0 0) 0))
+          ≡ (packed (nodeWords w) (getD w 0 0) 0 0 (getD w 2 0) && (eqb (countAt (nodeWords w) 0) (getD w 0 0) && nest (nodeWords w) (getD w 0 0) (getD w 0 0) 0))
       nodes h =
           let d = header-says w (length s) h in
           let r = nodes-room d in
@@ -111,11 +133,14 @@ module _ (w s x y : List ℕ) (head : 4 ≤ length w) (words : getD w 3 0 ≤ le
       rw (nodes-beyond, front w x 0 (omega arith))
       (read-beyond (nodeWords w) x s y (getD w 0 0) (getD w 0 0) 0 (nodes-room (d .head)) (packed-walk (nodeWords w) (length s) (getD w 0 0) 0 0 (getD w 2 0) bytes (d .packs)))
 
-  -- So is the answer of the check, also where it is a refusal.
-  pub checked-beyond : checked (w ++ x) (s ++ y) ≡ checked w s
-  unfolding checked
-  checked-beyond = rw sheet-beyond (go (isSheet w s) refl)
+  -- So is what the lists hold, also where it is a refusal.
+  pub held-beyond : held (w ++ x) (s ++ y) ≡ held w s
+  unfolding held
+  held-beyond = rw sheet-beyond (go (isSheet w s) refl)
     where
-      go : (t : Bool) → isSheet w s ≡ t → cond (isSheet w s) (cond (goodNames (treeOf (w ++ x) (s ++ y))) Good BadName) NotASheet ≡ cond (isSheet w s) (cond (goodNames (treeOf w s)) Good BadName) NotASheet
+      this : Trees → Held
+      this t = cond (goodNames t) (holding t) (refused BadName)
+
+      go : (t : Bool) → isSheet w s ≡ t → cond (isSheet w s) (this (treeOf (w ++ x) (s ++ y))) (refused NotASheet) ≡ cond (isSheet w s) (this (treeOf w s)) (refused NotASheet)
       go true h = rw (tree-beyond h)
       go false h = rw h

@@ -2,5 +2,6 @@
 pub mod TestLaws
 pub mod WalkLaws
 pub mod AnswerLaws
-pub mod CheckLaws
+pub mod GivenLaws
+pub mod PutLaws
 pub mod Beyond

@@ -12,7 +12,8 @@ use Rattle.kinds.specs.Name.{verifyName}
 use Rattle.kinds.specs.Parse.{maxU64, maxU8}
 use Rattle.kinds.specs.Sheet.{kindAt, firstAt, secondAt, countAt, labelAt, label, isContainerKind, numbers, nextName, arity, nests}
 use Rattle.kinds.specs.Sound.{goodName}
-use Rattle.kinds.proofs.SheetLaws.{both-left, both-right, arity-many, arity-one, arity-low, arity-high, arity-below, arity-next, nests-step, nests-zero, nests-over, nests-arity, nests-none, nextName-le, container-first}
+use Rattle.kinds.proofs.SheetLaws.{arity-many, arity-one, arity-low, arity-high, arity-below, arity-next, nests-step, nests-zero, nests-over, nests-arity, nests-none, nextName-le, container-first}
+use Rattle.kinds.proofs.TableLaws.{both-left, both-right}
 use Rattle.kinds.proofs.NodeLaws.{by-kind, label-none}
 use Rattle.sheet.specs.Walked.{inOrder, walked, fits, nodeFits}
 use Rattle.sheet.specs.declared.Walked.{Walked}
@@ -183,7 +184,15 @@ module _ (w : List ℕ) (n at : ℕ) where
           let a : nests w (countAt w at - 1) (at + 4) ≡ nests w (countAt w (at + 4)) (at + 4) = ap (λ (j : ℕ). nests w j (at + 4)) (omega arith) in
           let b : nests w (n - countAt w at) (at + 4 * countAt w at) ≡ nests w (n - 1 - countAt w (at + 4)) (at + 4 + 4 * countAt w (at + 4)) = ap₂ (nests w) (omega arith) (omega arith) in
           nests-step w n at (f .some-node) l
-          ∙ rw (f .children, a, b, nests-step w (countAt w (at + 4)) (at + 4) (omega arith) (omega arith), nests-none w (countAt w (at + 4) - countAt w (at + 4)) (at + 4 + 4 * countAt w (at + 4)) (omega arith), nests-step w (n - 1) (at + 4) (omega arith) (omega arith))
+          ∙ rw (
+            f .children,
+            a,
+            b,
+            nests-step w (countAt w (at + 4)) (at + 4) (omega arith) (omega arith),
+            nests-none w (countAt w (at + 4) - countAt w (at + 4)) (at + 4 + 4 * countAt w (at + 4))
+                (omega arith),
+            nests-step w (n - 1) (at + 4) (omega arith) (omega arith),
+          )
           (regroup (arity (kindAt w (at + 4)) (countAt w (at + 4)) (countAt w (at + 4 + 4))) (nests w (countAt w (at + 4) - 1) (at + 4 + 4)) (nests w (n - 1 - countAt w (at + 4)) (at + 4 + 4 * countAt w (at + 4))))
         where
           regroup : (x y z : Bool) → ((x && (y && true)) && z) ≡ (x && (y && z))
@@ -207,7 +216,8 @@ unfolding nextName
 container-next k b p h = rw h
 
 module _ (s w : List ℕ) (e : ℕ) where
-  order-step : (n at p : ℕ) (g : Bool) → 0 < n → inOrder s w n at p e g ≡ cond (numbers (kindAt w at) (firstAt w at) (secondAt w at) p e) (inOrder s w (n - 1) (at + 4) (nextName (kindAt w at) (secondAt w at) p) e (g && goodName (labelAt s w at))) Broken
+  order-step : (n at p : ℕ) (g : Bool) → 0 < n → inOrder s w n at p e g
+      ≡ cond (numbers (kindAt w at) (firstAt w at) (secondAt w at) p e) (inOrder s w (n - 1) (at + 4) (nextName (kindAt w at) (secondAt w at) p) e (g && goodName (labelAt s w at))) Broken
   unfolding inOrder
   order-step zero at p g h = absurd (omega arith)
   order-step (suc n) at p g h = rw (sub-one (suc n))
@@ -215,7 +225,8 @@ module _ (s w : List ℕ) (e : ℕ) where
   order-append : (j k at p : ℕ) (g : Bool) → inOrder s w (j + k) at p e g ≡ then (inOrder s w j at p e g) (λ (q : ℕ) (f : Bool). inOrder s w k (at + 4 * j) q e f)
   unfolding inOrder then
   order-append zero k at p g = let a : zero + k ≡ k = omega arith in let b : at ≡ at + 4 * zero = omega arith in ap₂ (λ (n i : ℕ). inOrder s w n i p e g) a b
-  order-append (suc j) k at p g = ap (λ (n : ℕ). inOrder s w n at p e g) (suc-add j k) ∙ go (numbers (kindAt w at) (firstAt w at) (secondAt w at) p e) _ _ (order-append j k (at + 4) (nextName (kindAt w at) (secondAt w at) p) (g && goodName (labelAt s w at)))
+  order-append (suc j) k at p g = ap (λ (n : ℕ). inOrder s w n at p e g) (suc-add j k)
+      ∙ go (numbers (kindAt w at) (firstAt w at) (secondAt w at) p e) _ _ (order-append j k (at + 4) (nextName (kindAt w at) (secondAt w at) p) (g && goodName (labelAt s w at)))
     where
       suc-add : (a b : ℕ) → suc a + b ≡ suc (a + b)
       suc-add a b = omega arith
@@ -230,7 +241,8 @@ module _ (s w : List ℕ) (e : ℕ) where
   order-le zero at p g q f h r = let d : p ≡ q = cc in omega arith
   order-le (suc n) at p g q f h r = go (numbers (kindAt w at) (firstAt w at) (secondAt w at) p e) refl (order-le n (at + 4) (nextName (kindAt w at) (secondAt w at) p) (g && goodName (labelAt s w at)) q f)
     where
-      go : (t : Bool) → numbers (kindAt w at) (firstAt w at) (secondAt w at) p e ≡ t → (nextName (kindAt w at) (secondAt w at) p ≤ e → inOrder s w n (at + 4) (nextName (kindAt w at) (secondAt w at) p) e (g && goodName (labelAt s w at)) ≡ Next q f → q ≤ e) → q ≤ e
+      go : (t : Bool) → numbers (kindAt w at) (firstAt w at) (secondAt w at) p e ≡ t
+          → (nextName (kindAt w at) (secondAt w at) p ≤ e → inOrder s w n (at + 4) (nextName (kindAt w at) (secondAt w at) p) e (g && goodName (labelAt s w at)) ≡ Next q f → q ≤ e) → q ≤ e
       go true m more = more (nextName-le (kindAt w at) (firstAt w at) (secondAt w at) p e h m) (rw m at r)
       go false m more = let d : Broken ≡ Next q f = rw m at r in let z : _≡_ {A = ℕ} 0 1 = cc in absurd (omega arith)
 
@@ -276,7 +288,8 @@ module _ (s w : List ℕ) (e : ℕ) where
 
       -- a container: the nodes below it, then those after its subtree
       module _ (k : isContainerKind (kindAt w at) ≡ true) where
-        walked-container : walked s w n at p e g ≡ then (walked s w (countAt w at - 1) (at + 4) (p + secondAt w at) e (g && verifyName (take (secondAt w at) (drop p s)))) (λ (q : ℕ) (f : Bool). walked s w (n - countAt w at) (at + 4 * countAt w at) q e f)
+        walked-container : walked s w n at p e g ≡ then (walked s w (countAt w at - 1) (at + 4) (p + secondAt w at) e (g && verifyName (take (secondAt w at) (drop p s))))
+            (λ (q : ℕ) (f : Bool). walked s w (n - countAt w at) (at + 4 * countAt w at) q e f)
         unfolding walked
         walked-container =
             let f = has-fit in
@@ -288,7 +301,8 @@ module _ (s w : List ℕ) (e : ℕ) where
             let d : n - 1 ≡ countAt w at - 1 + (n - countAt w at) = omega arith in
             let i : at + 4 * countAt w at ≡ at + 4 + 4 * (countAt w at - 1) = omega arith in
             rw (order-step n at p g h, has-numbers, a, b, d, order-append (countAt w at - 1) (n - countAt w at) (at + 4) (p + secondAt w at) (g && verifyName (take (secondAt w at) (drop p s))), nests-step w n at l r, f .children, i)
-            (then-if (nests w (countAt w at - 1) (at + 4)) (nests w (n - countAt w at) (at + 4 + 4 * (countAt w at - 1))) (inOrder s w (countAt w at - 1) (at + 4) (p + secondAt w at) e (g && verifyName (take (secondAt w at) (drop p s)))) (λ (q : ℕ) (t : Bool). inOrder s w (n - countAt w at) (at + 4 + 4 * (countAt w at - 1)) q e t))
+            (then-if (nests w (countAt w at - 1) (at + 4)) (nests w (n - countAt w at) (at + 4 + 4 * (countAt w at - 1)))
+            (inOrder s w (countAt w at - 1) (at + 4) (p + secondAt w at) e (g && verifyName (take (secondAt w at) (drop p s)))) (λ (q : ℕ) (t : Bool). inOrder s w (n - countAt w at) (at + 4 + 4 * (countAt w at - 1)) q e t))
 
         -- the last of the nodes: what follows its fields is what follows it
         pub walked-last : countAt w at ≡ n → (g' : Bool) → g' ≡ (g && verifyName (take (secondAt w at) (drop p s))) → walked s w n at p e g ≡ walked s w (n - 1) (at + 4) (p + secondAt w at) e g'

@@ -1,12 +1,14 @@
 -- What one pass over the nodes of a sheet finds. `w` is the words from the first node on, and `at` a node's first word in it.
-use Prim.Native.Nat.{ℕ, zero, suc, _+_}
+use Prim.Native.Nat.{ℕ, zero, suc, _+_, _≤_, _<_}
 use mathlib.Core.Bool.{Bool, cond, _&&_}
 use mathlib.Core.List.{List}
+use mathlib.Core.Path.{_≡_}
 use lib.Dec.{leb, eqb}
-use Rattle.kinds.specs.Sheet.{kindAt, firstAt, secondAt, countAt, labelAt, numbers, nextName, arity, nests}
-use Rattle.kinds.specs.Sound.{goodName}
-use Rattle.sheet.specs.declared.Checked.{Checked}
-use Rattle.sheet.specs.declared.Checked.the-variants.{NotASheet, BadName, Good}
+use lib.ListN.{length, getD}
+use Rattle.kinds.specs.Sheet.{kindAt, firstAt, secondAt, countAt, labelAt, numbers, nextName, arity, nests, isSheet, treeOf}
+use Rattle.kinds.specs.Sound.{goodName, goodNames}
+use Rattle.sheet.specs.declared.Verdict.{Verdict}
+use Rattle.sheet.specs.declared.Verdict.the-variants.{NotASheet, BadName, Good}
 use Rattle.sheet.specs.declared.Walked.{Walked}
 use Rattle.sheet.specs.declared.Walked.the-variants.{Broken, Next}
 
@@ -32,7 +34,23 @@ fits n k c d = leb 1 c && (leb c n && arity k c d)
 unfoldable pub nodeFits : List ℕ → ℕ → ℕ → ℕ → ℕ → Bool
 nodeFits w n at p e = numbers (kindAt w at) (firstAt w at) (secondAt w at) p e && fits n (kindAt w at) (countAt w at) (countAt w (at + 4))
 
+-- Refusals 3 and 4, or neither.
+unfoldable pub verdictOf : List ℕ → List ℕ → Verdict
+verdictOf words names = cond (isSheet words names) (cond (goodNames (treeOf words names)) Good BadName) NotASheet
+
 -- What a whole pass says of a sheet whose names end at `e`.
-unfoldable pub answer : ℕ → Walked → Checked
+unfoldable pub answer : ℕ → Walked → Verdict
 answer e Broken = NotASheet
 answer e (Next p good) = cond (eqb p e) (cond good Good BadName) NotASheet
+
+-- The words of a sheet of one code.
+pub record LoneCode (words : List ℕ) : Type 0 where
+  pub room : 8 ≤ length words
+  pub nodes : getD words 0 0 ≡ 1
+  pub offset : getD words 1 0 ≡ 4
+  pub names : getD words 2 0 ≡ 0
+  pub used : getD words 3 0 ≡ 8
+  pub kind : getD words 4 0 < 24
+  pub first : getD words 5 0 ≡ 0
+  pub second : getD words 6 0 ≡ 0
+  pub count : getD words 7 0 ≡ 1

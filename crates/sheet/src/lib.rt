@@ -1,18 +1,53 @@
-// The check of a sheet: a tree in a lent list of words and a lent list of name bytes.
+// The border of sheets, trees in a lent list of words and a lent list of name bytes: the check, what it hands to a walk over the
+// nodes, and putting nodes and the header. Only here is it known where the nodes begin.
 ghost use Prim.Native.Nat.{ℕ, _+_, _-_, _*_, _≤_, _<_};
 ghost use mathlib.Core.Path.{_≡_};
-ghost use mathlib.Core.Bool.{true, false, cond, _&&_, _||_};
+ghost use mathlib.Core.Bool.{true, false, _&&_, _||_};
+ghost use mathlib.Core.List.{[], _∷_};
 ghost use lib.Dec.{leb, eqb};
 ghost use lib.ListN.{length, take, drop};
 ghost use Rattle.kinds.specs.Name.{verifyName};
 ghost use Rattle.kinds.specs.Sheet.{kindAt, countAt, isContainerKind, numbers, header};
-ghost use Rattle.sheet.specs.Check.{checked};
-ghost use Rattle.sheet.specs.Walked.{walked, fits, nodeFits, answer};
+ghost use Rattle.sheet.specs.Answer.{checked, sooner, both, checkedBoth};
+ghost use Rattle.sheet.specs.Given.{Gives, GivesBoth};
+ghost use Rattle.sheet.specs.Put.{putNode, putHeader};
+ghost use Rattle.sheet.specs.Walked.{walked, fits, nodeFits, verdictOf, answer, LoneCode};
+use kinds::ARRAY;
+use kinds::ATOMIC;
+use kinds::BIT_FIELD;
+use kinds::MAX_NAMES;
+use kinds::MAX_NODES;
+use kinds::NONE;
+use kinds::POINTER;
+use kinds::PRIMITIVES;
+use kinds::Refusal;
+use kinds::TYPED_BIT_FIELD;
 use kinds::is_container;
 use kinds::verify_name;
 
-// Document 01's refusals 3 and 4, or neither.
+// The most bits of a bitfield.
+const MAX_BITS: u64 = 255;
+
+// The words before the first node.
+pub const HEADER: usize = 4;
+
+// What the check of a sheet finds: why there is none, the kind of a tree that is one code, or where the nodes begin in the words
+// and how many they are.
 pub enum Checked {
+    Refused(Refusal),
+    Code(u64),
+    Nodes(usize, usize),
+}
+
+// The same of two sheets, a code that stands beside another tree being one node.
+pub enum CheckedBoth {
+    Refused(Refusal),
+    Codes(u64, u64),
+    Nodes(usize, usize, usize, usize),
+}
+
+// Refusals 3 and 4, or neither.
+enum Verdict {
     NotASheet,
     BadName,
     Good,
@@ -40,19 +75,19 @@ fn numbers_ok(kind: u64, first: u64, second: u64) -> bool
     requires { ⌜ isContainerKind kind ≡ false ⌝ }
     ensures { λ r. ⌜ ((p e : ℕ) → r ≡ numbers kind first second p e) ⌝ }
 {
-    if kind == 25 {
-        return second <= 255;
+    if kind == TYPED_BIT_FIELD {
+        return second <= MAX_BITS;
     }
-    if kind == 28 {
+    if kind == ARRAY {
         return second == 0;
     }
     if first != 0 {
         return false;
     }
-    if kind == 24 {
-        return second <= 255;
+    if kind == BIT_FIELD {
+        return second <= MAX_BITS;
     }
-    if 31 < kind {
+    if NONE < kind {
         return false;
     }
     second == 0
@@ -80,10 +115,10 @@ fn arity_ok(nodes: &[u64], at: usize, kind: u64, count: u64, left: usize) -> boo
     requires { ⌜ (isContainerKind kind ≡ false) × (0 < left) × (at + 4 * left ≤ length (now nodes)) ⌝ }
     ensures { λ r. ⌜ r ≡ fits left kind count (countAt (now (nodes .entry)) (at + 4)) ⌝ }
 {
-    if kind < 25 {
+    if kind < TYPED_BIT_FIELD {
         return count == 1;
     }
-    if 28 < kind {
+    if ARRAY < kind {
         return count == 1;
     }
     child_ok(nodes, at, count, left)
@@ -102,10 +137,10 @@ fn no_numbers(first: u64, second: u64) -> bool
 fn is_indirection(kind: u64) -> bool
     ensures { λ r. ⌜ r ≡ (eqb kind 26 || eqb kind 27) ⌝ }
 {
-    if kind == 26 {
+    if kind == POINTER {
         return true;
     }
-    kind == 27
+    kind == ATOMIC
 }
 
 // Whether the node at `at`, no container, can stand first among the `left` nodes from there on. Codes and what points to others,
@@ -115,7 +150,7 @@ fn plain_ok(nodes: &[u64], at: usize, left: usize) -> bool
     ensures { λ r. ⌜ ((p e : ℕ) → r ≡ nodeFits (now (nodes .entry)) left at p e) ⌝ }
 {
     let kind = nodes[at];
-    if kind < 24 {
+    if kind < PRIMITIVES {
         if !no_numbers(nodes[at + 1], nodes[at + 2]) {
             return false;
         }
@@ -211,7 +246,7 @@ fn check_nodes(
 fn header_ok(words: &[u64], room: usize) -> bool
     ensures { λ r. ⌜ r ≡ header (now (words .entry)) room ⌝ }
 {
-    if words.len() < 4 {
+    if words.len() < HEADER {
         return false;
     }
     let nodes = words[0];
@@ -220,16 +255,16 @@ fn header_ok(words: &[u64], room: usize) -> bool
     if nodes < 1 {
         return false;
     }
-    if 2001 < nodes {
+    if MAX_NODES < nodes {
         return false;
     }
-    if words[1] != 4 {
+    if words[1] != HEADER as u64 {
         return false;
     }
-    if 2000 < bytes {
+    if MAX_NAMES < bytes {
         return false;
     }
-    if used != 4 + 4 * nodes {
+    if used != HEADER as u64 + 4 * nodes {
         return false;
     }
     if (words.len() as u64) < used {
@@ -239,50 +274,167 @@ fn header_ok(words: &[u64], room: usize) -> bool
 }
 
 // What a whole pass says of a sheet whose names end at `end`.
-fn answer_of(end: u64, pass: Walked) -> Checked
+fn answer_of(end: u64, pass: Walked) -> Verdict
     ensures { λ r. ⌜ r ≡ answer end pass ⌝ }
 {
     match pass {
-        Walked::Broken => Checked::NotASheet,
+        Walked::Broken => Verdict::NotASheet,
         Walked::Next(p, good) => {
             if p != end {
-                return Checked::NotASheet;
+                return Verdict::NotASheet;
             }
             if good {
-                return Checked::Good;
+                return Verdict::Good;
             }
-            Checked::BadName
+            Verdict::BadName
         }
     }
-}
-
-// What a pass over one code with these numbers finds.
-fn lone_code(first: u64, second: u64) -> Walked
-    ensures { λ r. ⌜ r ≡ cond (eqb first 0 && eqb second 0) (Walked.Next 0 true) Walked.Broken ⌝ }
-{
-    if no_numbers(first, second) {
-        return Walked::Next(0, true);
-    }
-    Walked::Broken
 }
 
 // Whether the two lists begin with a sheet, and then whether each container of it has a good name.
-pub fn check(words: &[u64], names: &[u8]) -> Checked
-    ensures { λ r. ⌜ r ≡ checked (now (words .entry)) (now (names .entry)) ⌝ }
+fn judged(words: &[u64], names: &[u8]) -> Verdict
+    ensures { λ r. ⌜ r ≡ verdictOf (now (words .entry)) (now (names .entry)) ⌝ }
 {
     if !header_ok(words, names.len()) {
-        return Checked::NotASheet;
+        return Verdict::NotASheet;
     }
     let nodes = words[0];
-    if words[7] != nodes {
-        return Checked::NotASheet;
+    if words[HEADER + 3] != nodes {
+        return Verdict::NotASheet;
     }
     let end = words[2];
-    if nodes == 1 {
-        if words[4] < 24 {
-            return answer_of(end, lone_code(words[5], words[6]));
+    let pass = check_nodes(
+        &words[HEADER..],
+        &names[0..],
+        0,
+        nodes as usize,
+        0,
+        end,
+        true,
+    );
+    answer_of(end, pass)
+}
+
+fn check_sheet(words: &[u64], names: &[u8]) -> Checked
+    ensures { λ r. ⌜ r ≡ checked (now (words .entry)) (now (names .entry)) ⌝ }
+{
+    match judged(words, names) {
+        Verdict::NotASheet => Checked::Refused(Refusal::NotASheet),
+        Verdict::BadName => Checked::Refused(Refusal::BadName),
+        Verdict::Good => {
+            let kind = words[HEADER];
+            if kind < PRIMITIVES {
+                return Checked::Code(kind);
+            }
+            Checked::Nodes(HEADER, words[0] as usize)
         }
     }
-    let pass = check_nodes(&words[4..], &names[0..], 0, nodes as usize, 0, end, true);
-    answer_of(end, pass)
+}
+
+// Whether the words are the sheet of one code: the case that is asked for most, told apart before all else.
+fn lone_code(words: &[u64]) -> bool
+    ensures { λ r. ⌜ (r ≡ true → LoneCode (now (words .entry))) ⌝ }
+{
+    if words.len() < HEADER + 4 {
+        return false;
+    }
+    if words[0] != 1 {
+        return false;
+    }
+    if words[1] != HEADER as u64 {
+        return false;
+    }
+    if words[2] != 0 {
+        return false;
+    }
+    if words[3] != HEADER as u64 + 4 {
+        return false;
+    }
+    if PRIMITIVES <= words[HEADER] {
+        return false;
+    }
+    if !no_numbers(words[HEADER + 1], words[HEADER + 2]) {
+        return false;
+    }
+    words[HEADER + 3] == 1
+}
+
+// The check of a sheet.
+pub fn check(words: &[u64], names: &[u8]) -> Checked
+    ensures answers { λ r. ⌜ r ≡ checked (now (words .entry)) (now (names .entry)) ⌝ }
+    ensures gives { λ r. ⌜ Gives (now (words .entry)) (now (names .entry)) r ⌝ }
+{
+    if lone_code(words) {
+        return Checked::Code(words[HEADER]);
+    }
+    check_sheet(&words[0..], &names[0..])
+}
+
+fn sooner_of(a: Refusal, b: Refusal) -> Refusal
+    ensures { λ r. ⌜ r ≡ sooner a b ⌝ }
+{
+    if a.number() <= b.number() {
+        return a;
+    }
+    b
+}
+
+fn both_of(a: Checked, b: Checked) -> CheckedBoth
+    ensures { λ r. ⌜ r ≡ both a b ⌝ }
+{
+    match a {
+        Checked::Refused(r) => match b {
+            Checked::Refused(q) => CheckedBoth::Refused(sooner_of(r, q)),
+            Checked::Code(_) => CheckedBoth::Refused(r),
+            Checked::Nodes(_, _) => CheckedBoth::Refused(r),
+        },
+        Checked::Code(k) => match b {
+            Checked::Refused(q) => CheckedBoth::Refused(q),
+            Checked::Code(j) => CheckedBoth::Codes(k, j),
+            Checked::Nodes(g, m) => CheckedBoth::Nodes(HEADER, 1, g, m),
+        },
+        Checked::Nodes(f, n) => match b {
+            Checked::Refused(q) => CheckedBoth::Refused(q),
+            Checked::Code(_) => CheckedBoth::Nodes(f, n, HEADER, 1),
+            Checked::Nodes(g, m) => CheckedBoth::Nodes(f, n, g, m),
+        },
+    }
+}
+
+// The check of two sheets.
+pub fn check_both(aw: &[u64], an: &[u8], bw: &[u64], bn: &[u8]) -> CheckedBoth
+    ensures answers { λ r. ⌜ r ≡ checkedBoth (now (aw .entry)) (now (an .entry)) (now (bw .entry)) (now (bn .entry)) ⌝ }
+    ensures gives { λ r. ⌜ GivesBoth (now (aw .entry)) (now (an .entry)) (now (bw .entry)) (now (bn .entry)) r ⌝ }
+{
+    both_of(check(&aw[0..], &an[0..]), check(&bw[0..], &bn[0..]))
+}
+
+// Node `n` of the words from the first node on. Does nothing where there is no room for it.
+pub fn put_node(nodes: &mut [u64], n: usize, kind: u64, first: u64, second: u64, count: u64)
+    ensures { λ _. ⌜ now (nodes .exit) ≡ putNode n (kind ∷ first ∷ second ∷ count ∷ []) (now (nodes .entry)) ⌝ }
+{
+    if nodes.len() / 4 <= n {
+        return;
+    }
+    let at = 4 * n;
+    nodes[at] = kind;
+    nodes[at + 1] = first;
+    nodes[at + 2] = second;
+    nodes[at + 3] = count;
+}
+
+// The header of a sheet of so many nodes and name bytes. Does nothing where there is no room for them.
+pub fn put_header(words: &mut [u64], nodes: usize, names: usize)
+    ensures { λ _. ⌜ now (words .exit) ≡ putHeader nodes names (now (words .entry)) ⌝ }
+{
+    if words.len() < HEADER {
+        return;
+    }
+    if (words.len() - HEADER) / 4 < nodes {
+        return;
+    }
+    words[0] = nodes as u64;
+    words[1] = HEADER as u64;
+    words[2] = names as u64;
+    words[3] = (HEADER + 4 * nodes) as u64;
 }

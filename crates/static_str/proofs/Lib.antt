@@ -1,9 +1,8 @@
 -- Laws of the definitions that belong to no one function.
 pub mod OutputLaws
 pub mod NumberLaws
-pub mod OutcomeLaws
 pub mod PrintLaws
 pub mod PartLaws
 pub mod PassLaws
 pub mod TurnLaws
-pub mod SheetTextLaws
+pub mod AnswerLaws

@@ -39,12 +39,14 @@ digits-append zero g n acc p q = absurd (omega arith)
 digits-append (suc f) zero n acc p q = absurd (omega arith)
 digits-append (suc f) (suc g) n acc p q = go (ltb n 10) refl (λ a b h k. digits-append f g (n / 10) a h k) (λ b h k. digits-acc g (n / 10) b)
   where
-    go : (t : Bool) → ltb n 10 ≡ t → ((a : List ℕ) → ℕ → n / 10 < f → n / 10 < g → digits f (n / 10) a ≡ digits g (n / 10) [] ++ a) → ((a : List ℕ) → n / 10 < g → n / 10 < g → digits g (n / 10) a ≡ digits g (n / 10) [] ++ a) → digits (suc f) n acc ≡ digits (suc g) n [] ++ acc
+    go : (t : Bool) → ltb n 10 ≡ t → ((a : List ℕ) → ℕ → n / 10 < f → n / 10 < g → digits f (n / 10) a ≡ digits g (n / 10) [] ++ a)
+        → ((a : List ℕ) → n / 10 < g → n / 10 < g → digits g (n / 10) a ≡ digits g (n / 10) [] ++ a) → digits (suc f) n acc ≡ digits (suc g) n [] ++ acc
     go true e i j = digits-low f n acc (ltb-true n 10 e) ∙ ap (λ (z : List ℕ). z ++ acc) (sym (digits-low g n [] (ltb-true n 10 e)))
     go false e i j =
         let h = ltb-false n 10 e in
         digits-high f n acc h ∙ i ((48 + n % 10) ∷ acc) 0 (omega arith) (omega arith)
-        ∙ sym (ap (λ (z : List ℕ). z ++ acc) (digits-high g n [] h ∙ j ((48 + n % 10) ∷ []) (omega arith) (omega arith)) ∙ append-assoc (digits g (n / 10) []) ((48 + n % 10) ∷ []) acc)
+        ∙ sym (ap (λ (z : List ℕ). z ++ acc) (digits-high g n [] h ∙ j ((48 + n % 10) ∷ []) (omega arith) (omega arith))
+        ∙ append-assoc (digits g (n / 10) []) ((48 + n % 10) ∷ []) acc)
 
 pub decimal-low : (n : ℕ) → n < 10 → decimal n ≡ (48 + n) ∷ []
 unfolding decimal

@@ -34,9 +34,14 @@ module _ (out : List ℕ) (at : ℕ) (xs : List ℕ) (p : at + length xs ≤ len
   written-append ys =
       let f = front in
       let g : written out at xs ≡ (take at out ++ xs) ++ drop (at + length xs) out = sym (append-assoc (take at out) xs (drop (at + length xs) out)) in
-      let t : take (at + length xs) (written out at xs) ≡ take at out ++ xs = ap (take (at + length xs)) g ∙ take-at (take at out ++ xs) (drop (at + length xs) out) (at + length xs) f in
-      let u : drop (at + length xs + length ys) (written out at xs) ≡ drop (at + length (xs ++ ys)) out = sym (drop-drop (length ys) (at + length xs) (written out at xs)) ∙ ap (drop (length ys)) (ap (drop (at + length xs)) g ∙ drop-at (take at out ++ xs) (drop (at + length xs) out) (at + length xs) f) ∙ drop-drop (length ys) (at + length xs) out ∙ ap (λ (n : ℕ). drop n out) (more ys (length-append xs ys)) in
-      ap₂ (λ (x y : List ℕ). x ++ (ys ++ y)) t u ∙ append-assoc (take at out) xs (ys ++ drop (at + length (xs ++ ys)) out) ∙ ap (λ (z : List ℕ). take at out ++ z) (sym (append-assoc xs ys (drop (at + length (xs ++ ys)) out)))
+      let t : take (at + length xs) (written out at xs) ≡ take at out ++ xs = ap (take (at + length xs)) g
+      ∙ take-at (take at out ++ xs) (drop (at + length xs) out) (at + length xs) f in
+      let u : drop (at + length xs + length ys) (written out at xs) ≡ drop (at + length (xs ++ ys)) out = sym
+      (drop-drop (length ys) (at + length xs) (written out at xs)) ∙ ap (drop (length ys))
+      (ap (drop (at + length xs)) g ∙ drop-at (take at out ++ xs) (drop (at + length xs) out) (at + length xs) f) ∙ drop-drop (length ys) (at + length xs) out
+      ∙ ap (λ (n : ℕ). drop n out) (more ys (length-append xs ys)) in
+      ap₂ (λ (x y : List ℕ). x ++ (ys ++ y)) t u ∙ append-assoc (take at out) xs (ys ++ drop (at + length (xs ++ ys)) out)
+      ∙ ap (λ (z : List ℕ). take at out ++ z) (sym (append-assoc xs ys (drop (at + length (xs ++ ys)) out)))
     where
       more : {n : ℕ} (zs : List ℕ) → n ≡ length xs + length zs → at + length xs + length zs ≡ at + n
       more zs q = omega arith
@@ -49,7 +54,8 @@ pub wrote-byte : (out : List ℕ) (at b : ℕ) → at < length out → Wrote out
 wrote-byte out at b p = record { place = refl; text = written-set out at b p }
 
 -- a turn of a copy, and its end
-pub written-more : (out s : List ℕ) (at i b : ℕ) → at + length s ≤ length out → i < length s → b ≡ getD s i 0 → set (written out at (take i s)) (at + i) b ≡ written out at (take (i + 1) s)
+pub written-more : (out s : List ℕ) (at i b : ℕ) → at + length s ≤ length out → i < length s → b ≡ getD s i 0 → set (written out at (take i s)) (at + i) b
+    ≡ written out at (take (i + 1) s)
 written-more out s at i b p q e =
     let n = length-take-le i s (omega arith) in
     let l = written-length out at (take i s) (omega arith) in
@@ -86,7 +92,8 @@ module _ {before : List ℕ} {start : ℕ} {all out : List ℕ} {at : ℕ} where
       let r = h .room in
       omega arith
 
-  pub then-write : {after : List ℕ} {next : ℕ} (xs rest : List ℕ) → ToWrite before start all out at (xs ++ rest) → Wrote out at xs after next → ToWrite before start all after next rest
+  pub then-write : {after : List ℕ} {next : ℕ} (xs rest : List ℕ) → ToWrite before start all out at (xs ++ rest) → Wrote out at xs after next
+      → ToWrite before start all after next rest
   then-write {after} {next} xs rest h w =
       let l = length-append xs rest in
       let r = h .room in
@@ -99,27 +106,30 @@ module _ {before : List ℕ} {start : ℕ} {all out : List ℕ} {at : ℕ} where
         text = ap₂ (λ (o : List ℕ) (n : ℕ). written o n rest) (w .text) (w .place) ∙ written-append out at xs (room-for xs rest h) rest ∙ h .text;
       }
 
-  pub last-write : {after : List ℕ} {next : ℕ} (xs : List ℕ) → ToWrite before start all out at xs → Wrote out at xs after next → Wrote before start all after next
+  pub last-write : {after : List ℕ} {next : ℕ} (xs : List ℕ) → ToWrite before start all out at xs → Wrote out at xs after next
+      → Wrote before start all after next
   last-write xs h w = record { place = w .place ∙ h .place; text = w .text ∙ h .text }
 
   pub all-written : ToWrite before start all out at [] → Wrote before start all out at
   all-written h = last-write [] h (wrote-none out at)
 
 -- two pieces, one after the other
-pub wrote-append : {out mid after : List ℕ} {at m next : ℕ} (xs ys : List ℕ) → at + length (xs ++ ys) ≤ length out → Wrote out at xs mid m → Wrote mid m ys after next → Wrote out at (xs ++ ys) after next
+pub wrote-append : {out mid after : List ℕ} {at m next : ℕ} (xs ys : List ℕ) → at + length (xs ++ ys) ≤ length out → Wrote out at xs mid m
+    → Wrote mid m ys after next → Wrote out at (xs ++ ys) after next
 wrote-append {out} {mid} {after} {at} {m} {next} xs ys p v w = last-write ys (then-write xs ys (to-write out at (xs ++ ys) p) v) w
 
 -- three pieces
-module _ {out : List ℕ} {at : ℕ} (xs ys zs : List ℕ) (p : at + length (xs ++ (ys ++ zs)) ≤ length out) {out₁ : List ℕ} {at₁ : ℕ} (x : Wrote out at xs out₁ at₁) where
-  after-first : ToWrite out at (xs ++ (ys ++ zs)) out₁ at₁ (ys ++ zs)
-  after-first = then-write xs (ys ++ zs) (to-write out at (xs ++ (ys ++ zs)) p) x
+module _ {out : List ℕ} {at : ℕ} (xs ys zs : List ℕ) (p : at + length (xs ++ (ys ++ zs)) ≤ length out) {out₁ : List ℕ} {at₁ : ℕ} (x : Wrote out at xs out₁ at₁)
+  where
+    after-first : ToWrite out at (xs ++ (ys ++ zs)) out₁ at₁ (ys ++ zs)
+    after-first = then-write xs (ys ++ zs) (to-write out at (xs ++ (ys ++ zs)) p) x
 
-  pub three-second : at₁ + length ys ≤ length out₁
-  three-second = room-for ys zs after-first
+    pub three-second : at₁ + length ys ≤ length out₁
+    three-second = room-for ys zs after-first
 
-  module _ {out₂ : List ℕ} {at₂ : ℕ} (y : Wrote out₁ at₁ ys out₂ at₂) where
-    pub three-third : at₂ + length zs ≤ length out₂
-    three-third = then-write ys zs after-first y .room
+    module _ {out₂ : List ℕ} {at₂ : ℕ} (y : Wrote out₁ at₁ ys out₂ at₂) where
+      pub three-third : at₂ + length zs ≤ length out₂
+      three-third = then-write ys zs after-first y .room
 
-    pub three-written : {after : List ℕ} {next : ℕ} → Wrote out₂ at₂ zs after next → Wrote out at (xs ++ (ys ++ zs)) after next
-    three-written z = last-write zs (then-write ys zs after-first y) z
+      pub three-written : {after : List ℕ} {next : ℕ} → Wrote out₂ at₂ zs after next → Wrote out at (xs ++ (ys ++ zs)) after next
+      three-written z = last-write zs (then-write ys zs after-first y) z

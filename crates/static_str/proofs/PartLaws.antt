@@ -10,6 +10,7 @@ use lib.ListN.{length, take, drop, length-append, length-drop}
 use lib.Seq.{length-take-le}
 use Rattle.kinds.specs.Container.{startByte, endByte}
 use Rattle.kinds.specs.Level.{containerIncludeFields}
+use Rattle.kinds.specs.Kind.{containerOf}
 use Rattle.kinds.specs.Primitive.{codes, code}
 use Rattle.kinds.specs.Print.{decimal, fields}
 use Rattle.kinds.specs.Sheet.{isContainerKind}
@@ -18,7 +19,7 @@ use Rattle.kinds.specs.declared.Fields.the-variants.{Included, Dropped}
 use Rattle.kinds.specs.declared.NestingLevel.{NestingLevel}
 use Rattle.kinds.specs.declared.NestingLevel.the-variants.{Top, Within, Bottom}
 use Rattle.kinds.proofs.TableLaws.{everyBelow, passBelow}
-use Rattle.static_str.specs.Parts.{containerOf, opening, closing}
+use Rattle.static_str.specs.Parts.{opening, closing}
 
 -- `=` stands where fields are included
 pub fields-shown : (v u : NestingLevel) → containerIncludeFields v ≡ Included u → fields v [] ≡ 61 ∷ []
@@ -147,11 +148,13 @@ module _ (s : List ℕ) (k a b : ℕ) (v : NestingLevel) where
   pub own-array : k ≡ 28 → 2 + length (decimal a) ≡ length (opening s k a b v) + length (closing k b)
   own-array p = rw (opening-array p, closing-array k b p) (omega arith)
 
-  pub own-none : 24 ≤ k → isContainerKind k ≡ false → (k ≡ 24 → ⊥) → (k ≡ 25 → ⊥) → (k ≡ 26 → ⊥) → (k ≡ 27 → ⊥) → (k ≡ 28 → ⊥) → 0 ≡ length (opening s k a b v) + length (closing k b)
+  pub own-none : 24 ≤ k → isContainerKind k ≡ false → (k ≡ 24 → ⊥) → (k ≡ 25 → ⊥) → (k ≡ 26 → ⊥) → (k ≡ 27 → ⊥) → (k ≡ 28 → ⊥) → 0
+      ≡ length (opening s k a b v) + length (closing k b)
   own-none p h d e f g i = rw (opening-none p h d e f g i, closing-none k b e i h)
 
   -- the name as the code takes it out of the names
-  pub opening-slice : (x : ContainerKind) → x ≡ containerOf k → 24 ≤ k → isContainerKind k ≡ true → startByte x ∷ (take (a + b - a) (drop a s) ++ fields v []) ≡ opening s k a b v
+  pub opening-slice : (x : ContainerKind) → x ≡ containerOf k → 24 ≤ k → isContainerKind k ≡ true → startByte x ∷ (take (a + b - a) (drop a s) ++ fields v [])
+      ≡ opening s k a b v
   opening-slice x e p h = ap₂ (λ (c : ContainerKind) (n : ℕ). startByte c ∷ (take n (drop a s) ++ fields v [])) e (plain a b) ∙ sym (opening-container p h)
     where
       plain : (m n : ℕ) → m + n - m ≡ n

@@ -6,13 +6,14 @@ use mathlib.Core.Bool.{true}
 use mathlib.Core.List.{List, _++_, append-assoc}
 use lib.ListN.{length, length-append}
 use Rattle.kinds.specs.Print.{printNode, print}
+use Rattle.kinds.specs.Kind.{childrenLevel}
 use Rattle.kinds.specs.Sheet.{kindAt, countAt, labelAt, trees, nests}
 use Rattle.kinds.specs.Tree.{inside}
 use Rattle.kinds.specs.Walk.{TreesAt}
 use Rattle.kinds.specs.declared.NestingLevel.{NestingLevel}
 use Rattle.kinds.proofs.SheetLaws.{trees-step, nests-on}
 use Rattle.kinds.proofs.NodeLaws.{node-arity, node-inner, first-some, first-within, first-node, other-trees, walk-inner}
-use Rattle.static_str.specs.Parts.{childrenLevel, childrenText, fieldsBelow, passed, passedText, maxNodeText, PassedLength, TreesLength}
+use Rattle.static_str.specs.Parts.{childrenText, fieldsBelow, passed, passedText, maxNodeText, PassedLength, TreesLength}
 use Rattle.static_str.specs.declared.Below.{Below}
 use Rattle.static_str.specs.declared.Below.the-variants.{Same, Hidden, Deeper}
 use Rattle.static_str.proofs.PrintLaws.{no-text, dropped-text, included-text}
@@ -28,13 +29,16 @@ module _ (w : List ℕ) where
       let s = first-some w at (suc a) h (omega arith) in
       nests-on w (suc a + b) at s (omega arith) (node-arity w at n) (node-inner w at n .nested)
       ∙ ap (λ (m : ℕ). nests w m (at + 4 * countAt w at)) (omega arith)
-      ∙ nests-run f (suc a - countAt w at) b (at + 4 * countAt w at) (omega arith) (other-trees w at (suc a) h (omega arith)) (subst (λ (m : ℕ). nests w b m ≡ true) (omega arith) q)
+      ∙ nests-run f (suc a - countAt w at) b (at + 4 * countAt w at) (omega arith) (other-trees w at (suc a) h (omega arith))
+      (subst (λ (m : ℕ). nests w b m ≡ true) (omega arith) q)
 
 module _ (s w : List ℕ) (v : NestingLevel) where
   text-run : (f a b at : ℕ) → a ≤ f → TreesAt w at a → print v (trees s w (a + b) at) ≡ print v (trees s w a at) ++ print v (trees s w b (at + 4 * a))
   unfolding print
-  text-run zero zero b at p h = ap₂ (λ (m n : ℕ). print v (trees s w m n)) (omega arith) (omega arith) ∙ ap (λ (x : List ℕ). x ++ print v (trees s w b (at + 4 * zero))) (sym (no-text s w v zero at (omega arith)))
-  text-run (suc f) zero b at p h = ap₂ (λ (m n : ℕ). print v (trees s w m n)) (omega arith) (omega arith) ∙ ap (λ (x : List ℕ). x ++ print v (trees s w b (at + 4 * zero))) (sym (no-text s w v zero at (omega arith)))
+  text-run zero zero b at p h = ap₂ (λ (m n : ℕ). print v (trees s w m n)) (omega arith) (omega arith)
+      ∙ ap (λ (x : List ℕ). x ++ print v (trees s w b (at + 4 * zero))) (sym (no-text s w v zero at (omega arith)))
+  text-run (suc f) zero b at p h = ap₂ (λ (m n : ℕ). print v (trees s w m n)) (omega arith) (omega arith)
+      ∙ ap (λ (x : List ℕ). x ++ print v (trees s w b (at + 4 * zero))) (sym (no-text s w v zero at (omega arith)))
   text-run zero (suc a) b at p h = absurd (omega arith)
   text-run (suc f) (suc a) b at p h =
       let c = first-within w at (suc a) h (omega arith) in
@@ -60,7 +64,9 @@ module _ (w : List ℕ) (at m : ℕ) (h : TreesAt w at m) (p : 0 < m) where
       let r = h .room in
       record {
         room = omega arith;
-        nested = sym (ap₂ (λ (k j : ℕ). nests w k j) (omega arith) (omega arith)) ∙ nests-run w (countAt w at - 1) (countAt w at - 1) (m - countAt w at) (at + 4) (omega arith) n (subst (λ (j : ℕ). nests w (m - countAt w at) j ≡ true) (omega arith) (o .nested));
+        nested = sym (ap₂ (λ (k j : ℕ). nests w k j) (omega arith) (omega arith))
+            ∙ nests-run w (countAt w at - 1) (countAt w at - 1) (m - countAt w at) (at + 4) (omega arith) n
+            (subst (λ (j : ℕ). nests w (m - countAt w at) j ≡ true) (omega arith) (o .nested));
       }
 
   pass-trees-of : (b : Below) → TreesAt w (at + 4 * passed b (countAt w at)) (m - passed b (countAt w at))
@@ -82,7 +88,8 @@ module _ (w : List ℕ) (at m : ℕ) (h : TreesAt w at m) (p : 0 < m) where
   pass-within (Deeper u) = first-within w at m h p
 
   module _ (s : List ℕ) (v : NestingLevel) where
-    inner-text : length (print v (trees s w (m - 1) (at + 4 * 1))) ≡ length (print v (trees s w (countAt w at - 1) (at + 4))) + length (print v (trees s w (m - countAt w at) (at + 4 * countAt w at)))
+    inner-text : length (print v (trees s w (m - 1) (at + 4 * 1))) ≡ length (print v (trees s w (countAt w at - 1) (at + 4))) + length
+        (print v (trees s w (m - countAt w at) (at + 4 * countAt w at)))
     inner-text =
         let c = first-within w at m h p in
         let i = first-some w at m h p in
@@ -91,7 +98,10 @@ module _ (w : List ℕ) (at m : ℕ) (h : TreesAt w at m) (p : 0 < m) where
         ∙ length-append (print v (trees s w (countAt w at - 1) (at + 4))) (print v (trees s w (m - countAt w at) (at + 4 + 4 * (countAt w at - 1))))
         ∙ ap (λ (j : ℕ). length (print v (trees s w (countAt w at - 1) (at + 4))) + length (print v (trees s w (m - countAt w at) j))) (omega arith)
 
-    pub pass-text : (b : Below) → fieldsBelow v b ≡ childrenLevel (kindAt w at) v → length (passedText b (trees s w (countAt w at - 1) (at + 4))) + length (print v (trees s w (m - passed b (countAt w at)) (at + 4 * passed b (countAt w at)))) ≡ length (childrenText s w at v) + length (print v (trees s w (m - countAt w at) (at + 4 * countAt w at)))
+    pub pass-text : (b : Below) → fieldsBelow v b ≡ childrenLevel (kindAt w at) v
+        → length (passedText b (trees s w (countAt w at - 1) (at + 4))) + length
+        (print v (trees s w (m - passed b (countAt w at)) (at + 4 * passed b (countAt w at))))
+        ≡ length (childrenText s w at v) + length (print v (trees s w (m - countAt w at) (at + 4 * countAt w at)))
     pass-text Same e = omega (arith, inner-text, ap length (included-text s w v at v (sym e)))
     pass-text Hidden e = omega (arith, ap length (dropped-text s w v at (sym e)))
     pass-text (Deeper u) e = omega (arith, ap length (included-text s w v at u (sym e)))
@@ -102,9 +112,12 @@ module _ (w : List ℕ) (at : ℕ) where
   same-passed e = subst (λ (x : Below). PassedLength w at x 0 × (0 + maxNodeText ≤ maxNodeText * passed x (countAt w at))) (sym e) (λ s k. refl, omega arith)
 
   pub hidden-passed : {b : Below} → b ≡ Hidden → 1 ≤ countAt w at → PassedLength w at b 0 × (0 + maxNodeText ≤ maxNodeText * passed b (countAt w at))
-  hidden-passed e p = subst (λ (x : Below). PassedLength w at x 0 × (0 + maxNodeText ≤ maxNodeText * passed x (countAt w at))) (sym e) (λ s k. refl, omega arith)
+  hidden-passed e p = subst (λ (x : Below). PassedLength w at x 0 × (0 + maxNodeText ≤ maxNodeText * passed x (countAt w at))) (sym e)
+      (λ s k. refl, omega arith)
 
-  pub deeper-passed : {b : Below} {u : NestingLevel} {r : ℕ} → b ≡ Deeper u → 1 ≤ countAt w at → TreesLength w (at + 4) (countAt w at - 1) u r × (r ≤ maxNodeText * (countAt w at - 1)) → PassedLength w at b r × (r + maxNodeText ≤ maxNodeText * passed b (countAt w at))
+  pub deeper-passed : {b : Below} {u : NestingLevel} {r : ℕ} → b ≡ Deeper u → 1 ≤ countAt w at → TreesLength w (at + 4) (countAt w at - 1) u r ×
+      (r ≤ maxNodeText * (countAt w at - 1)) → PassedLength w at b r × (r + maxNodeText ≤ maxNodeText * passed b (countAt w at))
   deeper-passed {b} {u} {r} e p l =
       let f = l .1 in
-      subst (λ (x : Below). PassedLength w at x r × (r + maxNodeText ≤ maxNodeText * passed x (countAt w at))) (sym e) (λ s k. l .0 s (walk-inner w (length s) at (countAt w at) k (countAt w at - 1) (omega arith)), omega arith)
+      subst (λ (x : Below). PassedLength w at x r × (r + maxNodeText ≤ maxNodeText * passed x (countAt w at))) (sym e)
+      (λ s k. l .0 s (walk-inner w (length s) at (countAt w at) k (countAt w at - 1) (omega arith)), omega arith)

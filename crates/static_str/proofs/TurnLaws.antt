@@ -6,17 +6,18 @@ use mathlib.Core.List.{List, _++_, append-nil}
 use borrow.Author.Tests.{ne-eqb}
 use lib.ListN.{length}
 use Rattle.kinds.specs.Print.{print}
+use Rattle.kinds.specs.Kind.{childrenLevel, insideKind}
 use Rattle.kinds.specs.Sheet.{kindAt, firstAt, secondAt, countAt, trees}
 use Rattle.kinds.specs.Walk.{NodeAt, TreesAt, KindAndName, KindsAndNames}
 use Rattle.kinds.specs.declared.Fields.the-variants.{Included}
 use Rattle.kinds.specs.declared.NestingLevel.{NestingLevel}
 use Rattle.kinds.proofs.NodeLaws.{node-inner, walk-inner, first-some, first-within, first-node, other-trees, walk-here, walk-first, walk-rest}
 use Rattle.static_str.specs.Output.{Wrote}
-use Rattle.static_str.specs.Parts.{opening, closing, childrenLevel, childrenText, fieldsBelow, passed, maxNodeText, OwnLength, PassedLength, TreesLength}
+use Rattle.static_str.specs.Parts.{opening, closing, childrenText, fieldsBelow, passed, maxNodeText, OwnLength, PassedLength, TreesLength}
 use Rattle.static_str.specs.declared.Below.{Below}
 use Rattle.static_str.proofs.OutputLaws.{ToWrite, to-write, room-for, then-write, all-written, written-length}
 use Rattle.static_str.proofs.PartLaws.{closing-none}
-use Rattle.static_str.proofs.PrintLaws.{trees-text, trees-length, no-text, included-text}
+use Rattle.static_str.proofs.PrintLaws.{trees-text, trees-length, no-text, included-text, held-shown}
 use Rattle.static_str.proofs.PassLaws.{pass-trees, pass-some, pass-within, pass-text}
 
 -- `left` of the `n` nodes from `from` on are left, from `at` on, and each has a kind and a name among `m` bytes.
@@ -53,7 +54,8 @@ module _ {w : List ℕ} {m from n at left : ℕ} (l : Left w m from n at left) (
       record { ends = omega arith; few = omega arith; whole = other-trees w at left (l .whole) p; named = walk-rest w m at left (l .named) (countAt w at) q }
 
 -- the nodes below a node
-pub children-there : {w : List ℕ} {m at : ℕ} → NodeAt w at → KindsAndNames w m at (countAt w at) → TreesAt w (at + 4) (countAt w at - 1) × KindsAndNames w m (at + 4) (countAt w at - 1)
+pub children-there : {w : List ℕ} {m at : ℕ} → NodeAt w at → KindsAndNames w m at (countAt w at)
+    → TreesAt w (at + 4) (countAt w at - 1) × KindsAndNames w m (at + 4) (countAt w at - 1)
 children-there {w} {m} {at} h k =
     let p = h .some-node in
     (node-inner w at h, walk-inner w m at (countAt w at) k (countAt w at - 1) (omega arith))
@@ -64,86 +66,92 @@ pub record Printing (s w : List ℕ) (v : NestingLevel) (before : List ℕ) (sta
   pub room : length out ≡ length before
   pub text : ToWrite before start all out to (print v (trees s w left at))
 
-pub start-printing : (s w : List ℕ) (v : NestingLevel) (out : List ℕ) (start from n : ℕ) → TreesAt w from n → KindsAndNames w (length s) from n → start + length (print v (trees s w n from)) ≤ length out → Printing s w v out start from n (print v (trees s w n from)) out from n start
+pub start-printing : (s w : List ℕ) (v : NestingLevel) (out : List ℕ) (start from n : ℕ) → TreesAt w from n → KindsAndNames w (length s) from n
+    → start + length (print v (trees s w n from)) ≤ length out → Printing s w v out start from n (print v (trees s w n from)) out from n start
 start-printing s w v out start from n h k r = record { nodes = all-left h k; room = refl; text = to-write out start (print v (trees s w n from)) r }
 
-module _ {s w : List ℕ} {v : NestingLevel} {before all out : List ℕ} {start from n at left to : ℕ} (i : Printing s w v before start from n all out at left to) where
-  pub printed : left ≤ 0 → Wrote before start all out to
-  printed p = all-written (subst (λ (z : List ℕ). ToWrite before start all out to z) (no-text s w v left at p) (i .text))
+module _ {s w : List ℕ} {v : NestingLevel} {before all out : List ℕ} {start from n at left to : ℕ} (i : Printing s w v before start from n all out at left to)
+  where
+    pub printed : left ≤ 0 → Wrote before start all out to
+    printed p = all-written (subst (λ (z : List ℕ). ToWrite before start all out to z) (no-text s w v left at p) (i .text))
 
-  module _ (p : 0 < left) where
-    abbrev opens : List ℕ
-    opens = opening s (kindAt w at) (firstAt w at) (secondAt w at) v
+    module _ (p : 0 < left) where
+      abbrev opens : List ℕ
+      opens = opening s (kindAt w at) (firstAt w at) (secondAt w at) v
 
-    abbrev inner : List ℕ
-    inner = childrenText s w at v
+      abbrev inner : List ℕ
+      inner = childrenText s w at v
 
-    abbrev closes : List ℕ
-    closes = closing (kindAt w at) (secondAt w at)
+      abbrev closes : List ℕ
+      closes = closing (kindAt w at) (secondAt w at)
 
-    abbrev others : List ℕ
-    others = print v (trees s w (left - countAt w at) (at + 4 * countAt w at))
+      abbrev others : List ℕ
+      others = print v (trees s w (left - countAt w at) (at + 4 * countAt w at))
 
-    in-parts : ToWrite before start all out to (opens ++ (inner ++ (closes ++ others)))
-    in-parts = subst (λ (z : List ℕ). ToWrite before start all out to z) (trees-text s w v at left (i .nodes .whole) p (here (i .nodes) p .kind)) (i .text)
+      in-parts : ToWrite before start all out to (opens ++ (inner ++ (closes ++ others)))
+      in-parts = subst (λ (z : List ℕ). ToWrite before start all out to z) (trees-text s w v at left (i .nodes .whole) p (here (i .nodes) p .kind)) (i .text)
 
-    pub room-to-open : to + length opens ≤ length out
-    room-to-open = room-for opens (inner ++ (closes ++ others)) in-parts
+      pub room-to-open : to + length opens ≤ length out
+      room-to-open = room-for opens (inner ++ (closes ++ others)) in-parts
 
-    module _ {out₁ : List ℕ} {to₁ : ℕ} (x : Wrote out to opens out₁ to₁) where
-      opened : ToWrite before start all out₁ to₁ (inner ++ (closes ++ others))
-      opened = then-write opens (inner ++ (closes ++ others)) in-parts x
+      module _ {out₁ : List ℕ} {to₁ : ℕ} (x : Wrote out to opens out₁ to₁) where
+        opened : ToWrite before start all out₁ to₁ (inner ++ (closes ++ others))
+        opened = then-write opens (inner ++ (closes ++ others)) in-parts x
 
-      pub room-to-fill : to₁ + length inner ≤ length out₁
-      room-to-fill = room-for inner (closes ++ others) opened
+        pub room-to-fill : to₁ + length inner ≤ length out₁
+        room-to-fill = room-for inner (closes ++ others) opened
 
-      -- a pointer or an atomic that no tree follows: what it holds comes next, at its own level
-      module _ (lo : 26 ≤ kindAt w at) (hi : kindAt w at ≤ 27) (e : countAt w at ≡ left) (u : NestingLevel) (f : childrenLevel (kindAt w at) v ≡ Included u) where
-        held-text : inner ++ (closes ++ others) ≡ print u (trees s w (left - 1) (at + 4))
-        held-text =
-            ap₂ _++_
-            (included-text s w v at u f ∙ ap (λ (j : ℕ). print u (trees s w (j - 1) (at + 4))) e)
-            (ap₂ _++_ (closing-none (kindAt w at) (secondAt w at) (λ d. omega arith) (λ d. omega arith) (rw (ne-eqb (kindAt w at) 29 (λ d. omega arith), ne-eqb (kindAt w at) 30 (λ d. omega arith)))) (no-text s w v (left - countAt w at) (at + 4 * countAt w at) (omega arith)))
-            ∙ append-nil (print u (trees s w (left - 1) (at + 4)))
+        -- a pointer or an atomic that no tree follows: what it holds comes next, at its own level
+        module _ (lo : 26 ≤ kindAt w at) (hi : kindAt w at ≤ 27) (e : countAt w at ≡ left) (u : NestingLevel) (f : u ≡ insideKind (kindAt w at) v) where
+          held-text : inner ++ (closes ++ others) ≡ print u (trees s w (left - 1) (at + 4))
+          held-text =
+              ap₂ _++_
+              (included-text s w v at u (held-shown (kindAt w at) v u lo hi f) ∙ ap (λ (j : ℕ). print u (trees s w (j - 1) (at + 4))) e)
+              (ap₂ _++_ (closing-none (kindAt w at) (secondAt w at) (λ d. omega arith) (λ d. omega arith)
+              (rw (ne-eqb (kindAt w at) 29 (λ d. omega arith), ne-eqb (kindAt w at) 30 (λ d. omega arith))))
+              (no-text s w v (left - countAt w at) (at + 4 * countAt w at) (omega arith)))
+              ∙ append-nil (print u (trees s w (left - 1) (at + 4)))
 
-        pub held-next : Printing s w u before start from n all out₁ (at + 4) (left - 1) to₁
-        held-next = record {
-          nodes =
-              let ends = i .nodes .ends in
-              let few = i .nodes .few in
-              record {
-                ends = omega arith;
-                few = omega arith;
-                whole = subst (λ (j : ℕ). TreesAt w (at + 4) (j - 1)) e (node-inner w at (node-here (i .nodes) p));
-                named = walk-inner w (length s) at left (i .nodes .named) (left - 1) (omega arith);
-              };
-          room = ap length (x .text) ∙ written-length out to opens room-to-open ∙ i .room;
-          text = subst (λ (z : List ℕ). ToWrite before start all out₁ to₁ z) held-text opened;
-        }
+          pub held-next : Printing s w u before start from n all out₁ (at + 4) (left - 1) to₁
+          held-next = record {
+            nodes =
+                let ends = i .nodes .ends in
+                let few = i .nodes .few in
+                record {
+                  ends = omega arith;
+                  few = omega arith;
+                  whole = subst (λ (j : ℕ). TreesAt w (at + 4) (j - 1)) e (node-inner w at (node-here (i .nodes) p));
+                  named = walk-inner w (length s) at left (i .nodes .named) (left - 1) (omega arith);
+                };
+            room = ap length (x .text) ∙ written-length out to opens room-to-open ∙ i .room;
+            text = subst (λ (z : List ℕ). ToWrite before start all out₁ to₁ z) held-text opened;
+          }
 
-      module _ {out₂ : List ℕ} {to₂ : ℕ} (y : Wrote out₁ to₁ inner out₂ to₂) where
-        filled : ToWrite before start all out₂ to₂ (closes ++ others)
-        filled = then-write inner (closes ++ others) opened y
+        module _ {out₂ : List ℕ} {to₂ : ℕ} (y : Wrote out₁ to₁ inner out₂ to₂) where
+          filled : ToWrite before start all out₂ to₂ (closes ++ others)
+          filled = then-write inner (closes ++ others) opened y
 
-        pub room-to-close : to₂ + length closes ≤ length out₂
-        room-to-close = room-for closes others filled
+          pub room-to-close : to₂ + length closes ≤ length out₂
+          room-to-close = room-for closes others filled
 
-        pub turned : {out₃ : List ℕ} {to₃ : ℕ} → Wrote out₂ to₂ closes out₃ to₃ → Printing s w v before start from n all out₃ (at + 4 * countAt w at) (left - countAt w at) to₃
-        turned z = record {
-          nodes = others-left (i .nodes) p;
-          room =
-              ap length (z .text) ∙ written-length out₂ to₂ closes room-to-close
-              ∙ (ap length (y .text) ∙ written-length out₁ to₁ inner room-to-fill)
-              ∙ (ap length (x .text) ∙ written-length out to opens room-to-open)
-              ∙ i .room;
-          text = then-write closes others filled z;
-        }
+          pub turned : {out₃ : List ℕ} {to₃ : ℕ} → Wrote out₂ to₂ closes out₃ to₃ → Printing s w v before start from n all out₃ (at + 4 * countAt w at)
+              (left - countAt w at) to₃
+          turned z = record {
+            nodes = others-left (i .nodes) p;
+            room =
+                ap length (z .text) ∙ written-length out₂ to₂ closes room-to-close
+                ∙ (ap length (y .text) ∙ written-length out₁ to₁ inner room-to-fill)
+                ∙ (ap length (x .text) ∙ written-length out to opens room-to-open)
+                ∙ i .room;
+            text = then-write closes others filled z;
+          }
 
 -- What the loop of the length keeps.
 pub record Measuring (w : List ℕ) (v : NestingLevel) (from n at left len : ℕ) : Type 0 where
   pub nodes : Left w 2000 from n at left
   pub bound : len + maxNodeText * left ≤ maxNodeText * n
-  pub sum : (s : List ℕ) → KindsAndNames w (length s) from n → KindsAndNames w (length s) at left × (len + length (print v (trees s w left at)) ≡ length (print v (trees s w n from)))
+  pub sum : (s : List ℕ) → KindsAndNames w (length s) from n → KindsAndNames w (length s) at left ×
+      (len + length (print v (trees s w left at)) ≡ length (print v (trees s w n from)))
 
 pub start-measuring : (w : List ℕ) (v : NestingLevel) (from n : ℕ) → TreesAt w from n → KindsAndNames w 2000 from n → Measuring w v from n from n 0
 start-measuring w v from n h k = record { nodes = all-left h k; bound = omega arith; sum = λ s q. (q, omega arith) }
@@ -160,7 +168,10 @@ module _ {w : List ℕ} {v : NestingLevel} {from n at left len : ℕ} (i : Measu
     passed-within = pass-within w at left (i .nodes .whole) p b
 
     -- a turn, which passes `k` nodes
-    pub summed : fieldsBelow v b ≡ childrenLevel (kindAt w at) v → (k own inner : ℕ) → k ≡ passed b (countAt w at) → OwnLength (kindAt w at) (firstAt w at) (secondAt w at) v own × (own ≤ maxNodeText) → PassedLength w at b inner × (inner + maxNodeText ≤ maxNodeText * passed b (countAt w at)) → Measuring w v from n (at + 4 * k) (left - k) (len + own + inner)
+    pub summed : fieldsBelow v b ≡ childrenLevel (kindAt w at) v → (k own inner : ℕ) → k ≡ passed b (countAt w at)
+        → OwnLength (kindAt w at) (firstAt w at) (secondAt w at) v own × (own ≤ maxNodeText)
+        → PassedLength w at b inner × (inner + maxNodeText ≤ maxNodeText * passed b (countAt w at))
+        → Measuring w v from n (at + 4 * k) (left - k) (len + own + inner)
     summed q k own inner e o r =
         let few = passed-within in
         let fits = o .1 in
@@ -179,7 +190,8 @@ module _ {w : List ℕ} {v : NestingLevel} {from n at left len : ℕ} (i : Measu
           sum = λ s all. total s (i .sum s all .0) (i .sum s all .1);
         }
       where
-        total : {rest : ℕ} (s : List ℕ) → KindsAndNames w (length s) at left → len + length (print v (trees s w left at)) ≡ rest → KindsAndNames w (length s) (at + 4 * k) (left - k) × (len + own + inner + length (print v (trees s w (left - k) (at + 4 * k))) ≡ rest)
+        total : {rest : ℕ} (s : List ℕ) → KindsAndNames w (length s) at left → len + length (print v (trees s w left at)) ≡ rest
+            → KindsAndNames w (length s) (at + 4 * k) (left - k) × (len + own + inner + length (print v (trees s w (left - k) (at + 4 * k))) ≡ rest)
         total s names g =
             let few = passed-within in
             let x = trees-length s w v at left (i .nodes .whole) p (here (i .nodes) p .kind) in

@@ -1,4 +1,4 @@
--- The definitions, in the order in which they are read.
+-- What the calls answer; then what the functions inside rely on and leave.
+pub mod Answer
 pub mod Output
 pub mod Parts
-pub mod Outcome

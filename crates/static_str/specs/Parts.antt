@@ -7,24 +7,18 @@ use lib.Dec.{leb, eqb}
 use lib.ListN.{length, take, drop}
 use Rattle.kinds.specs.Byte.{byte, bytes}
 use Rattle.kinds.specs.Container.{startByte, endByte, prefixByte}
-use Rattle.kinds.specs.Level.{indirection, containerIncludeFields}
+use Rattle.kinds.specs.Kind.{containerOf, childrenLevel}
 use Rattle.kinds.specs.Primitive.{code}
 use Rattle.kinds.specs.Print.{decimal, fields, print}
 use Rattle.kinds.specs.Sheet.{kindAt, countAt, isContainerKind, trees}
 use Rattle.kinds.specs.Tree.{Trees}
 use Rattle.kinds.specs.Walk.{KindsAndNames}
-use Rattle.kinds.specs.declared.ContainerKind.{ContainerKind}
-use Rattle.kinds.specs.declared.ContainerKind.the-variants.{Struct, Union}
 use Rattle.kinds.specs.declared.Fields.{Fields}
 use Rattle.kinds.specs.declared.Fields.the-variants.{Included, Dropped}
 use Rattle.kinds.specs.declared.IndirectionKind.the-variants.{Atomic, Pointer}
 use Rattle.kinds.specs.declared.NestingLevel.{NestingLevel}
 use Rattle.static_str.specs.declared.Below.{Below}
 use Rattle.static_str.specs.declared.Below.the-variants.{Same, Hidden, Deeper}
-
--- A container kind as the code's enum.
-abbrev pub containerOf : ℕ → ContainerKind
-containerOf k = cond (eqb k 29) Struct Union
 
 -- Kind `k`, numbers `a` and `b`.
 unfoldable pub opening : List ℕ → ℕ → ℕ → ℕ → NestingLevel → List ℕ
@@ -42,13 +36,6 @@ closing k b =
     cond (eqb k 25) (decimal b)
     (cond (eqb k 28) (bytes "]")
     (cond (isContainerKind k) (endByte (containerOf k) ∷ []) []))
-
--- The level of the children, or that they are not shown.
-unfoldable pub childrenLevel : ℕ → NestingLevel → Fields
-childrenLevel k v =
-    cond (isContainerKind k) (containerIncludeFields v)
-    (cond (eqb k 26) (Included (indirection Pointer v))
-    (cond (eqb k 27) (Included (indirection Atomic v)) (Included v)))
 
 unfoldable pub printShown : Fields → Trees → List ℕ
 printShown (Included v) ts = print v ts

@@ -5,19 +5,27 @@ ghost use mathlib.Core.List.{List, [], _∷_, _++_};
 ghost use lib.ListN.{length};
 ghost use mathlib.Core.Bool.{true};
 ghost use Rattle.kinds.specs.Container.{startByte};
+ghost use Rattle.kinds.specs.Kind.{childrenLevel};
 ghost use Rattle.kinds.specs.Primitive.{code};
 ghost use Rattle.kinds.specs.Print.{decimal, fields, print};
 ghost use Rattle.kinds.specs.Sheet.{countAt, isContainerKind, trees, maxNodes, maxNames};
 ghost use Rattle.kinds.specs.Walk.{NodeAt, TreesAt, KindsAndNames};
 ghost use Rattle.static_str.specs.Output.{Wrote};
-ghost use Rattle.static_str.specs.Outcome.{fitted, placed, encodingLen, encodingArray, encodingOutput};
-ghost use Rattle.static_str.specs.Parts.{containerOf, opening, closing, childrenLevel, childrenText, maxNodeText, OwnLength, fieldsBelow, passed, PassedLength, TreesLength};
+ghost use Rattle.static_str.specs.Answer.{fitted, placed, encodingLen, encodingArray, encodingOutput};
+ghost use Rattle.static_str.specs.Parts.{opening, closing, childrenText, maxNodeText, OwnLength, fieldsBelow, passed, PassedLength, TreesLength};
+use kinds::ARRAY;
+use kinds::ATOMIC;
+use kinds::BIT_FIELD;
 use kinds::Code;
 use kinds::ContainerKind;
 use kinds::Fields;
 use kinds::IndirectionKind;
 use kinds::NestingLevel;
+use kinds::POINTER;
+use kinds::PRIMITIVES;
 use kinds::Refusal;
+use kinds::TYPED_BIT_FIELD;
+use kinds::container_of;
 use kinds::is_container;
 use kinds::primitive_code;
 use sheet::Checked;
@@ -121,31 +129,6 @@ pub fn static_int_str_array(n: u64, out: &mut [u8]) -> Printed
     Printed::Bytes(len)
 }
 
-fn container_of(kind: u64) -> ContainerKind
-    ensures { λ r. ⌜ r ≡ containerOf kind ⌝ }
-{
-    if kind == 29 {
-        return ContainerKind::Struct;
-    }
-    ContainerKind::Union
-}
-
-// The level of a node's children, or that they are not shown.
-fn children_level(kind: u64, level: NestingLevel) -> Fields
-    ensures { λ r. ⌜ r ≡ childrenLevel kind level ⌝ }
-{
-    if is_container(kind) {
-        return level.container_include_fields();
-    }
-    if kind == 26 {
-        return Fields::Included(level.indirection(IndirectionKind::Pointer));
-    }
-    if kind == 27 {
-        return Fields::Included(level.indirection(IndirectionKind::Atomic));
-    }
-    Fields::Included(level)
-}
-
 // The length of a primitive's code; no table is looked up, since this is asked of most nodes.
 fn code_len(kind: u64) -> usize
     requires { ⌜ kind < 24 ⌝ }
@@ -180,51 +163,54 @@ fn node_len(kind: u64, first: u64, second: u64, level: NestingLevel) -> usize
     requires { ⌜ (isContainerKind kind ≡ true → second ≤ 2000) ⌝ }
     ensures { λ r. ⌜ OwnLength kind first second level r × (r ≤ maxNodeText) ⌝ }
 {
-    if kind < 24 {
+    if kind < PRIMITIVES {
         return code_len(kind);
     }
     if is_container(kind) {
         return container_len(second, level);
     }
-    if kind == 24 {
+    if kind == BIT_FIELD {
         return 1 + static_int_str_len(second);
     }
-    if kind == 25 {
+    if kind == TYPED_BIT_FIELD {
         return 1 + static_int_str_len(first) + static_int_str_len(second);
     }
-    if kind == 26 {
+    if kind == POINTER {
         return 1;
     }
-    if kind == 27 {
+    if kind == ATOMIC {
         return 1;
     }
-    if kind == 28 {
+    if kind == ARRAY {
         return 2 + static_int_str_len(first);
     }
     0
 }
 
+// Children at the level `inner` of a node at `level`.
+fn level_step(level: NestingLevel, inner: NestingLevel) -> Below
+    ensures { λ r. ⌜ fieldsBelow level r ≡ Fields.Included inner ⌝ }
+{
+    match level {
+        NestingLevel::Top => Below::Deeper(inner),
+        NestingLevel::Within => match inner {
+            NestingLevel::Within => Below::Same,
+            _ => Below::Deeper(inner),
+        },
+        NestingLevel::Bottom => match inner {
+            NestingLevel::Bottom => Below::Same,
+            _ => Below::Deeper(inner),
+        },
+    }
+}
+
 fn level_below(kind: u64, level: NestingLevel) -> Below
     ensures { λ r. ⌜ fieldsBelow level r ≡ childrenLevel kind level ⌝ }
 {
-    if is_container(kind) {
-        return match level {
-            NestingLevel::Top => Below::Deeper(NestingLevel::Within),
-            NestingLevel::Within => Below::Same,
-            NestingLevel::Bottom => Below::Hidden,
-        };
+    match level.children(kind) {
+        Fields::Dropped => Below::Hidden,
+        Fields::Included(inner) => level_step(level, inner),
     }
-    if kind == 26 {
-        return match level {
-            NestingLevel::Top => Below::Deeper(NestingLevel::Within),
-            NestingLevel::Within => Below::Deeper(NestingLevel::Bottom),
-            NestingLevel::Bottom => Below::Same,
-        };
-    }
-    if kind == 27 {
-        return Below::Deeper(NestingLevel::Bottom);
-    }
-    Below::Same
 }
 
 // The nodes that are passed at once with a node of `count` nodes.
@@ -314,7 +300,7 @@ fn open_node(
     requires { ⌜ at + length (opening (now names) kind first second level) ≤ length (now out) ⌝ }
     ensures { λ r. ⌜ Wrote (now (out .entry)) at (opening (now (names .entry)) kind first second level) (now (out .exit)) r ⌝ }
 {
-    if kind < 24 {
+    if kind < PRIMITIVES {
         return put_code(out, at, kind);
     }
     if is_container(kind) {
@@ -322,19 +308,19 @@ fn open_node(
         let to = from + second as usize;
         return open_container(container_of(kind), &names[from..to], level, out, at);
     }
-    if kind == 24 {
+    if kind == BIT_FIELD {
         return put_tagged(out, at, b'b', second);
     }
-    if kind == 25 {
+    if kind == TYPED_BIT_FIELD {
         return put_tagged(out, at, b'b', first);
     }
-    if kind == 26 {
+    if kind == POINTER {
         return put(out, at, IndirectionKind::Pointer.prefix_byte());
     }
-    if kind == 27 {
+    if kind == ATOMIC {
         return put(out, at, IndirectionKind::Atomic.prefix_byte());
     }
-    if kind == 28 {
+    if kind == ARRAY {
         return put_tagged(out, at, b'[', first);
     }
     at
@@ -345,10 +331,10 @@ fn close_node(kind: u64, second: u64, out: &mut [u8], at: usize) -> usize
     requires { ⌜ at + length (closing kind second) ≤ length (now out) ⌝ }
     ensures { λ r. ⌜ Wrote (now (out .entry)) at (closing kind second) (now (out .exit)) r ⌝ }
 {
-    if kind == 25 {
+    if kind == TYPED_BIT_FIELD {
         return put_number(out, at, second);
     }
-    if kind == 28 {
+    if kind == ARRAY {
         return put(out, at, b']');
     }
     if is_container(kind) {
@@ -374,7 +360,7 @@ fn print_children(
     if count == 1 {
         return to;
     }
-    match children_level(nodes[at], level) {
+    match level.children(nodes[at]) {
         Fields::Dropped => to,
         Fields::Included(inner) => print_trees(
             &nodes[0..],
@@ -392,24 +378,13 @@ fn print_children(
 fn points_last(kind: u64, count: usize, left: usize) -> bool
     ensures { λ r. ⌜ (r ≡ true → (26 ≤ kind) × (kind ≤ 27) × (count ≡ left)) ⌝ }
 {
-    if kind < 26 {
+    if kind < POINTER {
         return false;
     }
-    if 27 < kind {
+    if ATOMIC < kind {
         return false;
     }
     count == left
-}
-
-// The level of what a pointer or an atomic holds.
-fn held_level(kind: u64, level: NestingLevel) -> NestingLevel
-    requires { ⌜ (26 ≤ kind) × (kind ≤ 27) ⌝ }
-    ensures { λ r. ⌜ childrenLevel kind level ≡ Fields.Included r ⌝ }
-{
-    if kind == 26 {
-        return level.indirection(IndirectionKind::Pointer);
-    }
-    level.indirection(IndirectionKind::Atomic)
 }
 
 // Writes the text of the trees of the `n` nodes from `from` on; the next place. Nothing is written after what a pointer or an atomic
@@ -436,7 +411,7 @@ fn print_trees(
         let count = nodes[at + 3] as usize;
         to = open_node(kind, nodes[at + 1], second, names, level, out, to);
         if points_last(kind, count, left) {
-            level = held_level(kind, level);
+            level = level.inside(kind);
             at = at + 4;
             left = left - 1;
             continue;
@@ -449,21 +424,48 @@ fn print_trees(
     to
 }
 
+// Writes the code of a primitive at the front of the output.
+fn print_code(kind: u64, out: &mut [u8]) -> Printed
+    requires { ⌜ kind < 24 ⌝ }
+    ensures answers { λ r. ⌜ r ≡ fitted (code kind) (length (now (out .entry))) ⌝ }
+    ensures writes { λ _. ⌜ now (out .exit) ≡ placed (code kind) (now (out .entry)) ⌝ }
+{
+    let len = code_len(kind);
+    if out.len() < len {
+        return Printed::Refused(Refusal::OutputTooShort);
+    }
+    put_code(out, 0, kind);
+    Printed::Bytes(len)
+}
+
+// Writes the text of the tree of `n` nodes at the front of the output.
+fn print_tree(nodes: &[u64], names: &[u8], n: usize, out: &mut [u8]) -> Printed
+    requires { ⌜ TreesAt (now nodes) 0 n × (n ≤ maxNodes) ⌝ }
+    requires { ⌜ KindsAndNames (now nodes) maxNames 0 n × KindsAndNames (now nodes) (length (now names)) 0 n ⌝ }
+    ensures answers { λ r. ⌜ r ≡ fitted (print NestingLevel.Top (trees (now (names .entry)) (now (nodes .entry)) n 0)) (length (now (out .entry))) ⌝ }
+    ensures writes { λ _. ⌜ now (out .exit) ≡ placed (print NestingLevel.Top (trees (now (names .entry)) (now (nodes .entry)) n 0)) (now (out .entry)) ⌝ }
+{
+    let len = trees_len(&nodes[0..], 0, n, NestingLevel::new());
+    if out.len() < len {
+        return Printed::Refused(Refusal::OutputTooShort);
+    }
+    print_trees(&nodes[0..], &names[0..], 0, n, NestingLevel::new(), out, 0);
+    Printed::Bytes(len)
+}
+
 // The length of the text of the tree that the lists hold.
 pub fn static_encoding_str_len(words: &[u64], names: &[u8]) -> Printed
     ensures { λ r. ⌜ r ≡ encodingLen (now (words .entry)) (now (names .entry)) ⌝ }
 {
     match check(&words[0..], &names[0..]) {
-        Checked::NotASheet => Printed::Refused(Refusal::NotASheet),
-        Checked::BadName => Printed::Refused(Refusal::BadName),
-        Checked::Good => {
-            let kind = words[4];
-            if kind < 24 {
-                return Printed::Bytes(code_len(kind));
-            }
-            let n = words[0] as usize;
-            Printed::Bytes(trees_len(&words[4..], 0, n, NestingLevel::new()))
-        }
+        Checked::Refused(why) => Printed::Refused(why),
+        Checked::Code(kind) => Printed::Bytes(code_len(kind)),
+        Checked::Nodes(first, n) => Printed::Bytes(trees_len(
+            &words[first..],
+            0,
+            n,
+            NestingLevel::new(),
+        )),
     }
 }
 
@@ -472,20 +474,9 @@ pub fn static_encoding_str_array(words: &[u64], names: &[u8], out: &mut [u8]) ->
     ensures answers { λ r. ⌜ r ≡ encodingArray (now (words .entry)) (now (names .entry)) (length (now (out .entry))) ⌝ }
     ensures writes { λ _. ⌜ now (out .exit) ≡ encodingOutput (now (words .entry)) (now (names .entry)) (now (out .entry)) ⌝ }
 {
-    match static_encoding_str_len(&words[0..], &names[0..]) {
-        Printed::Refused(refusal) => Printed::Refused(refusal),
-        Printed::Bytes(len) => {
-            if out.len() < len {
-                return Printed::Refused(Refusal::OutputTooShort);
-            }
-            let kind = words[4];
-            if kind < 24 {
-                put_code(out, 0, kind);
-                return Printed::Bytes(len);
-            }
-            let n = words[0] as usize;
-            print_trees(&words[4..], &names[0..], 0, n, NestingLevel::new(), out, 0);
-            Printed::Bytes(len)
-        }
+    match check(&words[0..], &names[0..]) {
+        Checked::Refused(why) => Printed::Refused(why),
+        Checked::Code(kind) => print_code(kind, out),
+        Checked::Nodes(first, n) => print_tree(&words[first..], &names[0..], n, out),
     }
 }

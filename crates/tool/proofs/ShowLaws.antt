@@ -12,7 +12,7 @@ use borrow.Author.Tests.{le-leb, lt-leb, lt-ltb, le-ltb, eq-eqb, ne-eqb, eqb-fal
 use Rattle.kinds.proofs.ListLaws.{unread, unread-end}
 use Rattle.lines.specs.Field.{until}
 use Rattle.kinds.specs.Print.{decimal}
-use Rattle.tool.specs.Show.{countOf, nodesShown, shownByte, times, holders, depthOf, lineOf, countText, kindNames, valuesText, rightText, nodeText, byteText, containerText, shownText, shownOrCut, markText, reasons, namedText, refusedText}
+use Rattle.tool.specs.Show.{countOf, shownByte, times, holders, depthOf, lineOf, countText, kindNames, valuesText, rightText, nodeText, byteText, containerText, shownText, shownOrCut, markText, reasons, namedText, refusedText}
 
 pub counts : (b : ℕ) (s : List ℕ) (i : ℕ) → i < length s → getD s i 0 ≡ b → countOf b (drop i s) ≡ suc (countOf b (drop (i + 1) s))
 unfolding countOf
@@ -25,14 +25,6 @@ counts-not b s i h e = ap (countOf b) (unread s i h) ∙ rw (ne-eqb (getD s i 0)
 pub counts-end : (b : ℕ) (s : List ℕ) (i : ℕ) → length s ≤ i → countOf b (drop i s) ≡ 0
 unfolding countOf
 counts-end b s i h = ap (countOf b) (unread-end s i h)
-
-pub nodes-many : (words : List ℕ) (n : ℕ) → n ≡ getD words 0 0 → 2001 < n → 2001 ≡ nodesShown words
-unfolding nodesShown
-nodes-many words n e h = sym (rw (sym e, lt-ltb 2001 n h))
-
-pub nodes-few : (words : List ℕ) (n : ℕ) → n ≡ getD words 0 0 → n ≤ 2001 → n ≡ nodesShown words
-unfolding nodesShown
-nodes-few words n e h = sym (rw (sym e, le-ltb 2001 n h))
 
 pub dot-low : (b : ℕ) → b < 32 → 46 ∷ [] ≡ shownByte b
 unfolding shownByte
@@ -70,13 +62,13 @@ line-here zero s h = refl
 line-here (suc k) s h = absurd (omega arith)
 
 -- The node `j` holds `i`, or does not.
-pub holds : (words : List ℕ) (i j : ℕ) → i - j < getD words (4 * j + 7) 0 → holders words i j + 1 ≡ holders words i (j + 1)
+pub holds : (words : List ℕ) (i j : ℕ) → i - j < getD words (4 * j + 3) 0 → holders words i j + 1 ≡ holders words i (j + 1)
 unfolding holders
-holds words i j h = sym (ap (holders words i) (add-one j) ∙ rw (lt-ltb (i - j) (getD words (4 * j + 7) 0) h))
+holds words i j h = sym (ap (holders words i) (add-one j) ∙ rw (lt-ltb (i - j) (getD words (4 * j + 3) 0) h))
 
-pub holds-not : (words : List ℕ) (i j : ℕ) → getD words (4 * j + 7) 0 ≤ i - j → holders words i j ≡ holders words i (j + 1)
+pub holds-not : (words : List ℕ) (i j : ℕ) → getD words (4 * j + 3) 0 ≤ i - j → holders words i j ≡ holders words i (j + 1)
 unfolding holders
-holds-not words i j h = sym (ap (holders words i) (add-one j) ∙ rw (le-ltb (i - j) (getD words (4 * j + 7) 0) h) (zero-right (holders words i j)))
+holds-not words i j h = sym (ap (holders words i) (add-one j) ∙ rw (le-ltb (i - j) (getD words (4 * j + 3) 0) h) (zero-right (holders words i j)))
   where
     zero-right : (n : ℕ) → n + 0 ≡ n
     zero-right n = omega arith
@@ -136,7 +128,9 @@ right-wide n widest d w p q h =
     let e : length (decimal widest) - length (decimal n) ≤ 0 = omega arith in
     sym (ap (λ (s : List ℕ). s ++ decimal n) (times-none (length (decimal widest) - length (decimal n)) (32 ∷ []) e))
 
-pub node-is : (words names : List ℕ) (i last d k m n : ℕ) → d ≡ depthOf words i → k ≡ getD words (4 * i + 4) 0 → m ≡ getD words (4 * i + 5) 0 → n ≡ getD words (4 * i + 6) 0 → rightText i last ++ ((32 ∷ []) ++ (times d (32 ∷ 32 ∷ []) ++ (lineOf k kindNames ++ valuesText names k m n))) ≡ nodeText words names i last
+pub node-is : (words names : List ℕ) (i last d k m n : ℕ) → d ≡ depthOf words i → k ≡ getD words (4 * i) 0 → m ≡ getD words (4 * i + 1) 0 → n
+    ≡ getD words (4 * i + 2) 0 → rightText i last ++ ((32 ∷ []) ++ (times d (32 ∷ 32 ∷ []) ++ (lineOf k kindNames ++ valuesText names k m n)))
+    ≡ nodeText words names i last
 unfolding nodeText
 node-is words names i last d k m n p q r s = rw (p, q, r, s)
 
@@ -204,6 +198,9 @@ module _ (number b container : ℕ) where
   unfolding namedText
   named-none h i j k = sym (rw (neither number 8 9 h i, neither number 13 14 j k))
 
-pub refused-is : (text why : List ℕ) → shownOrCut text ++ (markText (getD why 0 0) (getD why 1 0) ++ ((10 ∷ 114 ∷ 101 ∷ 102 ∷ 117 ∷ 115 ∷ 101 ∷ 100 ∷ 32 ∷ 40 ∷ []) ++ (decimal (getD why 0 0) ++ ((41 ∷ 58 ∷ 32 ∷ []) ++ (lineOf (getD why 0 0) reasons ++ namedText (getD why 0 0) (getD why 2 0) (getD why 3 0)))))) ≡ refusedText text why
+pub refused-is : (text why : List ℕ) → shownOrCut text ++
+    (markText (getD why 0 0) (getD why 1 0) ++ ((10 ∷ 114 ∷ 101 ∷ 102 ∷ 117 ∷ 115 ∷ 101 ∷ 100 ∷ 32 ∷ 40 ∷ []) ++
+    (decimal (getD why 0 0) ++ ((41 ∷ 58 ∷ 32 ∷ []) ++ (lineOf (getD why 0 0) reasons ++ namedText (getD why 0 0) (getD why 2 0) (getD why 3 0))))))
+    ≡ refusedText text why
 unfolding refusedText
 refused-is text why = refl

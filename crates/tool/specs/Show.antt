@@ -14,10 +14,6 @@ unfoldable pub countOf : ℕ → List ℕ → ℕ
 countOf b [] = 0
 countOf b (x ∷ s) = cond (eqb x b) (suc (countOf b s)) (countOf b s)
 
--- The count of nodes in a sheet, or 2,001 where its header has more.
-unfoldable pub nodesShown : List ℕ → ℕ
-nodesShown words = cond (ltb 2001 (getD words 0 0)) 2001 (getD words 0 0)
-
 -- A byte that is no printable ASCII shows as a dot.
 unfoldable pub shownByte : ℕ → List ℕ
 shownByte b = cond (leb (byte " ") b && leb b (byte "~")) b (byte ".") ∷ []
@@ -30,14 +26,14 @@ unfoldable pub times : ℕ → List ℕ → List ℕ
 times zero s = []
 times (suc n) s = s ++ times n s
 
--- How many of the first `n` nodes of a sheet hold node `i`: those whose subtree reaches beyond it.
+-- How many of the first `n` nodes hold node `i`: those whose subtree reaches beyond it. `w` is the words of a sheet from its first node on.
 unfoldable pub holders : List ℕ → ℕ → ℕ → ℕ
-holders words i zero = 0
-holders words i (suc j) = holders words i j + cond (ltb (i - j) (getD words (4 * j + 7) 0)) 1 0
+holders w i zero = 0
+holders w i (suc j) = holders w i j + cond (ltb (i - j) (getD w (4 * j + 3) 0)) 1 0
 
 -- The depth of node `i`: how many of those before it hold it.
 unfoldable pub depthOf : List ℕ → ℕ → ℕ
-depthOf words i = holders words i i
+depthOf w i = holders w i i
 
 -- The line of a table with the number `k`, from 0 on.
 unfoldable pub lineOf : ℕ → List ℕ → List ℕ
@@ -66,12 +62,12 @@ rightText n widest = times (length (decimal widest) - length (decimal n)) (bytes
 
 -- The line of node `i`: its number, in a column for the last one's, and its kind, two columns deeper than its parent's.
 unfoldable pub nodeText : List ℕ → List ℕ → ℕ → ℕ → List ℕ
-nodeText words names i last =
+nodeText w names i last =
     rightText i last
     ++ (bytes " "
-    ++ (times (depthOf words i) (bytes "  ")
-    ++ (lineOf (getD words (4 * i + 4) 0) kindNames
-    ++ valuesText names (getD words (4 * i + 4) 0) (getD words (4 * i + 5) 0) (getD words (4 * i + 6) 0))))
+    ++ (times (depthOf w i) (bytes "  ")
+    ++ (lineOf (getD w (4 * i) 0) kindNames
+    ++ valuesText names (getD w (4 * i) 0) (getD w (4 * i + 1) 0) (getD w (4 * i + 2) 0))))
 
 -- The byte that a refusal names: itself, or its number where it does not show.
 unfoldable pub byteText : ℕ → List ℕ

@@ -4,9 +4,12 @@ mod show;
 
 use helper::Sized;
 use kinds::Compared;
+use libc::STDERR_FILENO;
 use libc::STDIN_FILENO;
 use libc::STDOUT_FILENO;
 use parse::Reading;
+use sheet::Checked;
+use sheet::HEADER;
 use static_str::Printed;
 
 fn say(s: &[u8]) {
@@ -19,19 +22,48 @@ fn say_line(out: &mut [u8], at: usize) {
     say(lines::front(out, end));
 }
 
-fn say_usage() {
-    say(b"usage: berzhotun read TEXT         the tree, a node a line\n");
-    say(
+// The commands, a line each.
+fn say_usage(to: i32) {
+    io::write_all(
+        to,
+        b"usage: berzhotun read TEXT         the tree, a node a line\n",
+    );
+    io::write_all(
+        to,
         b"       berzhotun start TEXT        the tree of the type at the start of TEXT, and the rest\n",
     );
-    say(b"       berzhotun print TEXT        the printed text of the tree\n");
-    say(b"       berzhotun size TEXT         its size on 64-bit Apple ARM\n");
-    say(
+    io::write_all(
+        to,
+        b"       berzhotun print TEXT        the printed text of the tree\n",
+    );
+    io::write_all(
+        to,
+        b"       berzhotun size TEXT         its size on 64-bit Apple ARM\n",
+    );
+    io::write_all(
+        to,
         b"       berzhotun compare A B       whether the trees of A and B are equivalent, by levels\n",
     );
-    say(b"       berzhotun compare-all A B   the same with all fields\n");
-    say(b"       berzhotun match A TEXT      whether the tree of A is equivalent to TEXT\n");
-    say(b"       berzhotun -                 commands from standard input, a line each\n");
+    io::write_all(
+        to,
+        b"       berzhotun compare-all A B   the same with all fields\n",
+    );
+    io::write_all(
+        to,
+        b"       berzhotun match A TEXT      whether the tree of A is equivalent to TEXT\n",
+    );
+    io::write_all(
+        to,
+        b"       berzhotun -                 commands from standard input, a line each\n",
+    );
+}
+
+// Names what is wrong with a command, before the usage, on standard error.
+fn complain(command: &[u8], why: &[u8]) {
+    io::write_all(STDERR_FILENO, b"berzhotun: '");
+    io::write_all(STDERR_FILENO, command);
+    io::write_all(STDERR_FILENO, why);
+    say_usage(STDERR_FILENO);
 }
 
 fn say_refused(text: &[u8], why: &[u64; 4]) {
@@ -48,18 +80,33 @@ fn say_decided(answer: bool) {
     }
 }
 
-fn say_node(words: &[u64], names: &[u8], i: u16, last: u16) {
+fn say_node(nodes: &[u64], names: &[u8], i: u16, last: u16) {
     let mut out = [0u8; 8192];
-    let at = show::put_node(&mut out, words, names, i, last);
+    let at = show::put_node(&mut out, nodes, names, i, last);
     say_line(&mut out, at);
 }
 
-fn say_tree(words: &[u64], names: &[u8]) {
-    let nodes = show::node_count(words);
+fn say_nodes(nodes: &[u64], names: &[u8], n: u16) {
     let mut i = 0;
-    while i < nodes {
-        say_node(words, names, i, nodes - 1);
+    while i < n {
+        say_node(nodes, names, i, n - 1);
         i += 1;
+    }
+}
+
+// The words from the place `first` on, or none.
+fn from(words: &[u64], first: usize) -> &[u64] {
+    if first <= words.len() {
+        return &words[first..];
+    }
+    &words[0..0]
+}
+
+fn say_tree(words: &[u64], names: &[u8]) {
+    match sheet::check(words, names) {
+        Checked::Refused(_) => {}
+        Checked::Code(_) => say_nodes(from(words, HEADER), names, 1),
+        Checked::Nodes(first, n) => say_nodes(from(words, first), names, (n % 65536) as u16),
     }
 }
 
@@ -76,10 +123,10 @@ fn say_rest(rest: &[u8]) {
 
 // Reads a text, and says so where it is refused.
 fn reads(text: &[u8], words: &mut [u64], names: &mut [u8]) -> bool {
-    match parse::from_str(text, words, names) {
+    match encoding_box::from_str(text, words, names) {
         Reading::Tree => true,
         Reading::Refused(why) => {
-            say_refused(text, &parse::refusal_words(why));
+            say_refused(text, &why.words());
             false
         }
     }
@@ -97,7 +144,7 @@ fn answer_start(text: &[u8]) {
     let mut words = [0u64; 8008];
     let mut names = [0u8; 2000];
     let mut answer = [0u64; 4];
-    let rest = parse::from_start_of_str(text, &mut words, &mut names, &mut answer);
+    let rest = encoding_box::from_start_of_str(text, &mut words, &mut names, &mut answer);
     if answer[0] == 0 {
         say_tree(&words, &names);
         say_rest(rest);
@@ -109,7 +156,7 @@ fn answer_start(text: &[u8]) {
 fn say_print(text: &[u8], words: &[u64], names: &[u8]) {
     let mut out = [0u8; 8192];
     match static_str::static_encoding_str_array(words, names, &mut out) {
-        Printed::Refused(why) => say_refused(text, &parse::refusal_words(why)),
+        Printed::Refused(why) => say_refused(text, &why.words()),
         Printed::Bytes(n) => say_line(&mut out, n),
     }
 }
@@ -133,7 +180,7 @@ fn answer_size(text: &[u8]) {
     let mut names = [0u8; 2000];
     if reads(text, &mut words, &mut names) {
         match encoding::size(&words, &names) {
-            Sized::Refused(why) => say_refused(text, &parse::refusal_words(why)),
+            Sized::Refused(why) => say_refused(text, &why.words()),
             Sized::Nothing => say(b"no size\n"),
             Sized::Bytes(n) => say_size(n),
         }
@@ -145,11 +192,19 @@ fn answer_match(a: &[u8], text: &[u8]) {
     let mut words = [0u64; 8008];
     let mut names = [0u8; 2000];
     if reads(a, &mut words, &mut names) {
-        match expect::equivalent_to_str(&words, &names, text) {
-            Compared::Refused(why) => say_refused(text, &parse::refusal_words(why)),
+        match encoding::equivalent_to_str(&words, &names, text) {
+            Compared::Refused(why) => say_refused(text, &why.words()),
             Compared::Decided(answer) => say_decided(answer),
         }
     }
+}
+
+// By levels, or with all fields.
+fn compared(all: bool, aw: &[u64], an: &[u8], bw: &[u64], bn: &[u8]) -> Compared {
+    if all {
+        return encoding_box::eq(aw, an, bw, bn);
+    }
+    encoding::equivalent_to(aw, an, bw, bn)
 }
 
 // Compares a tree with that of a text.
@@ -157,8 +212,8 @@ fn compare_with(all: bool, a: &[u8], aw: &[u64], an: &[u8], b: &[u8]) {
     let mut bw = [0u64; 8008];
     let mut bn = [0u8; 2000];
     if reads(b, &mut bw, &mut bn) {
-        match helper::compare_encodings(aw, an, &bw, &bn, all) {
-            Compared::Refused(why) => say_refused(a, &parse::refusal_words(why)),
+        match compared(all, aw, an, &bw, &bn) {
+            Compared::Refused(why) => say_refused(a, &why.words()),
             Compared::Decided(answer) => say_decided(answer),
         }
     }
@@ -172,39 +227,64 @@ fn answer_compare(all: bool, a: &[u8], b: &[u8]) {
     }
 }
 
-fn answer_one(command: &[u8], text: &[u8]) {
+// How many texts a command takes; 0 where there is no such command.
+fn texts_of(command: &[u8]) -> usize {
     if check::same(command, b"read") {
-        answer_read(text);
-    } else if check::same(command, b"start") {
-        answer_start(text);
-    } else if check::same(command, b"print") {
-        answer_print(text);
-    } else if check::same(command, b"size") {
-        answer_size(text);
-    } else {
-        say_usage();
+        return 1;
     }
+    if check::same(command, b"start") {
+        return 1;
+    }
+    if check::same(command, b"print") {
+        return 1;
+    }
+    if check::same(command, b"size") {
+        return 1;
+    }
+    if check::same(command, b"compare") {
+        return 2;
+    }
+    if check::same(command, b"compare-all") {
+        return 2;
+    }
+    if check::same(command, b"match") {
+        return 2;
+    }
+    0
 }
 
-fn answer_two(command: &[u8], a: &[u8], b: &[u8]) {
-    if check::same(command, b"match") {
-        answer_match(a, b);
+// Answers a command that `texts_of` knows, whose texts stand in `a` and `b`.
+fn answer_known(command: &[u8], a: &[u8], b: &[u8]) {
+    if check::same(command, b"read") {
+        answer_read(a);
+    } else if check::same(command, b"start") {
+        answer_start(a);
+    } else if check::same(command, b"print") {
+        answer_print(a);
+    } else if check::same(command, b"size") {
+        answer_size(a);
     } else if check::same(command, b"compare") {
         answer_compare(false, a, b);
     } else if check::same(command, b"compare-all") {
         answer_compare(true, a, b);
     } else {
-        say_usage();
+        answer_match(a, b);
     }
 }
 
 // Answers a command with `texts` texts, of which the first two stand in `a` and `b`.
 fn answer(command: &[u8], texts: usize, a: &[u8], b: &[u8]) {
-    match texts {
-        1 => answer_one(command, a),
-        2 => answer_two(command, a, b),
-        _ => say_usage(),
+    let wanted = texts_of(command);
+    if wanted == 0 {
+        return complain(command, b"' is no command\n");
     }
+    if wanted == texts {
+        return answer_known(command, a, b);
+    }
+    if wanted == 1 {
+        return complain(command, b"' takes one text\n");
+    }
+    complain(command, b"' takes two texts\n");
 }
 
 fn answer_line(line: &[u8]) {
@@ -265,7 +345,7 @@ fn answer_command(texts: usize) {
 fn main() {
     let words = os::arg_count();
     if words < 2 {
-        say_usage();
+        say_usage(STDOUT_FILENO);
     } else {
         answer_command(words - 2);
     }

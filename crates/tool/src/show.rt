@@ -3,7 +3,7 @@ ghost use mathlib.Core.Path.{_≡_};
 ghost use mathlib.Core.List.{[], _∷_};
 ghost use lib.ListN.{take, drop, getD};
 ghost use Rattle.lines.specs.Put.{Put};
-ghost use Rattle.tool.specs.Show.{countOf, nodesShown, shownByte, shownText, times, depthOf, lineOf, countText, kindNames, valuesText, rightText, nodeText, byteText, containerText, shownOrCut, markText, reasons, namedText, refusedText};
+ghost use Rattle.tool.specs.Show.{countOf, shownByte, shownText, times, depthOf, lineOf, countText, kindNames, valuesText, rightText, nodeText, byteText, containerText, shownOrCut, markText, reasons, namedText, refusedText};
 
 // The word at `i`, or 0 beyond the end.
 fn word_at(words: &[u64], i: usize) -> u64
@@ -91,25 +91,14 @@ pub fn put_count(out: &mut [u8], at: usize, n: u64, unit: &[u8]) -> usize
     lines::put_bytes(out, to, b"s")
 }
 
-// The count of nodes in a sheet, of which there are at most 2,001.
-pub fn node_count(words: &[u64]) -> u16
-    ensures { λ r. ⌜ r ≡ nodesShown (now (words .entry)) ⌝ }
-{
-    let n = word_at(words, 0);
-    if 2001 < n {
-        return 2001;
-    }
-    n as u16
-}
-
 // How many nodes hold node `i`: those before it whose subtree reaches beyond it.
-fn depth(words: &[u64], i: u16) -> usize
-    ensures { λ r. ⌜ r ≡ depthOf (now (words .entry)) i ⌝ }
+fn depth(nodes: &[u64], i: u16) -> usize
+    ensures { λ r. ⌜ r ≡ depthOf (now (nodes .entry)) i ⌝ }
 {
     let mut n = 0;
     let mut j = 0;
     while j < i {
-        let count = word_at(words, 4 * (j as usize) + 7);
+        let count = word_at(nodes, 4 * (j as usize) + 3);
         if ((i - j) as u64) < count {
             n += 1;
         }
@@ -175,16 +164,16 @@ fn put_right(out: &mut [u8], at: usize, n: u64, widest: u64) -> usize
 }
 
 // The line of a node: its number, in a column for the last one's, and its kind, two columns deeper than its parent's.
-pub fn put_node(out: &mut [u8], words: &[u64], names: &[u8], i: u16, last: u16) -> usize
-    ensures { λ r. ⌜ Put (now (out .entry)) 0 (nodeText (now (words .entry)) (now (names .entry)) i last) (now (out .exit)) r ⌝ }
+pub fn put_node(out: &mut [u8], nodes: &[u64], names: &[u8], i: u16, last: u16) -> usize
+    ensures { λ r. ⌜ Put (now (out .entry)) 0 (nodeText (now (nodes .entry)) (now (names .entry)) i last) (now (out .exit)) r ⌝ }
 {
     let number = put_right(out, 0, i as u64, last as u64);
     let space = lines::put_bytes(out, number, b" ");
-    let to = put_times(out, space, b"  ", depth(words, i));
+    let to = put_times(out, space, b"  ", depth(nodes, i));
     let at = 4 * (i as usize);
-    let kind = word_at(words, at + 4);
-    let first = word_at(words, at + 5);
-    let second = word_at(words, at + 6);
+    let kind = word_at(nodes, at);
+    let first = word_at(nodes, at + 1);
+    let second = word_at(nodes, at + 2);
     let values = put_kind(out, to, kind);
     put_values(out, values, names, kind, first, second)
 }

@@ -1,5 +1,5 @@
 use mathlib.Core.Path.{ap, _∙_}
-use Rattle.berzhotun.specs.Numbers.{compareNumber, compareValues}
+use Rattle.berzhotun.specs.Answer.{compareNumber, compareValues}
 use borrow.Author.Needs.{needs}
 use Rattle.berzhotun.proofs.berzhotun_eq.Statement.{statement}
 use Rattle.berzhotun.proofs.berzhotun_eq.Tie as tie
@@ -16,7 +16,8 @@ give-compared-requires c κs = search needs
 
 returns : tie.Need-returns
 returns c =
-    (c .give-compared .ensures .0 ∙ ap compareNumber (c .before .before .eq .ensures), c .give-compared .ensures .1 ∙ ap compareValues (c .before .before .eq .ensures))
+    let c2 = c .before .before in
+    (c .give-compared .ensures .0 ∙ ap compareNumber (c2 .eq .ensures), c .give-compared .ensures .1 ∙ ap compareValues (c2 .eq .ensures))
 
 pub berzhotun-eq-spec : {M : Type 1} → statement M
 berzhotun-eq-spec = tie.close (tie.spec eq-requires give-compared-requires returns)

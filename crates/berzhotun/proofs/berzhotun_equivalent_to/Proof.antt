@@ -1,5 +1,5 @@
 use mathlib.Core.Path.{ap, _∙_}
-use Rattle.berzhotun.specs.Numbers.{compareNumber, compareValues}
+use Rattle.berzhotun.specs.Answer.{compareNumber, compareValues}
 use borrow.Author.Needs.{needs}
 use Rattle.berzhotun.proofs.berzhotun_equivalent_to.Statement.{statement}
 use Rattle.berzhotun.proofs.berzhotun_equivalent_to.Tie as tie
@@ -16,7 +16,8 @@ give-compared-requires c κs = search needs
 
 returns : tie.Need-returns
 returns c =
-    (c .give-compared .ensures .0 ∙ ap compareNumber (c .before .before .equivalent-to .ensures), c .give-compared .ensures .1 ∙ ap compareValues (c .before .before .equivalent-to .ensures))
+    let c2 = c .before .before in
+    (c .give-compared .ensures .0 ∙ ap compareNumber (c2 .equivalent-to .ensures), c .give-compared .ensures .1 ∙ ap compareValues (c2 .equivalent-to .ensures))
 
 pub berzhotun-equivalent-to-spec : {M : Type 1} → statement M
 berzhotun-equivalent-to-spec =

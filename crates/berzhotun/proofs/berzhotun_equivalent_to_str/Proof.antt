@@ -1,5 +1,5 @@
 use mathlib.Core.Path.{ap, _∙_}
-use Rattle.berzhotun.specs.Numbers.{compareNumber, compareValues}
+use Rattle.berzhotun.specs.Answer.{compareNumber, compareValues}
 use borrow.Author.Needs.{needs}
 use Rattle.berzhotun.proofs.berzhotun_equivalent_to_str.Statement.{statement}
 use Rattle.berzhotun.proofs.berzhotun_equivalent_to_str.Tie as tie
@@ -16,7 +16,11 @@ give-compared-requires c κs = search needs
 
 returns : tie.Need-returns
 returns c =
-    (c .give-compared .ensures .0 ∙ ap compareNumber (c .before .before .equivalent-to-str .ensures), c .give-compared .ensures .1 ∙ ap compareValues (c .before .before .equivalent-to-str .ensures))
+    let c2 = c .before .before in (
+      c .give-compared .ensures .0 ∙ ap compareNumber (c2 .equivalent-to-str .ensures),
+      c .give-compared .ensures .1
+          ∙ ap compareValues (c2 .equivalent-to-str .ensures),
+    )
 
 pub berzhotun-equivalent-to-str-spec : {M : Type 1} → statement M
 berzhotun-equivalent-to-str-spec =

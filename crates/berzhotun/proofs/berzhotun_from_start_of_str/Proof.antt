@@ -1,8 +1,8 @@
 use Prim.Native.Nat.{_-_}
 use denote.Ref.{now}
 use lib.ListN.{length}
-use Rattle.parse.specs.EncodingBox.{fromStartAnswer}
-use Rattle.berzhotun.specs.Numbers.{restPlace}
+use Rattle.parse.specs.Answer.{fromStartAnswer}
+use Rattle.berzhotun.specs.Answer.{restPlace}
 use Rattle.berzhotun.proofs.ReadingLaws.{tree-number, tree-values, refused-number, refused-values, end-shorter}
 use borrow.Author.Needs.{needs}
 use Rattle.berzhotun.proofs.berzhotun_from_start_of_str.Statement.{statement}
@@ -28,10 +28,12 @@ same-length-2 c = search needs
 
 returns : tie.Need-returns
 returns c =
-    let g = c .before .before .before .before .before .before .before .before .before .before .before .before .before .args in
-    let a = c .before .before .before .before .before .before .from-start-of-str .ensures in
+    let c6 = c .before .before .before .before .before .before in
+    let c13 = c6 .before .before .before .before .before .before .before in
+    let g = c13 .args in
+    let a = c6 .from-start-of-str .ensures in
     let r = fromStartAnswer (now (g .text)) (now (g .words)) (now (g .names)) in
-    let p = length (now (g .text)) - length (now (c .before .before .before .before .before .before .from-start-of-str .result)) in
+    let p = length (now (g .text)) - length (now (c6 .from-start-of-str .result)) in
     (tree-number _ r (a .1 .1 .0) (c .before .if1 .taken), (rw (← a .0) (tree-values _ r p (a .1 .1 .0) (c .before .if1 .taken)), a .1 .1 .1))
 
 array-read-t15 : tie.Need-array-read-t15
@@ -51,8 +53,10 @@ same-length-4 c = search needs
 
 returns-2 : tie.Need-returns-2
 returns-2 c =
-    let g = c .before .before .before .before .before .before .before .before .before .before .before .before .before .args in
-    let a = c .before .before .before .before .before .before .from-start-of-str .ensures in
+    let c6 = c .before .before .before .before .before .before in
+    let c13 = c6 .before .before .before .before .before .before .before in
+    let g = c13 .args in
+    let a = c6 .from-start-of-str .ensures in
     let r = fromStartAnswer (now (g .text)) (now (g .words)) (now (g .names)) in
     let p = restPlace (now (g .text)) (now (g .words)) (now (g .names)) in
     (refused-number _ r (a .1 .1 .0) (c .before .if1 .left), (refused-values _ r p (a .1 .1 .0) (c .before .if1 .left), a .1 .1 .1))

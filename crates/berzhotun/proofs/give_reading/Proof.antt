@@ -22,7 +22,9 @@ returns : tie.Need-returns
 returns c = search needs
 
 returns-2 : tie.Need-returns-2
-returns-2 c = rw (c .before .before .before .reading .given .1) (c .number .ensures, c .before .values2 .ensures)
+returns-2 c =
+    let c3 = c .before .before .before in
+    rw (c3 .reading .given .1) (c .number .ensures, c .before .values2 .ensures)
 
 pub give-reading-spec : {M : Type 1} → statement M
 give-reading-spec =

@@ -5,6 +5,7 @@ use lib.ListN.{getD, drop}
 use Rattle.kinds.specs.Sheet.{nodeWords}
 use Rattle.sheet.specs.declared.Checked.the-variants.{Good}
 use Rattle.kinds.specs.declared.Compared.the-variants.{Decided}
+use Rattle.parser.proofs.PlaceLaws.{strip-place}
 use Rattle.expect.proofs.TextLaws.{rest}
 use Rattle.expect.proofs.FieldLaws.{lent-walk, lent-fields}
 use Rattle.expect.proofs.AnswerLaws.{words-enough, sheet-trees, too-long, of-sheet, walked-fields, walked-code, decided}
@@ -49,7 +50,7 @@ returns-2 : tie.Need-returns-2
 returns-2 c =
     let a = c .before .before .before .before .before .before .before .before .before .before .before .before .before .args in
     let good = sym (c .before .before .before .before .before .before .before .before .check .ensures) ∙ c .before .before .before .before .before .before .enum-told3 .given .1 in
-    ap Decided (decided (a .words .now) (a .names .now) (a .text .now) (c .before .before .before .before .before .strip-leading-qualifiers .result) (c .before .expect-byte .result) _ (c .before .before .before .before .before .strip-leading-qualifiers .ensures .0) (walked-code (a .words .now) (a .names .now) (a .text .now) (c .before .expect-byte .result) _ (c .before .before .before .code-byte .result) good (c .before .before .before .code-byte .ensures) (c .before .before .if2 .taken) (c .before .expect-byte .ensures)) (c .decide .ensures))
+    ap Decided (decided (a .words .now) (a .names .now) (a .text .now) (c .before .before .before .before .before .strip-leading-qualifiers .result) (c .before .expect-byte .result) _ (strip-place _ _ (c .before .before .before .before .before .strip-leading-qualifiers .ensures) .0) (walked-code (a .words .now) (a .names .now) (a .text .now) (c .before .expect-byte .result) _ (c .before .before .before .code-byte .result) good (c .before .before .before .code-byte .ensures) (c .before .before .if2 .taken) (c .before .expect-byte .ensures)) (c .decide .ensures))
     ∙ of-sheet (a .words .now) (a .names .now) (a .text .now) (c .before .before .before .before .before .before .before .before .before .if1 .left) Good good
 
 shared-slice-read-n : tie.Need-shared-slice-read-n
@@ -102,7 +103,7 @@ expect-encoding-requires c κs =
     let a = c .before .before .before .before .before .before .before .before .before .before .before .before .before .before .before .before .args in
     let good = sym (c .before .before .before .before .before .before .before .before .before .before .before .check .ensures) ∙ c .before .before .before .before .before .before .before .before .before .enum-told3 .given .1 in
     let h = sheet-trees (a .words .now) (a .names .now) good in
-    let start = c .before .before .before .before .before .before .before .before .strip-leading-qualifiers .ensures .1 in
+    let start = strip-place (a .text .now) _ (c .before .before .before .before .before .before .before .before .strip-leading-qualifiers .ensures) .1 in
     lent-walk (a .names .now) (nodeWords (a .words .now)) _ (a .text .now) _ _ _ (rest (a .words .now) 4) (h .0) (omega arith) (h .1)
 
 decide-requires-2 : tie.Need-decide-requires-2
@@ -120,7 +121,7 @@ returns-5 c =
     let good = sym (c .before .before .before .before .before .before .before .before .before .before .before .before .before .check .ensures) ∙ c .before .before .before .before .before .before .before .before .before .before .before .enum-told3 .given .1 in
     let start = c .before .before .before .before .before .before .before .before .before .before .strip-leading-qualifiers .result in
     let f = lent-fields (a .names .now) (nodeWords (a .words .now)) _ (a .text .now) (getD (a .words .now) 0 0) 0 start (rest (a .words .now) 4) (c .before .before .before .before .before .new .result) (c .before .expect-encoding .result) (c .before .expect-encoding .ensures) in
-    ap Decided (decided (a .words .now) (a .names .now) (a .text .now) start (c .before .expect-encoding .result) _ (c .before .before .before .before .before .before .before .before .before .before .strip-leading-qualifiers .ensures .0) (walked-fields (a .words .now) (a .names .now) (a .text .now) (c .before .expect-encoding .result) (drop start (a .text .now)) (c .before .before .before .before .before .new .result) (c .before .before .before .before .before .new .ensures) f) (c .decide2 .ensures))
+    ap Decided (decided (a .words .now) (a .names .now) (a .text .now) start (c .before .expect-encoding .result) _ (strip-place _ _ (c .before .before .before .before .before .before .before .before .before .before .strip-leading-qualifiers .ensures) .0) (walked-fields (a .words .now) (a .names .now) (a .text .now) (c .before .expect-encoding .result) (drop start (a .text .now)) (c .before .before .before .before .before .new .result) (c .before .before .before .before .before .new .ensures) f) (c .decide2 .ensures))
     ∙ of-sheet (a .words .now) (a .names .now) (a .text .now) (c .before .before .before .before .before .before .before .before .before .before .before .before .before .before .if1 .left) Good good
 
 pub equivalent-to-str-spec : {M : Type 1} → statement M

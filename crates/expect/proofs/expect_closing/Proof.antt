@@ -20,8 +20,8 @@ expect-byte-requires c κs = search needs
 returns-2 : tie.Need-returns-2
 returns-2 c = same-outcome _ (c .expect-byte .result) _ _ (closing-array _ _ _ (c .before .if2 .taken)) (c .expect-byte .ensures)
 
-container-kind-requires : tie.Need-container-kind-requires
-container-kind-requires c κs = search needs
+container-of-requires : tie.Need-container-of-requires
+container-of-requires c κs = search needs
 
 end-byte-requires : tie.Need-end-byte-requires
 end-byte-requires c κs = search needs
@@ -30,7 +30,7 @@ expect-byte-requires-2 : tie.Need-expect-byte-requires-2
 expect-byte-requires-2 c κs = search needs
 
 returns-3 : tie.Need-returns-3
-returns-3 c = same-outcome _ (c .expect-byte2 .result) _ _ (closing-container _ _ _ (c .before .before .before .before .if1 .left) (c .before .before .before .if2 .left) ∙ ap (λ (b : ℕ). expectByte b (drop (c .before .before .before .before .before .before .args .at) (c .before .before .before .before .before .before .args .text .now))) (sym (c .before .end-byte .ensures ∙ ap endByte (c .before .before .container-kind .ensures)))) (c .expect-byte2 .ensures)
+returns-3 c = same-outcome _ (c .expect-byte2 .result) _ _ (closing-container _ _ _ (c .before .before .before .before .if1 .left) (c .before .before .before .if2 .left) ∙ ap (λ (b : ℕ). expectByte b (drop (c .before .before .before .before .before .before .args .at) (c .before .before .before .before .before .before .args .text .now))) (sym (c .before .end-byte .ensures ∙ ap endByte (c .before .before .container-of .ensures)))) (c .expect-byte2 .ensures)
 
 pub expect-closing-spec : {M : Type 1} → statement M
 expect-closing-spec =
@@ -40,7 +40,7 @@ expect-closing-spec =
     returns
     expect-byte-requires
     returns-2
-    container-kind-requires
+    container-of-requires
     end-byte-requires
     expect-byte-requires-2
     returns-3)

@@ -1,18 +1,9 @@
-use native.Mathlib.Omega.{arith}
+use mathlib.Core.Path.{_∙_}
 use borrow.Author.Needs.{needs}
-use Rattle.kinds.specs.Parse.{maxU64}
-use Rattle.expect.proofs.TextLaws.{rest-within, rest-none, rest-other, rest-is}
+use Rattle.numbers.proofs.NumberLaws as N
+use Rattle.expect.proofs.TextLaws.{number-none, number-other, number-is}
 use Rattle.expect.proofs.expect_u64.Statement.{statement}
 use Rattle.expect.proofs.expect_u64.Tie as tie
-
-sub-parse-u64 : tie.Need-sub-parse-u64
-sub-parse-u64 c = search needs
-
-part-parse-u64-start : tie.Need-part-parse-u64-start
-part-parse-u64-start c = search needs
-
-part-parse-u64-end : tie.Need-part-parse-u64-end
-part-parse-u64-end c = search needs
 
 parse-u64-requires : tie.Need-parse-u64-requires
 parse-u64-requires c κs = search needs
@@ -23,29 +14,23 @@ enum-told c = search needs
 enum-known-m : tie.Need-enum-known-m
 enum-known-m c = search needs
 
-add-t13 : tie.Need-add-t13
-add-t13 c = let n = rw (c .before .before .m .given .1) at (c .before .before .before .before .parse-u64 .ensures) in omega (arith, rest-within (c .before .before .before .before .before .before .before .args .text .now) (c .before .before .before .before .before .before .before .args .at) (c .before .before .m .given .0 .1 .0) (c .before .before .before .before .before .before .before .pre) (n .1 .1))
-
 returns : tie.Need-returns
-returns c = let n = rw (c .before .before .m .given .1) at (c .before .before .before .before .parse-u64 .ensures) in (rest-is (c .before .before .before .before .before .before .before .args .text .now) (c .before .before .before .before .before .before .before .args .at) maxU64 (c .before .before .before .before .before .before .before .args .n) _ (c .before .before .m .given .0 .1 .0) (n .0) (c .if1 .taken), rest-within (c .before .before .before .before .before .before .before .args .text .now) (c .before .before .before .before .before .before .before .args .at) (c .before .before .m .given .0 .1 .0) (c .before .before .before .before .before .before .before .pre) (n .1 .1))
+returns c =
+    let u = c .before .before .before .before in
+    let n = rw (c .before .before .m .given .1) at (N.number-is _ _ _ _ (u .before .before .pre) (u .parse-u64 .ensures)) in
+    (number-is _ _ _ _ _ (n .0) (c .if1 .taken), n .1 .1)
 
 returns-2 : tie.Need-returns-2
-returns-2 c = let n = rw (c .enum-told .given .1) at (c .before .before .parse-u64 .ensures) in rest-none (c .before .before .before .before .before .args .text .now) (c .before .before .before .before .before .args .at) maxU64 (c .before .before .before .before .before .args .n) _ _ (n .0)
+returns-2 c =
+    let u = c .before .before in
+    let n = rw (c .enum-told .given .1) at (N.number-is _ _ _ _ (u .before .before .pre) (u .parse-u64 .ensures)) in
+    number-none _ _ _ _ _ (n .0)
 
 returns-3 : tie.Need-returns-3
-returns-3 c = let n = rw (c .before .before .m .given .1) at (c .before .before .before .before .parse-u64 .ensures) in rest-other (c .before .before .before .before .before .before .before .args .text .now) (c .before .before .before .before .before .before .before .args .at) maxU64 (c .before .before .before .before .before .before .before .args .n) _ (c .before .before .m .given .0 .1 .0) (n .0) (c .if1 .left)
+returns-3 c =
+    let u = c .before .before .before .before in
+    let n = rw (c .before .before .m .given .1) at (N.number-is _ _ _ _ (u .before .before .pre) (u .parse-u64 .ensures)) in
+    number-other _ _ _ _ _ (n .0) (c .if1 .left)
 
 pub expect-u64-spec : {M : Type 1} → statement M
-expect-u64-spec =
-    tie.close
-    (tie.spec
-    sub-parse-u64
-    part-parse-u64-start
-    part-parse-u64-end
-    parse-u64-requires
-    enum-told
-    enum-known-m
-    add-t13
-    returns
-    returns-2
-    returns-3)
+expect-u64-spec = tie.close (tie.spec parse-u64-requires enum-told enum-known-m returns returns-2 returns-3)

@@ -4,14 +4,14 @@ use Rattle.expect.proofs.WalkLaws.{container-at}
 use Rattle.expect.proofs.open_container.Statement.{statement}
 use Rattle.expect.proofs.open_container.Tie as tie
 
-mul-container-kind : tie.Need-mul-container-kind
-mul-container-kind c = search needs
+mul-container-of : tie.Need-mul-container-of
+mul-container-of c = search needs
 
-shared-slice-read-container-kind : tie.Need-shared-slice-read-container-kind
-shared-slice-read-container-kind c = search needs
+shared-slice-read-container-of : tie.Need-shared-slice-read-container-of
+shared-slice-read-container-of c = search needs
 
-container-kind-requires : tie.Need-container-kind-requires
-container-kind-requires c κs = search needs
+container-of-requires : tie.Need-container-of-requires
+container-of-requires c κs = search needs
 
 add-from : tie.Need-add-from
 add-from c = search needs
@@ -59,15 +59,15 @@ open-named-requires : tie.Need-open-named-requires
 open-named-requires c κs = search needs
 
 returns : tie.Need-returns
-returns c = container-at (c .before .before .before .before .before .before .before .before .before .before .args .names .now) (c .before .before .before .before .before .before .before .before .before .before .args .nodes .now) (c .before .before .before .before .before .before .before .before .before .before .args .at) (c .before .before .before .before .before .before .before .before .before .before .args .level) _ (c .before .before .before .before .before .before .before .before .before .before .args .text .now) (c .open-named .result) _ (c .before .before .before .before .before .before .before .before .before .before .pre .2) (c .before .before .before .before .before .container-kind .ensures) (c .open-named .ensures)
+returns c = container-at (c .before .before .before .before .before .before .before .before .before .before .args .names .now) (c .before .before .before .before .before .before .before .before .before .before .args .nodes .now) (c .before .before .before .before .before .before .before .before .before .before .args .at) (c .before .before .before .before .before .before .before .before .before .before .args .level) _ (c .before .before .before .before .before .before .before .before .before .before .args .text .now) (c .open-named .result) _ (c .before .before .before .before .before .before .before .before .before .before .pre .2) (c .before .before .before .before .before .container-of .ensures) (c .open-named .ensures)
 
 pub open-container-spec : {M : Type 1} → statement M
 open-container-spec =
     tie.close
     (tie.spec
-    mul-container-kind
-    shared-slice-read-container-kind
-    container-kind-requires
+    mul-container-of
+    shared-slice-read-container-of
+    container-of-requires
     add-from
     mul-from
     shared-slice-read-from

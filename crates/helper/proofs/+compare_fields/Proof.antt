@@ -45,7 +45,24 @@ compare-fields-below t =
     compare-fields.Pre
 
 abbrev compare-fields-claims : ℕ → compare-fields-lts.Claims
-compare-fields-claims t = (either-none-reads.Asked, either-none-reads.Learnt, compare-labels-reads.Asked, compare-labels-reads.Learnt, is-container-reads.Asked, is-container-reads.Learnt, level-for-reads.Asked, level-for-reads.Learnt, shown-count-reads.Asked, shown-count-reads.Learnt, fields-last-reads.Asked, fields-last-reads.Learnt, compare-fields-below t, compare-fields.Post, level-after-reads.Asked, level-after-reads.Learnt)
+compare-fields-claims t = (
+  either-none-reads.Asked,
+  either-none-reads.Learnt,
+  compare-labels-reads.Asked,
+  compare-labels-reads.Learnt,
+  is-container-reads.Asked,
+  is-container-reads.Learnt,
+  level-for-reads.Asked,
+  level-for-reads.Learnt,
+  shown-count-reads.Asked,
+  shown-count-reads.Learnt,
+  fields-last-reads.Asked,
+  fields-last-reads.Learnt,
+  compare-fields-below t,
+  compare-fields.Post,
+  level-after-reads.Asked,
+  level-after-reads.Learnt,
+)
 
 abbrev compare-fields-Inv-loop : compare-fields-lts.InvT-loop
 compare-fields-Inv-loop a an at₀ left₀ b bn bt₀ more₀ level₀ all here₀ at left bt more level here = (left ≤ left₀) × Left all level an a bn b at left bt more here (compareFields all level₀ (trees an a left₀ at₀) (trees bn b more₀ bt₀))
@@ -65,8 +82,17 @@ compare-fields-loop-holds : (t : ℕ) → compare-fields-lts.Need-loop-holds (co
 compare-fields-loop-holds t c =
     let pre = c .before .before .before .before .before .before .pre in
     let a = c .before .before .before .before .before .before .args in
-    let s = both-some _ _ (sym (c .before .either-none .ensures) ∙ c .if1 .left) in
-    (omega arith, record { first = pre .1 .0 .0; second = pre .1 .0 .1; first-walk = pre .1 .1 .0; second-walk = pre .1 .1 .1; rest = resume-level _ _ _ _ ∙ sym (fields-some (a .all) (a .level) (a .an .now) (a .a .now) (a .bn .now) (a .b .now) (a .left) (a .more) (a .at) (a .bt) (s .0) (s .1)) })
+    let s = both-some _ _ (sym (c .before .either-none .ensures) ∙ c .if1 .left) in (
+      omega arith,
+      record {
+        first = pre .1 .0 .0;
+        second = pre .1 .0 .1;
+        first-walk = pre .1 .1 .0;
+        second-walk = pre .1 .1 .1;
+        rest = resume-level _ _ _ _
+            ∙ sym (fields-some (a .all) (a .level) (a .an .now) (a .a .now) (a .bn .now) (a .b .now) (a .left) (a .more) (a .at) (a .bt) (s .0) (s .1));
+      },
+    )
 
 compare-fields-returns-2 : (t : ℕ) → compare-fields-lts.Need-returns-2 (compare-fields-claims t) (compare-fields-at t) compare-fields.Post compare-fields-Inv-loop compare-fields-μ-loop
 compare-fields-returns-2 t c = left-short (c .before .before .loop .inv .1) (c .before .loop-test .taken) (omega arith)
@@ -206,15 +232,30 @@ compare-fields-fields-last-requires : (t : ℕ) → compare-fields-lts.Need-fiel
 compare-fields-fields-last-requires t c κs = search needs
 
 compare-fields-loop-less : (t : ℕ) → compare-fields-lts.Need-loop-less (compare-fields-claims t) (compare-fields-at t) compare-fields.Post compare-fields-Inv-loop compare-fields-μ-loop
-compare-fields-loop-less t c = let i = left-inner (c .before .before .before .before .before .before .before .before .before .before .before .before .before .loop .inv .1) (c .before .before .before .before .before .before .before .before .before .before .before .before .loop-test .taken) (omega arith) (sym (c .before .before .before .before .before .before .before .before .before .before .compare-labels .ensures) ∙ not-false _ (c .before .before .before .before .before .before .before .before .before .if3 .left)) (sym (c .before .before .before .before .before .before .before .is-container .ensures) ∙ c .before .before .before .before .before .before .if4 .taken) (c .before .before .before .level-for .ensures) (c .before .before .shown-count .ensures) in let j = i .0 in omega arith
+compare-fields-loop-less t c = let i = left-inner (c .before .before .before .before .before .before .before .before .before .before .before .before .before .loop .inv .1)
+    (c .before .before .before .before .before .before .before .before .before .before .before .before .loop-test .taken) (omega arith)
+    (sym (c .before .before .before .before .before .before .before .before .before .before .compare-labels .ensures)
+    ∙ not-false _ (c .before .before .before .before .before .before .before .before .before .if3 .left)) (sym (c .before .before .before .before .before .before .before .is-container .ensures)
+    ∙ c .before .before .before .before .before .before .if4 .taken) (c .before .before .before .level-for .ensures) (c .before .before .shown-count .ensures) in let j = i .0 in omega arith
 
 compare-fields-loop-again : (t : ℕ) → compare-fields-lts.Need-loop-again (compare-fields-claims t) (compare-fields-at t) compare-fields.Post compare-fields-Inv-loop compare-fields-μ-loop
 compare-fields-loop-again t c =
-    let b = left-bounds (c .before .before .before .before .before .before .before .before .before .before .before .before .before .loop .inv .1) (c .before .before .before .before .before .before .before .before .before .before .before .before .loop-test .taken) (omega arith) in
-    let i = left-inner (c .before .before .before .before .before .before .before .before .before .before .before .before .before .loop .inv .1) (c .before .before .before .before .before .before .before .before .before .before .before .before .loop-test .taken) (omega arith) (sym (c .before .before .before .before .before .before .before .before .before .before .compare-labels .ensures) ∙ not-false _ (c .before .before .before .before .before .before .before .before .before .if3 .left)) (sym (c .before .before .before .before .before .before .before .is-container .ensures) ∙ c .before .before .before .before .before .before .if4 .taken) (c .before .before .before .level-for .ensures) (c .before .before .shown-count .ensures) in
+    let b = left-bounds (c .before .before .before .before .before .before .before .before .before .before .before .before .before .loop .inv .1)
+    (c .before .before .before .before .before .before .before .before .before .before .before .before .loop-test .taken) (omega arith) in
+    let i = left-inner (c .before .before .before .before .before .before .before .before .before .before .before .before .before .loop .inv .1)
+    (c .before .before .before .before .before .before .before .before .before .before .before .before .loop-test .taken) (omega arith)
+    (sym (c .before .before .before .before .before .before .before .before .before .before .compare-labels .ensures)
+    ∙ not-false _ (c .before .before .before .before .before .before .before .before .before .if3 .left)) (sym (c .before .before .before .before .before .before .before .is-container .ensures)
+    ∙ c .before .before .before .before .before .before .if4 .taken) (c .before .before .before .level-for .ensures) (c .before .before .shown-count .ensures) in
     let j = i .0 in
-    let f = c .before .fields-last .ensures (c .if5 .taken) in
-    (omega arith, left-last (c .before .before .before .before .before .before .before .before .before .before .before .before .before .loop .inv .1) (c .before .before .before .before .before .before .before .before .before .before .before .before .loop-test .taken) (omega arith) (sym (c .before .before .before .before .before .before .before .before .before .before .compare-labels .ensures) ∙ not-false _ (c .before .before .before .before .before .before .before .before .before .if3 .left)) (sym (c .before .before .before .before .before .before .before .is-container .ensures) ∙ c .before .before .before .before .before .before .if4 .taken) (c .before .before .before .level-for .ensures) (c .before .before .shown-count .ensures) (omega arith) (omega arith) (f .2) (f .3))
+    let f = c .before .fields-last .ensures (c .if5 .taken) in (
+      omega arith,
+      left-last (c .before .before .before .before .before .before .before .before .before .before .before .before .before .loop .inv .1)
+          (c .before .before .before .before .before .before .before .before .before .before .before .before .loop-test .taken) (omega arith)
+          (sym (c .before .before .before .before .before .before .before .before .before .before .compare-labels .ensures)
+          ∙ not-false _ (c .before .before .before .before .before .before .before .before .before .if3 .left)) (sym (c .before .before .before .before .before .before .before .is-container .ensures)
+          ∙ c .before .before .before .before .before .before .if4 .taken) (c .before .before .before .level-for .ensures) (c .before .before .shown-count .ensures) (omega arith) (omega arith) (f .2) (f .3),
+    )
 
 compare-fields-sub-compare-fields : (t : ℕ) → compare-fields-lts.Need-sub-compare-fields (compare-fields-claims t) (compare-fields-at t) compare-fields.Post compare-fields-Inv-loop compare-fields-μ-loop
 compare-fields-sub-compare-fields t c = search needs
@@ -254,12 +295,26 @@ compare-fields-part-compare-fields-end-4 t c = search needs
 
 compare-fields-compare-fields-requires : (t : ℕ) → compare-fields-lts.Need-compare-fields-requires (compare-fields-claims t) (compare-fields-at t) compare-fields.Post compare-fields-Inv-loop compare-fields-μ-loop
 compare-fields-compare-fields-requires t c κs =
-    let i = left-inner (c .before .before .before .before .before .before .before .before .before .before .before .before .before .before .before .before .before .loop .inv .1) (c .before .before .before .before .before .before .before .before .before .before .before .before .before .before .before .before .loop-test .taken) (omega arith) (sym (c .before .before .before .before .before .before .before .before .before .before .before .before .before .before .compare-labels .ensures) ∙ not-false _ (c .before .before .before .before .before .before .before .before .before .before .before .before .before .if3 .left)) (sym (c .before .before .before .before .before .before .before .before .before .before .before .is-container .ensures) ∙ c .before .before .before .before .before .before .before .before .before .before .if4 .taken) (c .before .before .before .before .before .before .before .level-for .ensures) (c .before .before .before .before .before .before .shown-count .ensures) in
+    let i = left-inner (c .before .before .before .before .before .before .before .before .before .before .before .before .before .before .before .before .before .loop .inv .1)
+    (c .before .before .before .before .before .before .before .before .before .before .before .before .before .before .before .before .loop-test .taken) (omega arith)
+    (sym (c .before .before .before .before .before .before .before .before .before .before .before .before .before .before .compare-labels .ensures)
+    ∙ not-false _ (c .before .before .before .before .before .before .before .before .before .before .before .before .before .if3 .left))
+    (sym (c .before .before .before .before .before .before .before .before .before .before .before .is-container .ensures)
+    ∙ c .before .before .before .before .before .before .before .before .before .before .if4 .taken) (c .before .before .before .before .before .before .before .level-for .ensures)
+    (c .before .before .before .before .before .before .shown-count .ensures) in
     let j = i .0 in
     rw (whole, whole, whole, whole) (omega arith, (i .1, i .2))
 
 compare-fields-returns-4 : (t : ℕ) → compare-fields-lts.Need-returns-4 (compare-fields-claims t) (compare-fields-at t) compare-fields.Post compare-fields-Inv-loop compare-fields-μ-loop
-compare-fields-returns-4 t c = left-fields (c .before .before .before .before .before .before .before .before .before .before .before .before .before .before .before .before .before .before .before .loop .inv .1) (c .before .before .before .before .before .before .before .before .before .before .before .before .before .before .before .before .before .before .loop-test .taken) (omega arith) (sym (c .before .before .before .before .before .before .before .before .before .before .before .before .before .before .before .before .compare-labels .ensures) ∙ not-false _ (c .before .before .before .before .before .before .before .before .before .before .before .before .before .before .before .if3 .left)) (sym (c .before .before .before .before .before .before .before .before .before .before .before .before .before .is-container .ensures) ∙ c .before .before .before .before .before .before .before .before .before .before .before .before .if4 .taken) (c .before .before .before .before .before .before .before .before .before .level-for .ensures) (c .before .before .before .before .before .before .before .before .shown-count .ensures) (sym (rw (whole, whole, whole, whole) at (c .before .compare-fields .ensures)) ∙ not-true _ (c .if6 .taken))
+compare-fields-returns-4 t c = left-fields
+    (c .before .before .before .before .before .before .before .before .before .before .before .before .before .before .before .before .before .before .before .loop .inv .1)
+    (c .before .before .before .before .before .before .before .before .before .before .before .before .before .before .before .before .before .before .loop-test .taken) (omega arith)
+    (sym (c .before .before .before .before .before .before .before .before .before .before .before .before .before .before .before .before .compare-labels .ensures)
+    ∙ not-false _ (c .before .before .before .before .before .before .before .before .before .before .before .before .before .before .before .if3 .left))
+    (sym (c .before .before .before .before .before .before .before .before .before .before .before .before .before .is-container .ensures)
+    ∙ c .before .before .before .before .before .before .before .before .before .before .before .before .if4 .taken)
+    (c .before .before .before .before .before .before .before .before .before .level-for .ensures) (c .before .before .before .before .before .before .before .before .shown-count .ensures)
+    (sym (rw (whole, whole, whole, whole) at (c .before .compare-fields .ensures)) ∙ not-true _ (c .if6 .taken))
 
 compare-fields-mul-at : (t : ℕ) → compare-fields-lts.Need-mul-at (compare-fields-claims t) (compare-fields-at t) compare-fields.Post compare-fields-Inv-loop compare-fields-μ-loop
 compare-fields-mul-at t c =
@@ -323,7 +378,21 @@ compare-fields-loop-less-2 t c =
 compare-fields-loop-again-2 : (t : ℕ) → compare-fields-lts.Need-loop-again-2 (compare-fields-claims t) (compare-fields-at t) compare-fields.Post compare-fields-Inv-loop compare-fields-μ-loop
 compare-fields-loop-again-2 t c =
     let b = left-bounds (c .before .before .before .before .before .before .before .before .before .before .loop .inv .1) (c .before .before .before .before .before .before .before .before .before .loop-test .taken) (omega arith) in
-    ⊎-elim (λ i. (omega arith, left-after (c .before .before .before .before .before .before .before .before .before .before .loop .inv .1) (c .before .before .before .before .before .before .before .before .before .loop-test .taken) (omega arith) (sym (c .before .before .before .before .before .before .before .compare-labels .ensures) ∙ not-false _ (c .before .before .before .before .before .before .if3 .left)) (sym (c .before .before .before .before .is-container .ensures) ∙ i .0 .taken) (i .3 .ensures) (i .4 .ensures) (sym (rw (whole, whole, whole, whole) at (i .11 .ensures)) ∙ not-false _ (i .12 .left)) (i .13) (i .14) (c .level-after .ensures))) (λ i. (omega arith, left-next (c .before .before .before .before .before .before .before .before .before .before .loop .inv .1) (c .before .before .before .before .before .before .before .before .before .loop-test .taken) (omega arith) (sym (c .before .before .before .before .before .before .before .compare-labels .ensures) ∙ not-false _ (c .before .before .before .before .before .before .if3 .left)) (sym (c .before .before .before .before .is-container .ensures) ∙ i .0 .left) (i .1) (i .2) (c .level-after .ensures))) (c .before .before .before .if4 .came)
+    ⊎-elim (λ i. (
+      omega arith,
+      left-after (c .before .before .before .before .before .before .before .before .before .before .loop .inv .1)
+          (c .before .before .before .before .before .before .before .before .before .loop-test .taken) (omega arith)
+          (sym (c .before .before .before .before .before .before .before .compare-labels .ensures) ∙ not-false _ (c .before .before .before .before .before .before .if3 .left))
+          (sym (c .before .before .before .before .is-container .ensures) ∙ i .0 .taken) (i .3 .ensures) (i .4 .ensures) (sym (rw (whole, whole, whole, whole) at (i .11 .ensures))
+          ∙ not-false _ (i .12 .left)) (i .13) (i .14) (c .level-after .ensures),
+    ))
+    (λ i. (
+      omega arith,
+      left-next (c .before .before .before .before .before .before .before .before .before .before .loop .inv .1)
+          (c .before .before .before .before .before .before .before .before .before .loop-test .taken) (omega arith)
+          (sym (c .before .before .before .before .before .before .before .compare-labels .ensures) ∙ not-false _ (c .before .before .before .before .before .before .if3 .left))
+          (sym (c .before .before .before .before .is-container .ensures) ∙ i .0 .left) (i .1) (i .2) (c .level-after .ensures),
+    )) (c .before .before .before .if4 .came)
 
 compare-fields-returns-5 : (t : ℕ) → compare-fields-lts.Need-returns-5 (compare-fields-claims t) (compare-fields-at t) compare-fields.Post compare-fields-Inv-loop compare-fields-μ-loop
 compare-fields-returns-5 t c = left-end (c .before .loop .inv .1) (c .loop-test .left)

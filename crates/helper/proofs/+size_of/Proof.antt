@@ -9,8 +9,8 @@ use Rattle.helper.proofs.Measured.join.Reads as join-reads
 use Rattle.helper.proofs.Measured.of_no_fields.Reads as of-no-fields-reads
 use Rattle.helper.proofs.is_leaf.Reads as is-leaf-reads
 use Rattle.helper.proofs.leaf_size.Reads as leaf-size-reads
-use Rattle.helper.proofs.level_below.Reads as level-below-reads
 use Rattle.kinds.proofs.NestingLevel.container_include_fields.Reads as container-include-fields-reads
+use Rattle.kinds.proofs.NestingLevel.inside.Reads as inside-reads
 use Rattle.helper.proofs.+size_of.{statement}
 use Rattle.helper.proofs.+size_of.Tie.{close}
 use borrow.Author.Tests.{not-false}
@@ -22,11 +22,12 @@ use mathlib.Core.List.{[]}
 use mathlib.Core.Logic.{⊎-elim}
 use Rattle.kinds.specs.Sheet.{kindAt, countAt, trees}
 use Rattle.kinds.specs.Size.{sizes}
+use Rattle.kinds.proofs.KindLaws.{inside-kind, container-kind, included}
 use Rattle.kinds.proofs.ListLaws.{whole}
 use Rattle.kinds.proofs.NodeLaws.{node-inner, child-count, node-child}
 use Rattle.helper.specs.Measure.{clip, holdingMeasured, fold, sizeAt}
 use Rattle.helper.proofs.SizeLaws.{clip-holding, join-unit}
-use Rattle.helper.proofs.NodeSizeLaws.{Gathered, gathered-end, gathered-node, gathered-within, gathered-turn, gathered-code, gathered-inner, included, low-leaf, size-leaf, not-leaf, size-held, size-dropped, size-included, bits-fit, container-kind}
+use Rattle.helper.proofs.NodeSizeLaws.{Gathered, gathered-end, gathered-node, gathered-within, gathered-turn, gathered-code, gathered-inner, low-leaf, size-leaf, not-leaf, size-held, size-dropped, size-included, bits-fit}
 
 abbrev μ-size-of : Measures 1 size-of-kinds.ps ℕ
 μ-size-of κs a = countAt (a .0 .now) (a .1 .0)
@@ -38,7 +39,24 @@ abbrev size-of-below : ℕ → In 1 size-of-kinds.ps
 size-of-below t = and 1 size-of-kinds.ps (falls 1 size-of-kinds.ps _<_ μ-size-of t) size-of.Pre
 
 abbrev size-of-claims : ℕ → size-of-lts.Claims
-size-of-claims t = (is-leaf-reads.Asked, is-leaf-reads.Learnt, leaf-size-reads.Asked, leaf-size-reads.Learnt, level-below-reads.Asked, level-below-reads.Learnt, size-of-below t, size-of.Post, held-by-reads.Asked, held-by-reads.Learnt, container-include-fields-reads.Asked, container-include-fields-reads.Learnt, of-no-fields-reads.Asked, of-no-fields-reads.Learnt, join-reads.Asked, join-reads.Learnt)
+size-of-claims t = (
+  is-leaf-reads.Asked,
+  is-leaf-reads.Learnt,
+  leaf-size-reads.Asked,
+  leaf-size-reads.Learnt,
+  inside-reads.Asked,
+  inside-reads.Learnt,
+  size-of-below t,
+  size-of.Post,
+  held-by-reads.Asked,
+  held-by-reads.Learnt,
+  container-include-fields-reads.Asked,
+  container-include-fields-reads.Learnt,
+  of-no-fields-reads.Asked,
+  of-no-fields-reads.Learnt,
+  join-reads.Asked,
+  join-reads.Learnt,
+)
 
 abbrev size-of-Inv-loop : size-of-lts.InvT-loop
 size-of-Inv-loop nodes at kind inner child₀ left₀ all₀ child left all = (left < countAt nodes at) × Gathered kind inner nodes child left all (λ s. fold kind (sizes inner (trees s nodes (countAt nodes at - 1) (at + 4))))
@@ -84,11 +102,8 @@ size-of-part-size-of-end t c = search needs
 size-of-add-size-of : (t : ℕ) → size-of-lts.Need-add-size-of (size-of-claims t) (size-of-at t) size-of.Post size-of-Inv-loop size-of-μ-loop
 size-of-add-size-of t c = search needs
 
-size-of-level-below-requires : (t : ℕ) → size-of-lts.Need-level-below-requires (size-of-claims t) (size-of-at t) size-of.Post size-of-Inv-loop size-of-μ-loop
-size-of-level-below-requires t c κs =
-    let a = c .before .before .before .before .before .before .args in
-    let n = not-leaf (kindAt (a .nodes .now) (a .at)) (sym (c .before .before .before .is-leaf .ensures) ∙ c .before .before .if1 .left) in
-    (omega arith, omega arith)
+size-of-inside-requires : (t : ℕ) → size-of-lts.Need-inside-requires (size-of-claims t) (size-of-at t) size-of.Post size-of-Inv-loop size-of-μ-loop
+size-of-inside-requires t c κs = search needs
 
 size-of-size-of-requires : (t : ℕ) → size-of-lts.Need-size-of-requires (size-of-claims t) (size-of-at t) size-of.Post size-of-Inv-loop size-of-μ-loop
 size-of-size-of-requires t c κs =
@@ -128,7 +143,10 @@ size-of-returns-2 t c =
     let n = not-leaf (kindAt (a .nodes .now) (a .at)) (sym (c .before .before .before .before .before .before .before .before .is-leaf .ensures) ∙ c .before .before .before .before .before .before .before .if1 .left) in
     let lo : 25 ≤ kindAt (a .nodes .now) (a .at) = omega arith in
     let hi : kindAt (a .nodes .now) (a .at) ≤ 28 = omega arith in
-    λ s. c .held-by .ensures ∙ ap (holdingMeasured _ _ _) ((rw whole at (c .before .before .before .size-of .ensures s)) ∙ ap (λ v. clip (sizeAt s (a .nodes .now) (a .at + 4) v)) (c .before .before .before .before .level-below .ensures s _ _)) ∙ clip-holding _ _ _ _ (bits-fit _) ∙ sym (ap clip (size-held s (a .nodes .now) (a .at) (pre .1) lo hi (a .level) (n .2)))
+    λ s. c .held-by .ensures
+    ∙ ap (holdingMeasured _ _ _) ((rw whole at (c .before .before .before .size-of .ensures s))
+    ∙ ap (λ v. clip (sizeAt s (a .nodes .now) (a .at + 4) v)) (c .before .before .before .before .inside .ensures ∙ sym (inside-kind s _ _ _ _))) ∙ clip-holding _ _ _ _ (bits-fit _)
+    ∙ sym (ap clip (size-held s (a .nodes .now) (a .at) (pre .1) lo hi (a .level) (n .2)))
 
 size-of-container-include-fields-requires : (t : ℕ) → size-of-lts.Need-container-include-fields-requires (size-of-claims t) (size-of-at t) size-of.Post size-of-Inv-loop size-of-μ-loop
 size-of-container-include-fields-requires t c κs = search needs
@@ -205,8 +223,11 @@ size-of-loop-again : (t : ℕ) → size-of-lts.Need-loop-again (size-of-claims t
 size-of-loop-again t c =
     let a = c .before .before .before .before .before .before .before .before .before .before .before .before .before .before .before .before .before .before .args in
     let b = gathered-within (c .before .before .before .before .before .before .loop .inv .1) (c .before .before .before .before .before .loop-test .taken) in
-    let k : kindAt (a .nodes .now) (c .before .before .before .before .before .before .loop .child) < 25 = omega arith in
-    (omega arith, gathered-code (c .before .before .before .before .before .before .loop .inv .1) (c .before .before .before .before .before .loop-test .taken) k (c .before .leaf-size2 .result) (λ s. c .before .leaf-size2 .ensures ∙ sym (ap clip (size-leaf s (a .nodes .now) (c .before .before .before .before .before .before .loop .child) _ (low-leaf _ k)))) (c .join .ensures))
+    let k : kindAt (a .nodes .now) (c .before .before .before .before .before .before .loop .child) < 25 = omega arith in (
+      omega arith,
+      gathered-code (c .before .before .before .before .before .before .loop .inv .1) (c .before .before .before .before .before .loop-test .taken) k (c .before .leaf-size2 .result)
+          (λ s. c .before .leaf-size2 .ensures ∙ sym (ap clip (size-leaf s (a .nodes .now) (c .before .before .before .before .before .before .loop .child) _ (low-leaf _ k)))) (c .join .ensures),
+    )
 
 size-of-add-child-3 : (t : ℕ) → size-of-lts.Need-add-child-3 (size-of-claims t) (size-of-at t) size-of.Post size-of-Inv-loop size-of-μ-loop
 size-of-add-child-3 t c = let b = gathered-within (c .before .before .before .before .loop .inv .1) (c .before .before .before .loop-test .taken) in omega arith
@@ -220,10 +241,16 @@ size-of-loop-less-2 t c = let b = gathered-within (c .before .before .before .be
 size-of-loop-again-2 : (t : ℕ) → size-of-lts.Need-loop-again-2 (size-of-claims t) (size-of-at t) size-of.Post size-of-Inv-loop size-of-μ-loop
 size-of-loop-again-2 t c =
     let a = c .before .before .before .before .before .before .before .before .before .before .before .before .before .before .before .before .args in
-    let n = not-leaf (kindAt (a .nodes .now) (a .at)) (sym (c .before .before .before .before .before .before .before .before .before .before .before .before .before .is-leaf .ensures) ∙ c .before .before .before .before .before .before .before .before .before .before .before .before .if1 .left) in
+    let n = not-leaf (kindAt (a .nodes .now) (a .at)) (sym (c .before .before .before .before .before .before .before .before .before .before .before .before .before .is-leaf .ensures)
+    ∙ c .before .before .before .before .before .before .before .before .before .before .before .before .if1 .left) in
     let b = gathered-within (c .before .before .before .before .loop .inv .1) (c .before .before .before .loop-test .taken) in
-    let k : kindAt (a .nodes .now) (c .before .before .before .before .loop .child) ≡ kindAt (a .nodes .now) (a .at) = omega arith in
-    (omega arith, gathered-inner (c .before .before .before .before .loop .inv .1) (c .before .before .before .loop-test .taken) (container-kind (kindAt (a .nodes .now) (a .at)) (omega arith) (omega arith)) k (included (a .level) _ (sym (c .before .before .before .before .before .before .before .before .before .before .container-include-fields .ensures) ∙ c .before .before .before .before .before .before .before .before .inner .given .1) .1))
+    let k : kindAt (a .nodes .now) (c .before .before .before .before .loop .child) ≡ kindAt (a .nodes .now) (a .at) = omega arith in (
+      omega arith,
+      gathered-inner (c .before .before .before .before .loop .inv .1) (c .before .before .before .loop-test .taken)
+          (container-kind (kindAt (a .nodes .now) (a .at)) (omega arith) (omega arith)) k
+          (included (a .level) _ (sym (c .before .before .before .before .before .before .before .before .before .before .container-include-fields .ensures)
+          ∙ c .before .before .before .before .before .before .before .before .inner .given .1) .1),
+    )
 
 size-of-add-leaf-size-3 : (t : ℕ) → size-of-lts.Need-add-leaf-size-3 (size-of-claims t) (size-of-at t) size-of.Post size-of-Inv-loop size-of-μ-loop
 size-of-add-leaf-size-3 t c = let b = gathered-within (c .before .before .before .before .loop .inv .1) (c .before .before .before .loop-test .taken) in omega arith
@@ -264,31 +291,45 @@ size-of-mul-count : (t : ℕ) → size-of-lts.Need-mul-count (size-of-claims t) 
 size-of-mul-count t c = search needs
 
 size-of-shared-slice-read-count : (t : ℕ) → size-of-lts.Need-shared-slice-read-count (size-of-claims t) (size-of-at t) size-of.Post size-of-Inv-loop size-of-μ-loop
-size-of-shared-slice-read-count t c = let b = gathered-within (c .before .before .before .before .before .before .before .before .before .before .loop .inv .1) (c .before .before .before .before .before .before .before .before .before .loop-test .taken) in omega arith
+size-of-shared-slice-read-count t c = let b = gathered-within (c .before .before .before .before .before .before .before .before .before .before .loop .inv .1)
+    (c .before .before .before .before .before .before .before .before .before .loop-test .taken) in omega arith
 
 size-of-mul-child : (t : ℕ) → size-of-lts.Need-mul-child (size-of-claims t) (size-of-at t) size-of.Post size-of-Inv-loop size-of-μ-loop
-size-of-mul-child t c = let b = gathered-within (c .before .before .before .before .before .before .before .before .before .before .loop .inv .1) (c .before .before .before .before .before .before .before .before .before .loop-test .taken) in omega arith
+size-of-mul-child t c = let b = gathered-within (c .before .before .before .before .before .before .before .before .before .before .loop .inv .1)
+    (c .before .before .before .before .before .before .before .before .before .loop-test .taken) in omega arith
 
 size-of-add-child-4 : (t : ℕ) → size-of-lts.Need-add-child-4 (size-of-claims t) (size-of-at t) size-of.Post size-of-Inv-loop size-of-μ-loop
-size-of-add-child-4 t c = let b = gathered-within (c .before .before .before .before .before .before .before .before .before .before .loop .inv .1) (c .before .before .before .before .before .before .before .before .before .loop-test .taken) in omega arith
+size-of-add-child-4 t c = let b = gathered-within (c .before .before .before .before .before .before .before .before .before .before .loop .inv .1)
+    (c .before .before .before .before .before .before .before .before .before .loop-test .taken) in omega arith
 
 size-of-sub-left-4 : (t : ℕ) → size-of-lts.Need-sub-left-4 (size-of-claims t) (size-of-at t) size-of.Post size-of-Inv-loop size-of-μ-loop
-size-of-sub-left-4 t c = let b = gathered-within (c .before .before .before .before .before .before .before .before .before .before .loop .inv .1) (c .before .before .before .before .before .before .before .before .before .loop-test .taken) in omega arith
+size-of-sub-left-4 t c = let b = gathered-within (c .before .before .before .before .before .before .before .before .before .before .loop .inv .1)
+    (c .before .before .before .before .before .before .before .before .before .loop-test .taken) in omega arith
 
 size-of-loop-less-3 : (t : ℕ) → size-of-lts.Need-loop-less-3 (size-of-claims t) (size-of-at t) size-of.Post size-of-Inv-loop size-of-μ-loop
-size-of-loop-less-3 t c = let b = gathered-within (c .before .before .before .before .before .before .before .before .before .before .loop .inv .1) (c .before .before .before .before .before .before .before .before .before .loop-test .taken) in omega arith
+size-of-loop-less-3 t c = let b = gathered-within (c .before .before .before .before .before .before .before .before .before .before .loop .inv .1)
+    (c .before .before .before .before .before .before .before .before .before .loop-test .taken) in omega arith
 
 size-of-loop-again-3 : (t : ℕ) → size-of-lts.Need-loop-again-3 (size-of-claims t) (size-of-at t) size-of.Post size-of-Inv-loop size-of-μ-loop
 size-of-loop-again-3 t c =
     let a = c .before .before .before .before .before .before .before .before .before .before .before .before .before .before .before .before .before .before .before .before .before .before .args in
-    let b = gathered-within (c .before .before .before .before .before .before .before .before .before .before .loop .inv .1) (c .before .before .before .before .before .before .before .before .before .loop-test .taken) in
-    (omega arith, gathered-turn (c .before .before .before .before .before .before .before .before .before .before .loop .inv .1) (c .before .before .before .before .before .before .before .before .before .loop-test .taken) (c .before .before .if5 .item) (λ s. ⊎-elim (λ j. j .3 ∙ (rw whole at (j .2 .ensures s))) (λ j. j .1 ∙ c .before .before .before .before .leaf-size3 .ensures ∙ sym (ap clip (size-leaf s (a .nodes .now) (c .before .before .before .before .before .before .before .before .before .before .loop .child) _ (sym (c .before .before .before .is-leaf2 .ensures) ∙ not-false _ (j .0 .left))))) (c .before .before .if5 .came)) (c .before .join2 .ensures))
+    let b = gathered-within (c .before .before .before .before .before .before .before .before .before .before .loop .inv .1) (c .before .before .before .before .before .before .before .before .before .loop-test .taken) in (
+      omega arith,
+      gathered-turn (c .before .before .before .before .before .before .before .before .before .before .loop .inv .1)
+          (c .before .before .before .before .before .before .before .before .before .loop-test .taken) (c .before .before .if5 .item)
+          (λ s. ⊎-elim (λ j. j .3 ∙ (rw whole at (j .2 .ensures s))) (λ j. j .1 ∙ c .before .before .before .before .leaf-size3 .ensures
+          ∙ sym (ap clip (size-leaf s (a .nodes .now) (c .before .before .before .before .before .before .before .before .before .before .loop .child) _
+          (sym (c .before .before .before .is-leaf2 .ensures) ∙ not-false _ (j .0 .left))))) (c .before .before .if5 .came)) (c .before .join2 .ensures),
+    )
 
 size-of-returns-4 : (t : ℕ) → size-of-lts.Need-returns-4 (size-of-claims t) (size-of-at t) size-of.Post size-of-Inv-loop size-of-μ-loop
 size-of-returns-4 t c =
     let a = c .before .before .before .before .before .before .before .before .before .before .before .before .before .args in
-    let n = not-leaf (kindAt (a .nodes .now) (a .at)) (sym (c .before .before .before .before .before .before .before .before .before .before .is-leaf .ensures) ∙ c .before .before .before .before .before .before .before .before .before .if1 .left) in
-    λ s. gathered-end (c .before .loop .inv .1) (c .loop-test .left) s ∙ ap clip (size-included s (a .nodes .now) (a .at) (a .level) (container-kind (kindAt (a .nodes .now) (a .at)) (omega arith) (omega arith)) _ (sym (c .before .before .before .before .before .before .before .container-include-fields .ensures) ∙ c .before .before .before .before .before .inner .given .1))
+    let n = not-leaf (kindAt (a .nodes .now) (a .at)) (sym (c .before .before .before .before .before .before .before .before .before .before .is-leaf .ensures)
+    ∙ c .before .before .before .before .before .before .before .before .before .if1 .left) in
+    λ s. gathered-end (c .before .loop .inv .1) (c .loop-test .left) s
+    ∙ ap clip (size-included s (a .nodes .now) (a .at) (a .level) (container-kind (kindAt (a .nodes .now) (a .at)) (omega arith) (omega arith)) _
+    (sym (c .before .before .before .before .before .before .before .container-include-fields .ensures) ∙ c .before .before .before .before .before .inner .given .1))
 
 pub +size-of-spec : {M : Type 1} → statement M
 +size-of-spec = close μ-size-of λ t. size-of-lts.spec (size-of-claims t)
@@ -308,7 +349,7 @@ pub +size-of-spec : {M : Type 1} → statement M
     (size-of-part-size-of-start t)
     (size-of-part-size-of-end t)
     (size-of-add-size-of t)
-    (size-of-level-below-requires t)
+    (size-of-inside-requires t)
     (size-of-size-of-requires t)
     (size-of-add-held-by t)
     (size-of-mul-held-by t)

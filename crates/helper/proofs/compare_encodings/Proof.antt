@@ -1,118 +1,48 @@
-use mathlib.Core.Path.{sym, ap₂, _∙_}
 use native.Mathlib.Omega.{arith}
-use Rattle.kinds.proofs.ListLaws.{whole, part-rest}
-use Rattle.sheet.specs.declared.Checked.the-variants.{NotASheet, BadName}
-use Rattle.helper.specs.Measure.{bothChecked}
-use Rattle.helper.proofs.AnswerLaws.{both-room, both-walk, compare-checked, compare-decided, compare-code}
+use Rattle.kinds.proofs.ListLaws.{whole}
+use Rattle.sheet.proofs.GivenLaws.{given-refused-both, given-codes, given-nodes-both, nodes-part}
+use Rattle.helper.proofs.AnswerLaws.{compare-refused, compare-codes, compare-nodes}
 use borrow.Author.Needs.{needs}
 use Rattle.helper.proofs.compare_encodings.Statement.{statement}
 use Rattle.helper.proofs.compare_encodings.Tie as tie
 
-sub-check : tie.Need-sub-check
-sub-check c = search needs
+check-both-requires : tie.Need-check-both-requires
+check-both-requires c κs = search needs
 
-part-check-start : tie.Need-part-check-start
-part-check-start c = search needs
+enum-known-why : tie.Need-enum-known-why
+enum-known-why c = search needs
 
-part-check-end : tie.Need-part-check-end
-part-check-end c = search needs
-
-sub-check-2 : tie.Need-sub-check-2
-sub-check-2 c = search needs
-
-part-check-start-2 : tie.Need-part-check-start-2
-part-check-start-2 c = search needs
-
-part-check-end-2 : tie.Need-part-check-end-2
-part-check-end-2 c = search needs
-
-check-requires : tie.Need-check-requires
-check-requires c κs = search needs
-
-sub-check-3 : tie.Need-sub-check-3
-sub-check-3 c = search needs
-
-part-check-start-3 : tie.Need-part-check-start-3
-part-check-start-3 c = search needs
-
-part-check-end-3 : tie.Need-part-check-end-3
-part-check-end-3 c = search needs
-
-sub-check-4 : tie.Need-sub-check-4
-sub-check-4 c = search needs
-
-part-check-start-4 : tie.Need-part-check-start-4
-part-check-start-4 c = search needs
-
-part-check-end-4 : tie.Need-part-check-end-4
-part-check-end-4 c = search needs
-
-check-requires-2 : tie.Need-check-requires-2
-check-requires-2 c κs = search needs
-
-both-requires : tie.Need-both-requires
-both-requires c κs = search needs
-
-enum-told : tie.Need-enum-told
-enum-told c = search needs
-
-enum-told-2 : tie.Need-enum-told-2
-enum-told-2 c = search needs
-
-enum-told-3 : tie.Need-enum-told-3
-enum-told-3 c = search needs
-
-shared-slice-read-if1 : tie.Need-shared-slice-read-if1
-shared-slice-read-if1 c =
-    let a = c .before .before .before .before .before .before .before .before .before .before .before .before .before .before .args in
-    let r = both-room (a .all) (a .aw .now) (a .an .now) (a .bw .now) (a .bn .now) (ap₂ bothChecked (sym (rw (whole, whole) at (c .before .before .before .before .before .before .before .check .ensures))) (sym (rw (whole, whole) at (c .before .before .before .before .check2 .ensures))) ∙ sym (c .before .before .before .both .ensures) ∙ c .before .enum-told3 .given .1) in
-    omega arith
-
-shared-slice-read-equivalent-kinds : tie.Need-shared-slice-read-equivalent-kinds
-shared-slice-read-equivalent-kinds c =
-    let a = c .before .before .before .before .before .before .before .before .before .before .before .before .before .before .before .before .args in
-    let r = both-room (a .all) (a .aw .now) (a .an .now) (a .bw .now) (a .bn .now) (ap₂ bothChecked (sym (rw (whole, whole) at (c .before .before .before .before .before .before .before .before .before .check .ensures))) (sym (rw (whole, whole) at (c .before .before .before .before .before .before .check2 .ensures))) ∙ sym (c .before .before .before .before .before .both .ensures) ∙ c .before .before .before .enum-told3 .given .1) in
-    omega arith
-
-shared-slice-read-equivalent-kinds-2 : tie.Need-shared-slice-read-equivalent-kinds-2
-shared-slice-read-equivalent-kinds-2 c =
-    let a = c .before .before .before .before .before .before .before .before .before .before .before .before .before .before .before .before .before .args in
-    let r = both-room (a .all) (a .aw .now) (a .an .now) (a .bw .now) (a .bn .now) (ap₂ bothChecked (sym (rw (whole, whole) at (c .before .before .before .before .before .before .before .before .before .before .check .ensures))) (sym (rw (whole, whole) at (c .before .before .before .before .before .before .before .check2 .ensures))) ∙ sym (c .before .before .before .before .before .before .both .ensures) ∙ c .before .before .before .before .enum-told3 .given .1) in
-    omega arith
+enum-known-k : tie.Need-enum-known-k
+enum-known-k c = search needs
 
 equivalent-kinds-requires : tie.Need-equivalent-kinds-requires
 equivalent-kinds-requires c κs = search needs
 
-returns : tie.Need-returns
-returns c =
-    let a = c .before .before .before .before .before .before .before .before .before .before .before .before .before .before .before .before .before .before .args in
-    compare-code (a .all) (a .aw .now) (a .an .now) (a .bw .now) (a .bn .now) (ap₂ bothChecked (sym (rw (whole, whole) at (c .before .before .before .before .before .before .before .before .before .before .before .check .ensures))) (sym (rw (whole, whole) at (c .before .before .before .before .before .before .before .before .check2 .ensures))) ∙ sym (c .before .before .before .before .before .before .before .both .ensures) ∙ c .before .before .before .before .before .enum-told3 .given .1) (c .before .before .before .if1 .taken) _ (c .equivalent-kinds .ensures)
+enum-known-f : tie.Need-enum-known-f
+enum-known-f c = search needs
 
 new-requires : tie.Need-new-requires
 new-requires c κs = search needs
 
-shared-slice-read-n : tie.Need-shared-slice-read-n
-shared-slice-read-n c =
-    let a = c .before .before .before .before .before .before .before .before .before .before .before .before .before .before .before .before .before .args in
-    let r = both-room (a .all) (a .aw .now) (a .an .now) (a .bw .now) (a .bn .now) (ap₂ bothChecked (sym (rw (whole, whole) at (c .before .before .before .before .before .before .before .before .before .before .check .ensures))) (sym (rw (whole, whole) at (c .before .before .before .before .before .before .before .check2 .ensures))) ∙ sym (c .before .before .before .before .before .before .both .ensures) ∙ c .before .before .before .before .enum-told3 .given .1) in
-    omega arith
-
-shared-slice-read-m : tie.Need-shared-slice-read-m
-shared-slice-read-m c =
-    let a = c .before .before .before .before .before .before .before .before .before .before .before .before .before .before .before .before .before .before .args in
-    let r = both-room (a .all) (a .aw .now) (a .an .now) (a .bw .now) (a .bn .now) (ap₂ bothChecked (sym (rw (whole, whole) at (c .before .before .before .before .before .before .before .before .before .before .before .check .ensures))) (sym (rw (whole, whole) at (c .before .before .before .before .before .before .before .before .check2 .ensures))) ∙ sym (c .before .before .before .before .before .before .before .both .ensures) ∙ c .before .before .before .before .before .enum-told3 .given .1) in
+mul-compare-fields : tie.Need-mul-compare-fields
+mul-compare-fields c =
+    let a = c .before .before .before .before .before .before .before .before .before .args in
+    let g = given-nodes-both (a .aw .now) (a .an .now) (a .bw .now) (a .bn .now) (c .before .before .before .before .check-both .ensures .1) (c .before .before .f .given .1) in
+    let s = g .0 .starts in
     omega arith
 
 sub-compare-fields : tie.Need-sub-compare-fields
 sub-compare-fields c =
-    let a = c .before .before .before .before .before .before .before .before .before .before .before .before .before .before .before .before .before .before .args in
-    let r = both-room (a .all) (a .aw .now) (a .an .now) (a .bw .now) (a .bn .now) (ap₂ bothChecked (sym (rw (whole, whole) at (c .before .before .before .before .before .before .before .before .before .before .before .check .ensures))) (sym (rw (whole, whole) at (c .before .before .before .before .before .before .before .before .check2 .ensures))) ∙ sym (c .before .before .before .before .before .before .before .both .ensures) ∙ c .before .before .before .before .before .enum-told3 .given .1) in
+    let a = c .before .before .before .before .before .before .before .before .before .args in
+    let g = given-nodes-both (a .aw .now) (a .an .now) (a .bw .now) (a .bn .now) (c .before .before .before .before .check-both .ensures .1) (c .before .before .f .given .1) in
+    let s = g .0 .starts in
     omega arith
 
 part-compare-fields-start : tie.Need-part-compare-fields-start
 part-compare-fields-start c =
-    let a = c .before .before .before .before .before .before .before .before .before .before .before .before .before .before .before .before .before .before .args in
-    let r = both-room (a .all) (a .aw .now) (a .an .now) (a .bw .now) (a .bn .now) (ap₂ bothChecked (sym (rw (whole, whole) at (c .before .before .before .before .before .before .before .before .before .before .before .check .ensures))) (sym (rw (whole, whole) at (c .before .before .before .before .before .before .before .before .check2 .ensures))) ∙ sym (c .before .before .before .before .before .before .before .both .ensures) ∙ c .before .before .before .before .before .enum-told3 .given .1) in
+    let a = c .before .before .before .before .before .before .before .before .before .args in
+    let g = given-nodes-both (a .aw .now) (a .an .now) (a .bw .now) (a .bn .now) (c .before .before .before .before .check-both .ensures .1) (c .before .before .f .given .1) in
+    let s = g .0 .starts in
     omega arith
 
 part-compare-fields-end : tie.Need-part-compare-fields-end
@@ -127,16 +57,25 @@ part-compare-fields-start-2 c = search needs
 part-compare-fields-end-2 : tie.Need-part-compare-fields-end-2
 part-compare-fields-end-2 c = search needs
 
+mul-compare-fields-2 : tie.Need-mul-compare-fields-2
+mul-compare-fields-2 c =
+    let a = c .before .before .before .before .before .before .before .before .before .before .before .args in
+    let g = given-nodes-both (a .aw .now) (a .an .now) (a .bw .now) (a .bn .now) (c .before .before .before .before .before .before .check-both .ensures .1) (c .before .before .before .before .f .given .1) in
+    let s = g .1 .starts in
+    omega arith
+
 sub-compare-fields-3 : tie.Need-sub-compare-fields-3
 sub-compare-fields-3 c =
-    let a = c .before .before .before .before .before .before .before .before .before .before .before .before .before .before .before .before .before .before .before .before .args in
-    let r = both-room (a .all) (a .aw .now) (a .an .now) (a .bw .now) (a .bn .now) (ap₂ bothChecked (sym (rw (whole, whole) at (c .before .before .before .before .before .before .before .before .before .before .before .before .before .check .ensures))) (sym (rw (whole, whole) at (c .before .before .before .before .before .before .before .before .before .before .check2 .ensures))) ∙ sym (c .before .before .before .before .before .before .before .before .before .both .ensures) ∙ c .before .before .before .before .before .before .before .enum-told3 .given .1) in
+    let a = c .before .before .before .before .before .before .before .before .before .before .before .args in
+    let g = given-nodes-both (a .aw .now) (a .an .now) (a .bw .now) (a .bn .now) (c .before .before .before .before .before .before .check-both .ensures .1) (c .before .before .before .before .f .given .1) in
+    let s = g .1 .starts in
     omega arith
 
 part-compare-fields-start-3 : tie.Need-part-compare-fields-start-3
 part-compare-fields-start-3 c =
-    let a = c .before .before .before .before .before .before .before .before .before .before .before .before .before .before .before .before .before .before .before .before .args in
-    let r = both-room (a .all) (a .aw .now) (a .an .now) (a .bw .now) (a .bn .now) (ap₂ bothChecked (sym (rw (whole, whole) at (c .before .before .before .before .before .before .before .before .before .before .before .before .before .check .ensures))) (sym (rw (whole, whole) at (c .before .before .before .before .before .before .before .before .before .before .check2 .ensures))) ∙ sym (c .before .before .before .before .before .before .before .before .before .both .ensures) ∙ c .before .before .before .before .before .before .before .enum-told3 .given .1) in
+    let a = c .before .before .before .before .before .before .before .before .before .before .before .args in
+    let g = given-nodes-both (a .aw .now) (a .an .now) (a .bw .now) (a .bn .now) (c .before .before .before .before .before .before .check-both .ensures .1) (c .before .before .before .before .f .given .1) in
+    let s = g .1 .starts in
     omega arith
 
 part-compare-fields-end-3 : tie.Need-part-compare-fields-end-3
@@ -153,60 +92,48 @@ part-compare-fields-end-4 c = search needs
 
 compare-fields-requires : tie.Need-compare-fields-requires
 compare-fields-requires c κs =
-    let a = c .before .before .before .before .before .before .before .before .before .before .before .before .before .before .before .before .before .before .before .before .before .before .args in
-    rw (whole, whole) (both-walk (a .all) (a .aw .now) (a .an .now) (a .bw .now) (a .bn .now) (ap₂ bothChecked (sym (rw (whole, whole) at (c .before .before .before .before .before .before .before .before .before .before .before .before .before .before .before .check .ensures))) (sym (rw (whole, whole) at (c .before .before .before .before .before .before .before .before .before .before .before .before .check2 .ensures))) ∙ sym (c .before .before .before .before .before .before .before .before .before .before .before .both .ensures) ∙ c .before .before .before .before .before .before .before .before .before .enum-told3 .given .1) _ _ (part-rest (a .aw .now) 4) (part-rest (a .bw .now) 4))
+    let a = c .before .before .before .before .before .before .before .before .before .before .before .before .before .args in
+    let g = given-nodes-both (a .aw .now) (a .an .now) (a .bw .now) (a .bn .now) (c .before .before .before .before .before .before .before .before .check-both .ensures .1) (c .before .before .before .before .before .before .f .given .1) in
+    let v = nodes-part (g .0) in
+    let u = nodes-part (g .1) in
+    rw (whole, whole) ((v .whole, u .whole), (v .lent-names, u .lent-names))
+
+returns : tie.Need-returns
+returns c =
+    let a = c .before .before .before .before .before .before .before .before .args in
+    compare-refused (a .all) _ _ _ _ (given-refused-both (a .aw .now) (a .an .now) (a .bw .now) (a .bn .now) (c .before .before .before .check-both .ensures .1) (c .before .why .given .1))
 
 returns-2 : tie.Need-returns-2
 returns-2 c =
-    let a = c .before .before .before .before .before .before .before .before .before .before .before .before .before .args in
-    compare-checked (a .all) (a .aw .now) (a .an .now) (a .bw .now) (a .bn .now) NotASheet (ap₂ bothChecked (sym (rw (whole, whole) at (c .before .before .before .before .before .before .check .ensures))) (sym (rw (whole, whole) at (c .before .before .before .check2 .ensures))) ∙ sym (c .before .before .both .ensures) ∙ c .enum-told .given .1)
+    let a = c .before .before .before .before .before .before .before .before .before .args in
+    let g = given-codes (a .aw .now) (a .an .now) (a .bw .now) (a .bn .now) (c .before .before .before .before .check-both .ensures .1) (c .before .before .k .given .1) in
+    compare-codes (a .all) _ _ _ _ g (c .equivalent-kinds .ensures)
 
 returns-3 : tie.Need-returns-3
 returns-3 c =
-    let a = c .before .before .before .before .before .before .before .before .before .before .before .before .before .args in
-    compare-checked (a .all) (a .aw .now) (a .an .now) (a .bw .now) (a .bn .now) BadName (ap₂ bothChecked (sym (rw (whole, whole) at (c .before .before .before .before .before .before .check .ensures))) (sym (rw (whole, whole) at (c .before .before .before .check2 .ensures))) ∙ sym (c .before .before .both .ensures) ∙ c .enum-told2 .given .1)
-
-returns-4 : tie.Need-returns-4
-returns-4 c =
-    let a = c .before .before .before .before .before .before .before .before .before .before .before .before .before .before .before .before .before .before .before .before .before .before .before .args in
-    compare-decided (a .all) (a .aw .now) (a .an .now) (a .bw .now) (a .bn .now) (ap₂ bothChecked (sym (rw (whole, whole) at (c .before .before .before .before .before .before .before .before .before .before .before .before .before .before .before .before .check .ensures))) (sym (rw (whole, whole) at (c .before .before .before .before .before .before .before .before .before .before .before .before .before .check2 .ensures))) ∙ sym (c .before .before .before .before .before .before .before .before .before .before .before .before .both .ensures) ∙ c .before .before .before .before .before .before .before .before .before .before .enum-told3 .given .1) _ _ (part-rest (a .aw .now) 4) (part-rest (a .bw .now) 4) _ (c .before .before .before .before .before .before .before .new .ensures) _ (rw (whole, whole) at (c .compare-fields .ensures))
+    let a = c .before .before .before .before .before .before .before .before .before .before .before .before .before .before .args in
+    let g = given-nodes-both (a .aw .now) (a .an .now) (a .bw .now) (a .bn .now) (c .before .before .before .before .before .before .before .before .before .check-both .ensures .1)
+    (c .before .before .before .before .before .before .before .f .given .1) in
+    compare-nodes (a .all) _ _ _ _ (nodes-part (g .0)) (nodes-part (g .1)) (c .before .before .before .before .before .new .ensures) (rw (whole, whole) at (c .compare-fields .ensures))
 
 pub compare-encodings-spec : {M : Type 1} → statement M
 compare-encodings-spec =
     tie.close
     (tie.spec
-    sub-check
-    part-check-start
-    part-check-end
-    sub-check-2
-    part-check-start-2
-    part-check-end-2
-    check-requires
-    sub-check-3
-    part-check-start-3
-    part-check-end-3
-    sub-check-4
-    part-check-start-4
-    part-check-end-4
-    check-requires-2
-    both-requires
-    enum-told
-    enum-told-2
-    enum-told-3
-    shared-slice-read-if1
-    shared-slice-read-equivalent-kinds
-    shared-slice-read-equivalent-kinds-2
+    check-both-requires
+    enum-known-why
+    enum-known-k
     equivalent-kinds-requires
-    returns
+    enum-known-f
     new-requires
-    shared-slice-read-n
-    shared-slice-read-m
+    mul-compare-fields
     sub-compare-fields
     part-compare-fields-start
     part-compare-fields-end
     sub-compare-fields-2
     part-compare-fields-start-2
     part-compare-fields-end-2
+    mul-compare-fields-2
     sub-compare-fields-3
     part-compare-fields-start-3
     part-compare-fields-end-3
@@ -214,6 +141,6 @@ compare-encodings-spec =
     part-compare-fields-start-4
     part-compare-fields-end-4
     compare-fields-requires
+    returns
     returns-2
-    returns-3
-    returns-4)
+    returns-3)

@@ -25,7 +25,11 @@ returns-2 c = rw (lt-leb (c .before .before .before .args .kind) 23 (omega arith
 
 returns-3 : tie.Need-returns-3
 unfolding leafSize
-returns-3 c = rw (lt-leb (c .before .before .before .args .kind) 23 (omega arith), ne-eqb (c .before .before .before .args .kind) 24 (c .before .if2 .left), eq-eqb (c .before .before .before .args .kind) 26 (c .if3 .taken)) (sym (clip-some 8 (omega arith)))
+returns-3 c = rw (
+  lt-leb (c .before .before .before .args .kind) 23 (omega arith),
+  ne-eqb (c .before .before .before .args .kind) 24 (c .before .if2 .left),
+  eq-eqb (c .before .before .before .args .kind) 26 (c .if3 .taken),
+) (sym (clip-some 8 (omega arith)))
 
 returns-4 : tie.Need-returns-4
 unfolding leafSize clip

@@ -74,7 +74,8 @@ same-bytes-requires c κs = search needs
 returns : tie.Need-returns
 returns c =
     let a = c .before .before .before .before .before .before .before .before .before .before .before .args in
-    (c .same-bytes .ensures) ∙ ap₂ (λ (i j : ℕ). sameBytes (take i (drop (firstAt ((a .a) .now) (a .at)) ((a .an) .now))) (take j (drop (firstAt ((a .b) .now) (a .bt)) ((a .bn) .now)))) (add-sub-cancel-left (firstAt ((a .a) .now) (a .at)) (secondAt ((a .a) .now) (a .at))) (add-sub-cancel-left (firstAt ((a .b) .now) (a .bt)) (secondAt ((a .b) .now) (a .bt)))
+    (c .same-bytes .ensures) ∙ ap₂ (λ (i j : ℕ). sameBytes (take i (drop (firstAt ((a .a) .now) (a .at)) ((a .an) .now))) (take j (drop (firstAt ((a .b) .now) (a .bt)) ((a .bn) .now))))
+    (add-sub-cancel-left (firstAt ((a .a) .now) (a .at)) (secondAt ((a .a) .now) (a .at))) (add-sub-cancel-left (firstAt ((a .b) .now) (a .bt)) (secondAt ((a .b) .now) (a .bt)))
 
 pub same-name-spec : {M : Type 1} → statement M
 same-name-spec =

@@ -1,33 +1,48 @@
+use mathlib.Core.Path.{_∙_}
+use native.Mathlib.Omega.{arith}
+use Rattle.sheet.proofs.GivenLaws.{given-refused, given-code, given-nodes, nodes-part}
+use Rattle.helper.proofs.AnswerLaws.{size-refused, size-code, size-nodes}
 use borrow.Author.Needs.{needs}
-use Rattle.kinds.proofs.ListLaws.{part-rest}
 use Rattle.helper.proofs.size.Statement.{statement}
 use Rattle.helper.proofs.size.Tie as tie
-use mathlib.Core.Path.{sym, _∙_}
-use native.Mathlib.Omega.{arith}
-use Rattle.sheet.specs.declared.Checked.the-variants.{NotASheet, BadName}
-use Rattle.helper.proofs.AnswerLaws.{sheet-room, node-in, size-checked, size-measured}
 
 check-requires : tie.Need-check-requires
 check-requires c κs = search needs
 
-enum-told : tie.Need-enum-told
-enum-told c = search needs
+enum-known-why : tie.Need-enum-known-why
+enum-known-why c = search needs
 
-enum-told-2 : tie.Need-enum-told-2
-enum-told-2 c = search needs
+enum-known-kind : tie.Need-enum-known-kind
+enum-known-kind c = search needs
 
-enum-told-3 : tie.Need-enum-told-3
-enum-told-3 c = search needs
+of-primitive-requires : tie.Need-of-primitive-requires
+of-primitive-requires c κs = search needs
+
+answer-requires : tie.Need-answer-requires
+answer-requires c κs = search needs
+
+enum-known-first : tie.Need-enum-known-first
+enum-known-first c = search needs
+
+mul-size-of : tie.Need-mul-size-of
+mul-size-of c =
+    let a = c .before .before .before .before .before .before .args in
+    let g = given-nodes (a .words .now) (a .names .now) (c .before .before .before .check .ensures .1) (c .before .first .given .1) in
+    let s = g .starts in
+    omega arith
 
 sub-size-of : tie.Need-sub-size-of
 sub-size-of c =
-    let a = c .before .before .before .before .before .args in
-    sheet-room (a .words .now) (a .names .now) (sym (c .before .before .check .ensures) ∙ c .enum-told3 .given .1)
+    let a = c .before .before .before .before .before .before .args in
+    let g = given-nodes (a .words .now) (a .names .now) (c .before .before .before .check .ensures .1) (c .before .first .given .1) in
+    let s = g .starts in
+    omega arith
 
 part-size-of-start : tie.Need-part-size-of-start
 part-size-of-start c =
-    let a = c .before .before .before .before .before .args in
-    let r = sheet-room (a .words .now) (a .names .now) (sym (c .before .before .check .ensures) ∙ c .enum-told3 .given .1) in
+    let a = c .before .before .before .before .before .before .args in
+    let g = given-nodes (a .words .now) (a .names .now) (c .before .before .before .check .ensures .1) (c .before .first .given .1) in
+    let s = g .starts in
     omega arith
 
 part-size-of-end : tie.Need-part-size-of-end
@@ -38,69 +53,44 @@ new-requires c κs = search needs
 
 size-of-requires : tie.Need-size-of-requires
 size-of-requires c κs =
-    let a = c .before .before .before .before .before .before .before .args in
-    let check = c .before .before .before .before .check in
-    node-in (a .words .now) (a .names .now) (sym (check .ensures) ∙ c .before .before .enum-told3 .given .1) _ (part-rest (a .words .now) 4)
+    let a = c .before .before .before .before .before .before .before .before .args in
+    let g = given-nodes (a .words .now) (a .names .now) (c .before .before .before .before .before .check .ensures .1) (c .before .before .before .first .given .1) in
+    nodes-part g .root
 
-enum-told-4 : tie.Need-enum-told-4
-enum-told-4 c = search needs
-
-enum-known-n : tie.Need-enum-known-n
-enum-known-n c = search needs
-
-enum-told-5 : tie.Need-enum-told-5
-enum-told-5 c = search needs
+answer-requires-2 : tie.Need-answer-requires-2
+answer-requires-2 c κs = search needs
 
 returns : tie.Need-returns
-returns c =
-    let a = c .before .before .before .before .before .args in
-    size-checked (a .words .now) (a .names .now) NotASheet (sym (c .before .before .check .ensures) ∙ c .enum-told .given .1)
+returns c = let a = c .before .before .before .before .before .before .args in size-refused _ _ (given-refused (a .words .now) (a .names .now) (c .before .before .before .check .ensures .1) (c .before .why .given .1))
 
 returns-2 : tie.Need-returns-2
 returns-2 c =
-    let a = c .before .before .before .before .before .args in
-    size-checked (a .words .now) (a .names .now) BadName (sym (c .before .before .check .ensures) ∙ c .enum-told2 .given .1)
+    let a = c .before .before .before .before .before .before .before .before .args in
+    c .answer .ensures ∙ size-code _ _ (given-code (a .words .now) (a .names .now) (c .before .before .before .before .before .check .ensures .1) (c .before .before .before .kind .given .1)) (c .before .of-primitive .ensures)
 
 returns-3 : tie.Need-returns-3
 returns-3 c =
     let a = c .before .before .before .before .before .before .before .before .before .before .args in
-    let check = c .before .before .before .before .before .before .before .check in
-    let enum-told3 = c .before .before .before .before .before .enum-told3 in
-    size-measured (a .words .now) (a .names .now) _ (sym (check .ensures) ∙ enum-told3 .given .1) (part-rest (a .words .now) 4) _ (c .before .before .before .new .ensures) _ (sym (c .enum-told4 .given .1) ∙ c .before .before .size-of .ensures (a .names .now))
-
-returns-4 : tie.Need-returns-4
-returns-4 c =
-    let a = c .before .before .before .before .before .before .before .before .before .before .before .args in
-    let check = c .before .before .before .before .before .before .before .before .check in
-    let enum-told3 = c .before .before .before .before .before .before .enum-told3 in
-    let new = c .before .before .before .before .new in
-    size-measured (a .words .now) (a .names .now) _ (sym (check .ensures) ∙ enum-told3 .given .1) (part-rest (a .words .now) 4) _ (new .ensures) _ (sym (c .before .n .given .1) ∙ c .before .before .before .size-of .ensures (a .names .now))
-
-returns-5 : tie.Need-returns-5
-returns-5 c =
-    let a = c .before .before .before .before .before .before .before .before .before .before .args in
-    let check = c .before .before .before .before .before .before .before .check in
-    let enum-told3 = c .before .before .before .before .before .enum-told3 in
-    size-measured (a .words .now) (a .names .now) _ (sym (check .ensures) ∙ enum-told3 .given .1) (part-rest (a .words .now) 4) _ (c .before .before .before .new .ensures) _ (sym (c .enum-told5 .given .1) ∙ c .before .before .size-of .ensures (a .names .now))
+    let g = given-nodes (a .words .now) (a .names .now) (c .before .before .before .before .before .before .before .check .ensures .1) (c .before .before .before .before .before .first .given .1) in
+    c .answer2 .ensures ∙ size-nodes _ _ (nodes-part g) (c .before .before .new .ensures) (c .before .size-of .ensures (a .names .now))
 
 pub size-spec : {M : Type 1} → statement M
 size-spec =
     tie.close
     (tie.spec
     check-requires
-    enum-told
-    enum-told-2
-    enum-told-3
+    enum-known-why
+    enum-known-kind
+    of-primitive-requires
+    answer-requires
+    enum-known-first
+    mul-size-of
     sub-size-of
     part-size-of-start
     part-size-of-end
     new-requires
     size-of-requires
-    enum-told-4
-    enum-known-n
-    enum-told-5
+    answer-requires-2
     returns
     returns-2
-    returns-3
-    returns-4
-    returns-5)
+    returns-3)

@@ -1,9 +1,6 @@
 use borrow.Author.Needs.{needs}
 use Rattle.kinds.proofs.equivalent_kinds.Statement.{statement}
 use Rattle.kinds.proofs.equivalent_kinds.Tie as tie
-use Rattle.kinds.proofs.equivalent_kinds.Reads as reads
-use Rattle.kinds.proofs.equivalent_kinds.Lts as lts
-use Rattle.kinds.proofs.is_object.Reads as is-object-reads
 use borrow.Author.Tests.{eq-eqb, ne-eqb, not-true, not-false}
 use mathlib.Core.Path.{sym, _∙_}
 use Rattle.kinds.specs.Primitive.{equivalent}

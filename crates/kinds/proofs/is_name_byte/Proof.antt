@@ -1,7 +1,5 @@
 use Rattle.kinds.proofs.is_name_byte.Statement.{statement}
 use Rattle.kinds.proofs.is_name_byte.Tie as tie
-use Rattle.kinds.proofs.is_name_byte.Reads as reads
-use Rattle.kinds.proofs.is_name_byte.Lts as lts
 use borrow.Author.Tests.{le-leb, lt-leb, ne-eqb}
 use native.Mathlib.Omega.{arith}
 use mathlib.Core.Bool.{or-false}
@@ -30,11 +28,13 @@ returns-5 c = rw ((c .if5 .taken))
 
 returns-6 : tie.Need-returns-6
 unfolding isNameByte isDigit
-returns-6 c = let b = (c .before .before .before .before .before .before .args .b) in rw (le-leb 48 b (omega arith), lt-leb b 57 (omega arith), le-leb 65 b (omega arith), lt-leb b 90 (omega arith), lt-leb 97 b (omega arith), ne-eqb b 95 (c .before .if5 .left))
+returns-6 c = let b = (c .before .before .before .before .before .before .args .b) in
+    rw (le-leb 48 b (omega arith), lt-leb b 57 (omega arith), le-leb 65 b (omega arith), lt-leb b 90 (omega arith), lt-leb 97 b (omega arith), ne-eqb b 95 (c .before .if5 .left))
 
 returns-7 : tie.Need-returns-7
 unfolding isNameByte isDigit
-returns-7 c = let b = (c .before .before .before .before .before .before .args .b) in rw (le-leb 48 b (omega arith), lt-leb b 57 (omega arith), le-leb 65 b (omega arith), lt-leb b 90 (omega arith), le-leb 97 b (omega arith), ne-eqb b 95 (c .before .if5 .left), or-false)
+returns-7 c = let b = (c .before .before .before .before .before .before .args .b) in
+    rw (le-leb 48 b (omega arith), lt-leb b 57 (omega arith), le-leb 65 b (omega arith), lt-leb b 90 (omega arith), le-leb 97 b (omega arith), ne-eqb b 95 (c .before .if5 .left), or-false)
 
 pub is-name-byte-spec : {M : Type 1} → statement M
 is-name-byte-spec =

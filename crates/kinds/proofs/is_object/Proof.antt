@@ -1,7 +1,5 @@
 use Rattle.kinds.proofs.is_object.Statement.{statement}
 use Rattle.kinds.proofs.is_object.Tie as tie
-use Rattle.kinds.proofs.is_object.Reads as reads
-use Rattle.kinds.proofs.is_object.Lts as lts
 use borrow.Author.Tests.{ne-eqb}
 use Rattle.kinds.specs.Byte.{among}
 use Rattle.kinds.specs.Primitive.{isObject}

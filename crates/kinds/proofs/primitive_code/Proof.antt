@@ -3,8 +3,6 @@ use Rattle.kinds.proofs.PrimitiveLaws.{code-beyond, code-one, code-two}
 use borrow.Author.Needs.{needs}
 use Rattle.kinds.proofs.primitive_code.Statement.{statement}
 use Rattle.kinds.proofs.primitive_code.Tie as tie
-use Rattle.kinds.proofs.primitive_code.Reads as reads
-use Rattle.kinds.proofs.primitive_code.Lts as lts
 
 returns : tie.Need-returns
 returns c = sym (code-beyond _ (c .if1 .taken))

@@ -1,12 +1,8 @@
 use mathlib.Core.Path.{sym, _∙_}
-use Rattle.kinds.specs.Primitive.{primitiveSizes, primitiveSize}
 use Rattle.kinds.proofs.PrimitiveLaws.{size-beyond, size-none, size-some}
 use borrow.Author.Needs.{needs}
 use Rattle.kinds.proofs.primitive_size.Statement.{statement}
 use Rattle.kinds.proofs.primitive_size.Tie as tie
-use Rattle.kinds.proofs.primitive_size.Reads as reads
-use Rattle.kinds.proofs.primitive_size.Lts as lts
-use Rattle.kinds.proofs.wide.Reads as wide-reads
 
 returns : tie.Need-returns
 returns c = sym (size-beyond _ (c .if1 .taken))
@@ -18,12 +14,12 @@ wide-requires : tie.Need-wide-requires
 wide-requires c κs = search needs
 
 returns-2 : tie.Need-returns-2
-unfolding primitiveSize primitiveSizes
-returns-2 c = sym (size-none _ (sym (c .before .wide .ensures) ∙ c .if2 .taken))
+returns-2 c = let h = c .before .before .if1 .left in size-none _ h (sym (c .before .wide .ensures) ∙ c .if2 .taken)
 
 returns-3 : tie.Need-returns-3
-unfolding primitiveSize primitiveSizes
-returns-3 c = rw (c .before .wide .ensures) (sym (size-some _ (λ e. c .if2 .left (c .before .wide .ensures ∙ e))))
+returns-3 c =
+    let h = c .before .before .if1 .left in
+    rw (c .before .wide .ensures) (size-some _ h (λ e. c .if2 .left (c .before .wide .ensures ∙ e)))
 
 pub primitive-size-spec : {M : Type 1} → statement M
 primitive-size-spec =

@@ -1,6 +1,6 @@
 -- `kinds::verify_name` meets its contract. Assumes nothing.
 use Prim.Native.Nat.{_≤_, _-_}
-use mathlib.Core.Path.{_≡_, refl, sym, ap, _∙_}
+use mathlib.Core.Path.{_≡_, sym, _∙_}
 use mathlib.Core.Logic.{⊎-elim}
 use native.Mathlib.Omega.{arith}
 use lib.ListN.{length, drop}
@@ -10,9 +10,6 @@ use Rattle.kinds.specs.Name.{allNameBytes, verifyName}
 use Rattle.kinds.proofs.NameLaws.{all-more, all-stop, all-end, name-empty, name-unknown, name-one, name-more}
 use Rattle.kinds.proofs.verify_name.Statement.{statement}
 use Rattle.kinds.proofs.verify_name.Tie as tie
-use Rattle.kinds.proofs.verify_name.Reads as reads
-use Rattle.kinds.proofs.verify_name.Lts as lts
-use Rattle.kinds.proofs.is_name_byte.Reads as is-name-byte-reads
 
 abbrev Inv-loop : tie.InvT-loop
 Inv-loop name i₀ i = (verifyName name ≡ allNameBytes (drop i name)) × (i ≤ length name)

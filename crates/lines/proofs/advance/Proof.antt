@@ -17,7 +17,10 @@ same-length : tie.Need-same-length
 same-length c = search needs
 
 returns : tie.Need-returns
-returns c = (step-comma _ _ _ (c .before .before .before .before .if1 .taken), c .before .before .put-word .ensures ∙ words-comma _ _ _ _ (c .before .before .before .before .if1 .taken))
+returns c =
+    let c2 = c .before .before in
+    let c4 = c2 .before .before in
+    (step-comma _ _ _ (c4 .if1 .taken), c2 .put-word .ensures ∙ words-comma _ _ _ _ (c4 .if1 .taken))
 
 grow-requires : tie.Need-grow-requires
 grow-requires c κs = search needs
@@ -30,11 +33,20 @@ enum-told c = search needs
 
 returns-2 : tie.Need-returns-2
 unfolding stepGrown
-returns-2 c = (step-grown _ _ _ (Grown.Value (c .before .v .given .0 .0)) (c .before .before .before .before .if1 .left) (sym (c .before .v .given .1) ∙ c .before .before .before .grow .ensures), words-kept _ _ _ _ (c .before .before .before .before .if1 .left))
+returns-2 c =
+    let c3 = c .before .before .before in
+    let c4 = c3 .before in (
+      step-grown _ _ _ (Grown.Value (c .before .v .given .0 .0)) (c4 .if1 .left) (sym (c .before .v .given .1) ∙ c3 .grow .ensures),
+      words-kept _ _ _ _
+          (c4 .if1 .left),
+    )
 
 returns-3 : tie.Need-returns-3
 unfolding stepGrown
-returns-3 c = (step-grown _ _ _ Grown.Bad (c .before .before .before .if1 .left) (sym (c .enum-told .given .1) ∙ c .before .before .grow .ensures), words-kept _ _ _ _ (c .before .before .before .if1 .left))
+returns-3 c =
+    let c2 = c .before .before in
+    let c3 = c2 .before in
+    (step-grown _ _ _ Grown.Bad (c3 .if1 .left) (sym (c .enum-told .given .1) ∙ c2 .grow .ensures), words-kept _ _ _ _ (c3 .if1 .left))
 
 pub advance-spec : {M : Type 1} → statement M
 advance-spec =

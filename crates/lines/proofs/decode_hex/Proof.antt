@@ -23,7 +23,9 @@ same-length : tie.Need-same-length Inv-loop μ-loop
 same-length c = c .before .before .loop .inv .same
 
 returns : tie.Need-returns Inv-loop μ-loop
-returns c = answer-bad _ (c .before .before .loop .inv) (stopped-end _ _ (c .before .loop-test .taken) (c .if1 .taken))
+returns c =
+    let c2 = c .before .before in
+    answer-bad _ (c2 .loop .inv) (stopped-end _ _ (c .before .loop-test .taken) (c .if1 .taken))
 
 shared-slice-read-digit-of : tie.Need-shared-slice-read-digit-of Inv-loop μ-loop
 shared-slice-read-digit-of c = omega arith
@@ -35,7 +37,9 @@ same-length-2 : tie.Need-same-length-2 Inv-loop μ-loop
 same-length-2 c = c .before .before .before .before .before .loop .inv .same
 
 returns-2 : tie.Need-returns-2 Inv-loop μ-loop
-returns-2 c = answer-bad _ (c .before .before .before .before .before .loop .inv) (stopped-bad _ _ (omega arith) (pair-bad-first _ _ (omega (arith, c .before .digit-of .ensures))))
+returns-2 c =
+    let c5 = c .before .before .before .before .before in
+    answer-bad _ (c5 .loop .inv) (stopped-bad _ _ (omega arith) (pair-bad-first _ _ (omega (arith, c .before .digit-of .ensures))))
 
 add-digit-of : tie.Need-add-digit-of Inv-loop μ-loop
 add-digit-of c = omega arith
@@ -50,7 +54,9 @@ same-length-3 : tie.Need-same-length-3 Inv-loop μ-loop
 same-length-3 c = c .before .before .before .before .before .before .before .before .loop .inv .same
 
 returns-3 : tie.Need-returns-3 Inv-loop μ-loop
-returns-3 c = answer-bad _ (c .before .before .before .before .before .before .before .before .loop .inv) (stopped-bad _ _ (omega arith) (pair-bad-second _ _ (omega (arith, c .before .digit-of2 .ensures))))
+returns-3 c =
+    let c8 = c .before .before .before .before .before .before .before .before in
+    answer-bad _ (c8 .loop .inv) (stopped-bad _ _ (omega arith) (pair-bad-second _ _ (omega (arith, c .before .digit-of2 .ensures))))
 
 mul-put-byte : tie.Need-mul-put-byte Inv-loop μ-loop
 mul-put-byte c = omega arith
@@ -71,19 +77,28 @@ loop-less : tie.Need-loop-less Inv-loop μ-loop
 loop-less c = omega arith
 
 loop-again : tie.Need-loop-again Inv-loop μ-loop
-loop-again c = read-more _ _ (omega arith) (c .before .before .before .before .before .before .before .before .before .before .before .before .loop .inv) (c .before .before .before .before .before .before .before .before .digit-of .ensures) (c .before .before .before .before .before .digit-of2 .ensures) (omega arith) (omega arith) _ (c .before .before .put-byte .ensures .text)
+loop-again c =
+    let c2 = c .before .before in
+    let c5 = c2 .before .before .before in
+    let c8 = c5 .before .before .before in
+    let c12 = c8 .before .before .before .before in
+    read-more _ _ (omega arith) (c12 .loop .inv) (c8 .digit-of .ensures) (c5 .digit-of2 .ensures) (omega arith) (omega arith) _ (c2 .put-byte .ensures .text)
 
 same-length-4 : tie.Need-same-length-4 Inv-loop μ-loop
 same-length-4 c = c .before .before .loop .inv .same
 
 returns-4 : tie.Need-returns-4 Inv-loop μ-loop
-returns-4 c = answer-short (c .before .loop-test .left) (c .before .before .loop .inv) (c .if4 .taken)
+returns-4 c =
+    let c2 = c .before .before in
+    answer-short (c .before .loop-test .left) (c2 .loop .inv) (c .if4 .taken)
 
 same-length-5 : tie.Need-same-length-5 Inv-loop μ-loop
 same-length-5 c = c .before .before .loop .inv .same
 
 returns-5 : tie.Need-returns-5 Inv-loop μ-loop
-returns-5 c = answer-items (c .before .loop-test .left) (c .before .before .loop .inv) (c .if4 .left)
+returns-5 c =
+    let c2 = c .before .before in
+    answer-items (c .before .loop-test .left) (c2 .loop .inv) (c .if4 .left)
 
 pub decode-hex-spec : {M : Type 1} → statement M
 decode-hex-spec =

@@ -30,10 +30,17 @@ enum-told : tie.Need-enum-told Inv-loop μ-loop
 enum-told c = search needs
 
 same-length : tie.Need-same-length Inv-loop μ-loop
-same-length c = c .before .before .before .before .advance .kept .0 ∙ c .before .before .before .before .before .before .before .before .loop .inv .same
+same-length c =
+    let c4 = c .before .before .before .before in
+    let c8 = c4 .before .before .before .before in
+    c4 .advance .kept .0 ∙ c8 .loop .inv .same
 
 returns : tie.Need-returns Inv-loop μ-loop
-returns c = scan-bad _ _ (c .before .before .before .before .before .before .before .loop-test .taken) (c .before .before .before .before .before .before .before .before .loop .inv) (sym (c .enum-told .given .1) ∙ c .before .before .before .before .advance .ensures .0) (c .before .before .before .before .advance .ensures .1)
+returns c =
+    let c4 = c .before .before .before .before in
+    let c7 = c4 .before .before .before in
+    let c8 = c7 .before in
+    scan-bad _ _ (c7 .loop-test .taken) (c8 .loop .inv) (sym (c .enum-told .given .1) ∙ c4 .advance .ensures .0) (c4 .advance .ensures .1)
 
 add-i : tie.Need-add-i Inv-loop μ-loop
 add-i c = omega arith
@@ -42,25 +49,43 @@ loop-less : tie.Need-loop-less Inv-loop μ-loop
 loop-less c = omega arith
 
 loop-again : tie.Need-loop-again Inv-loop μ-loop
-loop-again c = scan-more _ _ _ (c .before .before .before .before .before .before .before .before .loop-test .taken) (c .before .before .before .before .before .before .before .before .before .loop .inv) (sym (c .before .m .given .1) ∙ c .before .before .before .before .before .advance .ensures .0) (c .before .before .before .before .before .advance .ensures .1)
+loop-again c =
+    let c5 = c .before .before .before .before .before in
+    let c8 = c5 .before .before .before in
+    let c9 = c8 .before in
+    scan-more _ _ _ (c8 .loop-test .taken) (c9 .loop .inv) (sym (c .before .m .given .1) ∙ c5 .advance .ensures .0) (c5 .advance .ensures .1)
 
 put-word-requires : tie.Need-put-word-requires Inv-loop μ-loop
 put-word-requires c κs = search needs
 
 same-length-2 : tie.Need-same-length-2 Inv-loop μ-loop
-same-length-2 c = c .before .before .before .put-word .kept .0 ∙ c .before .before .before .before .before .before .loop .inv .same
+same-length-2 c =
+    let c3 = c .before .before .before in
+    let c6 = c3 .before .before .before in
+    c3 .put-word .kept .0 ∙ c6 .loop .inv .same
 
 returns-2 : tie.Need-returns-2 Inv-loop μ-loop
-returns-2 c = scan-short _ (c .before .before .before .before .before .loop-test .left) (c .before .before .before .before .before .before .loop .inv) (c .before .before .before .put-word .ensures) (c .if1 .taken)
+returns-2 c =
+    let c3 = c .before .before .before in
+    let c5 = c3 .before .before in
+    let c6 = c5 .before in
+    scan-short _ (c5 .loop-test .left) (c6 .loop .inv) (c3 .put-word .ensures) (c .if1 .taken)
 
 add-t18 : tie.Need-add-t18 Inv-loop μ-loop
 add-t18 c = omega (arith, c .before .before .before .before .before .before .loop .inv .few)
 
 same-length-3 : tie.Need-same-length-3 Inv-loop μ-loop
-same-length-3 c = c .before .before .before .put-word .kept .0 ∙ c .before .before .before .before .before .before .loop .inv .same
+same-length-3 c =
+    let c3 = c .before .before .before in
+    let c6 = c3 .before .before .before in
+    c3 .put-word .kept .0 ∙ c6 .loop .inv .same
 
 returns-3 : tie.Need-returns-3 Inv-loop μ-loop
-returns-3 c = scan-items _ (c .before .before .before .before .before .loop-test .left) (c .before .before .before .before .before .before .loop .inv) (c .before .before .before .put-word .ensures) (c .if1 .left)
+returns-3 c =
+    let c3 = c .before .before .before in
+    let c5 = c3 .before .before in
+    let c6 = c5 .before in
+    scan-items _ (c5 .loop-test .left) (c6 .loop .inv) (c3 .put-word .ensures) (c .if1 .left)
 
 pub decode-words-spec : {M : Type 1} → statement M
 decode-words-spec =

@@ -1,9 +1,8 @@
 -- `lines::field` meets its contract. Assumes nothing.
-use Prim.Native.Nat.{ℕ}
-use mathlib.Core.Path.{sym, ap}
-use lib.ListN.{take}
+use mathlib.Core.Path.{sym}
 use lib.Seq.{length-take-le}
 use borrow.Author.Needs.{needs}
+use Rattle.lines.proofs.FieldLaws.{front-is}
 use Rattle.lines.proofs.field.Statement.{statement}
 use Rattle.lines.proofs.field.Tie as tie
 
@@ -11,10 +10,14 @@ place-of-requires : tie.Need-place-of-requires
 place-of-requires c κs = search needs
 
 slice-aggregate-result : tie.Need-slice-aggregate-result
-slice-aggregate-result c = sym (length-take-le (c .before .place-of .result) (c .before .before .before .args .s .now) (c .before .place-of .ensures .1))
+slice-aggregate-result c =
+    let c3 = c .before .before .before in
+    sym (length-take-le (c .before .place-of .result) (c3 .args .s .now) (c .before .place-of .ensures .1))
 
 returns : tie.Need-returns
-returns c = ap (λ (n : ℕ). take n (c .before .before .before .args .s .now)) (c .before .place-of .ensures .0)
+returns c =
+    let c3 = c .before .before .before in
+    front-is (c3 .args .s) _ _ (c .before .place-of .ensures .0)
 
 pub field-spec : {M : Type 1} → statement M
 field-spec = tie.close (tie.spec place-of-requires slice-aggregate-result returns)

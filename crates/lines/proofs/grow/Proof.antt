@@ -18,7 +18,9 @@ wide-requires : tie.Need-wide-requires
 wide-requires c κs = search needs
 
 returns-3 : tie.Need-returns-3
-returns-3 c = grown-large (c .before .before .before .before .args .n) (c .before .before .before .before .args .b) (omega arith) (omega arith) (omega arith)
+returns-3 c =
+    let c4 = c .before .before .before .before in
+    grown-large (c4 .args .n) (c4 .args .b) (omega arith) (omega arith) (omega arith)
 
 mul-if4 : tie.Need-mul-if4
 mul-if4 c = search needs
@@ -27,7 +29,10 @@ sub-if4 : tie.Need-sub-if4
 sub-if4 c = search needs
 
 returns-4 : tie.Need-returns-4
-returns-4 c = grown-large (c .before .before .before .before .before .args .n) (c .before .before .before .before .before .args .b) (omega arith) (omega arith) (omega (arith, c .before .before .wide .ensures))
+returns-4 c =
+    let c2 = c .before .before in
+    let c5 = c2 .before .before .before in
+    grown-large (c5 .args .n) (c5 .args .b) (omega arith) (omega arith) (omega (arith, c2 .wide .ensures))
 
 mul-t6 : tie.Need-mul-t6
 mul-t6 c = search needs
@@ -36,7 +41,11 @@ add-t7 : tie.Need-add-t7
 add-t7 c = search needs
 
 returns-5 : tie.Need-returns-5
-returns-5 c = ap (λ (k : ℕ). Grown.Value (10 * c .before .before .before .before .before .args .n + k)) (c .before .before .wide .ensures) ∙ grown-value (c .before .before .before .before .before .args .n) (c .before .before .before .before .before .args .b) (omega arith) (omega arith) (omega (arith, c .before .before .wide .ensures))
+returns-5 c =
+    let c2 = c .before .before in
+    let c5 = c2 .before .before .before in
+    ap (λ (k : ℕ). Grown.Value (10 * c5 .args .n + k)) (c2 .wide .ensures) ∙ grown-value (c5 .args .n) (c5 .args .b) (omega arith) (omega arith)
+    (omega (arith, c2 .wide .ensures))
 
 pub grow-spec : {M : Type 1} → statement M
 grow-spec =

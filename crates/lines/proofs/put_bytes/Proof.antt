@@ -32,13 +32,25 @@ loop-less : tie.Need-loop-less Inv-loop μ-loop
 loop-less c = omega arith
 
 loop-again : tie.Need-loop-again Inv-loop μ-loop
-loop-again c = (then-put (getD (c .before .before .before .before .before .before .before .before .before .args .s .now) (c .before .before .before .before .before .before .loop .i) 0 ∷ []) (drop (c .before .before .before .before .before .before .loop .i + 1) (c .before .before .before .before .before .before .before .before .before .args .s .now)) (unread (c .before .before .before .before .before .before .before .before .before .args .s .now) (c .before .before .before .before .before .before .loop .i) (c .before .before .before .before .before .loop-test .taken)) (c .before .before .before .before .before .before .loop .inv .0) (c .before .before .put-byte .ensures), c .before .before .put-byte .kept .0 ∙ c .before .before .before .before .before .before .loop .inv .1, omega arith)
+loop-again c =
+    let c2 = c .before .before in
+    let c5 = c2 .before .before .before in
+    let c6 = c5 .before in
+    let c9 = c6 .before .before .before in (
+      then-put (getD (c9 .args .s .now) (c6 .loop .i) 0 ∷ []) (drop (c6 .loop .i + 1) (c9 .args .s .now))
+          (unread (c9 .args .s .now) (c6 .loop .i) (c5 .loop-test .taken)) (c6 .loop .inv .0) (c2 .put-byte .ensures),
+      c2 .put-byte .kept .0
+          ∙ c6 .loop .inv .1,
+      omega arith,
+    )
 
 same-length : tie.Need-same-length Inv-loop μ-loop
 same-length c = c .before .loop .inv .1
 
 returns : tie.Need-returns Inv-loop μ-loop
-returns c = all-put (unread-end (c .before .before .before .before .args .s .now) (c .before .loop .i) (c .loop-test .left)) (c .before .loop .inv .0)
+returns c =
+    let c4 = c .before .before .before .before in
+    all-put (unread-end (c4 .args .s .now) (c .before .loop .i) (c .loop-test .left)) (c .before .loop .inv .0)
 
 pub put-bytes-spec : {M : Type 1} → statement M
 put-bytes-spec =

@@ -16,7 +16,11 @@ same-length : tie.Need-same-length
 same-length c = search needs
 
 returns : tie.Need-returns
-returns c = put-append (c .before .before .before .before .before .before .before .before .before .args .mark ∷ []) (decimal (c .before .before .before .before .before .before .before .before .before .args .n)) (c .before .before .before .before .before .before .put-byte .ensures) (c .before .before .put-number .ensures)
+returns c =
+    let c2 = c .before .before in
+    let c6 = c2 .before .before .before .before in
+    let c9 = c6 .before .before .before in
+    put-append (c9 .args .mark ∷ []) (decimal (c9 .args .n)) (c6 .put-byte .ensures) (c2 .put-number .ensures)
 
 pub put-marked-spec : {M : Type 1} → statement M
 put-marked-spec = tie.close (tie.spec put-byte-requires put-number-requires same-length returns)

@@ -22,7 +22,13 @@ same-length : tie.Need-same-length
 same-length c = search needs
 
 returns : tie.Need-returns
-returns c = put-same (hexPair-is _ _ _ (c .before .before .before .before .before .before .before .before .hex-glyph .ensures) (c .before .before .before .hex-glyph2 .ensures)) (put-append (c .before .before .before .before .before .before .before .before .hex-glyph .result ∷ []) (c .before .before .before .hex-glyph2 .result ∷ []) (c .before .before .before .before .before .before .before .put-byte .ensures) (c .before .before .put-byte2 .ensures))
+returns c =
+    let c2 = c .before .before in
+    let c3 = c2 .before in
+    let c7 = c3 .before .before .before .before in
+    let c8 = c7 .before in
+    put-same (hexPair-is _ _ _ (c8 .hex-glyph .ensures) (c3 .hex-glyph2 .ensures))
+    (put-append (c8 .hex-glyph .result ∷ []) (c3 .hex-glyph2 .result ∷ []) (c7 .put-byte .ensures) (c2 .put-byte2 .ensures))
 
 pub put-pair-spec : {M : Type 1} → statement M
 put-pair-spec =

@@ -2,6 +2,7 @@
 use Prim.Native.Nat.{ℕ}
 use mathlib.Core.Path.{ap, _∙_}
 use lib.ListN.{take}
+use Rattle.lines.proofs.FieldLaws.{front-bytes}
 use Rattle.lines.proofs.PutLaws.{put-same, put-append, sheet-is}
 use borrow.Author.Needs.{needs}
 use Rattle.lines.proofs.put_sheet.Statement.{statement}
@@ -38,7 +39,20 @@ same-length : tie.Need-same-length
 same-length c = search needs
 
 returns : tie.Need-returns
-returns c = put-same (sheet-is (c .before .before .before .before .before .before .before .before .before .before .before .before .before .before .before .before .before .before .before .before .before .before .before .before .args .words .now) (c .before .before .before .before .before .before .before .before .before .before .before .before .before .before .before .before .before .before .before .before .before .before .before .before .args .names .now) _ _ (c .before .before .before .before .before .before .before .before .before .before .before .before .front-words .ensures ∙ ap (λ (n : ℕ). take n (c .before .before .before .before .before .before .before .before .before .before .before .before .before .before .before .before .before .before .before .before .before .before .before .before .args .words .now)) (c .before .before .before .before .before .before .before .before .before .before .before .before .before .before .before .before .before .before .before .before .word-at .ensures)) (c .before .before .before .front .ensures ∙ ap (λ (n : ℕ). take n (c .before .before .before .before .before .before .before .before .before .before .before .before .before .before .before .before .before .before .before .before .before .before .before .before .args .names .now)) (c .before .before .before .before .before .before .before .before .before .before .before .before .before .before .before .before .before .before .before .word-at2 .ensures))) (put-append _ _ (c .before .before .before .before .before .before .before .before .before .before .before .before .before .before .before .before .put-bytes .ensures) (put-append _ _ (c .before .before .before .before .before .before .before .before .before .before .before .put-words .ensures) (put-append _ _ (c .before .before .before .before .before .before .before .put-byte .ensures) (c .before .before .put-hex .ensures))))
+returns c =
+    let c2 = c .before .before in
+    let c3 = c2 .before in
+    let c7 = c3 .before .before .before .before in
+    let c11 = c7 .before .before .before .before in
+    let c12 = c11 .before in
+    let c16 = c12 .before .before .before .before in
+    let c19 = c16 .before .before .before in
+    let c20 = c19 .before in
+    let c24 = c20 .before .before .before .before in
+    put-same (sheet-is (c24 .args .words .now) (c24 .args .names .now) _ _
+    (c12 .front-words .ensures ∙ ap (λ (n : ℕ). take n (c24 .args .words .now)) (c20 .word-at .ensures))
+    (front-bytes _ _ (c3 .front .ensures) ∙ ap (λ (n : ℕ). take n (c24 .args .names .now)) (c19 .word-at2 .ensures)))
+    (put-append _ _ (c16 .put-bytes .ensures) (put-append _ _ (c11 .put-words .ensures) (put-append _ _ (c7 .put-byte .ensures) (c2 .put-hex .ensures))))
 
 pub put-sheet-spec : {M : Type 1} → statement M
 put-sheet-spec =

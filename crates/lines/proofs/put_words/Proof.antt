@@ -11,7 +11,8 @@ use Rattle.lines.proofs.put_words.Statement.{statement}
 use Rattle.lines.proofs.put_words.Tie as tie
 
 abbrev Inv-loop : tie.InvT-loop
-Inv-loop out₀ at words to₀ i₀ out to i = ToPut out₀ to₀ (each commaNumber (drop 1 words)) out to (each commaNumber (drop i words)) × (length out ≡ length out₀) × (i ≤ length words)
+Inv-loop out₀ at words to₀ i₀ out to i = ToPut out₀ to₀ (each commaNumber (drop 1 words)) out to (each commaNumber (drop i words)) × (length out ≡ length out₀)
+    × (i ≤ length words)
 
 abbrev μ-loop : tie.MeasureT-loop
 μ-loop out₀ at words to₀ i₀ out to i = length words - i
@@ -45,13 +46,30 @@ loop-less c = omega arith
 
 loop-again : tie.Need-loop-again Inv-loop μ-loop
 unfolding commaNumber
-loop-again c = (then-put (commaNumber (getD (c .before .before .before .before .before .before .before .before .before .before .before .before .before .before .before .args .words .now) (c .before .before .before .before .before .before .loop .i) 0)) (each commaNumber (drop (c .before .before .before .before .before .before .loop .i + 1) (c .before .before .before .before .before .before .before .before .before .before .before .before .before .before .before .args .words .now))) (each-more commaNumber (c .before .before .before .before .before .before .before .before .before .before .before .before .before .before .before .args .words .now) (c .before .before .before .before .before .before .loop .i) (c .before .before .before .before .before .loop-test .taken)) (c .before .before .before .before .before .before .loop .inv .0) (c .before .before .put-marked .ensures), c .before .before .put-marked .kept .0 ∙ c .before .before .before .before .before .before .loop .inv .1, omega arith)
+loop-again c =
+    let c2 = c .before .before in
+    let c5 = c2 .before .before .before in
+    let c6 = c5 .before in
+    let c15 = c6 .before .before .before .before .before .before .before .before .before in (
+      then-put (commaNumber (getD (c15 .args .words .now) (c6 .loop .i) 0)) (each commaNumber (drop (c6 .loop .i + 1) (c15 .args .words .now)))
+          (each-more commaNumber (c15 .args .words .now) (c6 .loop .i) (c5 .loop-test .taken)) (c6 .loop .inv .0) (c2 .put-marked .ensures),
+      c2 .put-marked .kept .0
+          ∙ c6 .loop .inv .1,
+      omega arith,
+    )
 
 same-length : tie.Need-same-length Inv-loop μ-loop
-same-length c = c .before .loop .inv .1 ∙ c .before .before .before .before .put-number .kept .0
+same-length c =
+    let c4 = c .before .before .before .before in
+    c .before .loop .inv .1 ∙ c4 .put-number .kept .0
 
 returns-2 : tie.Need-returns-2 Inv-loop μ-loop
-returns-2 c = put-same (sym (words-some (c .before .before .before .before .before .before .before .before .before .before .args .words .now) (omega arith))) (put-append (decimal (getD (c .before .before .before .before .before .before .before .before .before .before .args .words .now) 0 0)) (each commaNumber (drop 1 (c .before .before .before .before .before .before .before .before .before .before .args .words .now))) (c .before .before .before .before .put-number .ensures) (all-put (each-end commaNumber (c .before .before .before .before .before .before .before .before .before .before .args .words .now) (c .before .loop .i) (c .loop-test .left)) (c .before .loop .inv .0)))
+returns-2 c =
+    let c4 = c .before .before .before .before in
+    let c10 = c4 .before .before .before .before .before .before in
+    put-same (sym (words-some (c10 .args .words .now) (omega arith)))
+    (put-append (decimal (getD (c10 .args .words .now) 0 0)) (each commaNumber (drop 1 (c10 .args .words .now))) (c4 .put-number .ensures)
+    (all-put (each-end commaNumber (c10 .args .words .now) (c .before .loop .i) (c .loop-test .left)) (c .before .loop .inv .0)))
 
 pub put-words-spec : {M : Type 1} → statement M
 put-words-spec =

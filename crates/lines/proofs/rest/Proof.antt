@@ -1,9 +1,10 @@
 -- `lines::rest` meets its contract. Assumes nothing.
 use Prim.Native.Nat.{ℕ, _+_}
 use mathlib.Core.Path.{ap, _∙_}
-use lib.ListN.{drop}
-use Rattle.kinds.proofs.ListLaws.{part-rest}
-use Rattle.lines.proofs.FieldLaws.{rest-none}
+use native.Mathlib.Omega.{arith}
+use Rattle.parser.specs.Place.{remainingAt}
+use Rattle.parser.proofs.PlaceLaws.{part-remains}
+use Rattle.lines.proofs.FieldLaws.{past}
 use borrow.Author.Needs.{needs}
 use Rattle.lines.proofs.rest.Statement.{statement}
 use Rattle.lines.proofs.rest.Tie as tie
@@ -24,7 +25,10 @@ part-result-end : tie.Need-part-result-end
 part-result-end c = search needs
 
 returns : tie.Need-returns
-returns c = part-rest (c .before .before .before .before .args .s .now) (c .before .before .place-of .result + 1) ∙ ap (λ (n : ℕ). drop (n + 1) (c .before .before .before .before .args .s .now)) (c .before .before .place-of .ensures .0)
+returns c =
+    let c2 = c .before .before in
+    let c4 = c2 .before .before in
+    part-remains (c4 .args .s) _ (omega arith) ∙ ap (λ (n : ℕ). remainingAt (c4 .args .s) (n + 1)) (c2 .place-of .ensures .0)
 
 sub-result-2 : tie.Need-sub-result-2
 sub-result-2 c = search needs
@@ -36,7 +40,11 @@ part-result-end-2 : tie.Need-part-result-end-2
 part-result-end-2 c = search needs
 
 returns-2 : tie.Need-returns-2
-returns-2 c = rest-none (c .before .before .before .before .args .s .now) (c .before .before .place-of .result) (c .before .if1 .left) ∙ ap (λ (n : ℕ). drop (n + 1) (c .before .before .before .before .args .s .now)) (c .before .before .place-of .ensures .0)
+returns-2 c =
+    let c2 = c .before .before in
+    let c4 = c2 .before .before in
+    part-remains (c4 .args .s) _ (omega (arith, c2 .place-of .ensures .1))
+    ∙ (past (c4 .args .s) _ (omega arith) (c2 .place-of .ensures .1) ∙ ap (λ (n : ℕ). remainingAt (c4 .args .s) (n + 1)) (c2 .place-of .ensures .0))
 
 pub rest-spec : {M : Type 1} → statement M
 rest-spec =

@@ -21,10 +21,14 @@ slice-write-names : tie.Need-slice-write-names Inv-loop μ-loop
 slice-write-names c = rw (c .before .loop .inv .0) (omega (arith, cleared-length (c .before .loop .i) (c .before .before .args .names .now) (omega arith)))
 
 add-i : tie.Need-add-i Inv-loop μ-loop
-add-i c = omega (arith, c .before .before .good .0, c .before .before .pre)
+add-i c =
+    let c2 = c .before .before in
+    omega (arith, c2 .good .0, c2 .pre)
 
 loop-less : tie.Need-loop-less Inv-loop μ-loop
-loop-less c = omega (arith, c .before .before .good .0, c .before .before .pre)
+loop-less c =
+    let c2 = c .before .before in
+    omega (arith, c2 .good .0, c2 .pre)
 
 loop-again : tie.Need-loop-again Inv-loop μ-loop
 loop-again c = (rw (c .before .loop .inv .0) (fill-more (c .before .loop .i) 0 (c .before .before .args .names .now) (omega arith)), omega arith)
@@ -33,7 +37,9 @@ same-length : tie.Need-same-length Inv-loop μ-loop
 same-length c = rw (c .before .loop .inv .0) (cleared-length (c .before .loop .i) (c .before .before .args .names .now) (omega arith))
 
 returns : tie.Need-returns Inv-loop μ-loop
-returns c = let e : c .before .loop .i ≡ c .before .before .args .n = omega arith in c .before .loop .inv .0 ∙ ap (λ (k : ℕ). cleared k (c .before .before .args .names .now)) e
+returns c =
+    let c2 = c .before .before in
+    let e : c .before .loop .i ≡ c2 .args .n = omega arith in c .before .loop .inv .0 ∙ ap (λ (k : ℕ). cleared k (c2 .args .names .now)) e
 
 pub clear-names-spec : {M : Type 1} → statement M
 clear-names-spec =

@@ -17,7 +17,9 @@ enum-known-p c = search needs
 
 -- Src/lib.rt:639:13.
 put-header-requires : tie.Need-put-header-requires
-put-header-requires c κs = rw (c .before .before .p .given .1) at (c .before .before .before .before .before .before .pre .1)
+put-header-requires c κs =
+    let c6 = c .before .before .before .before .before .before in
+    rw (c .before .before .p .given .1) at (c6 .pre .1)
 
 -- Src/lib.rt:642:30.
 enum-known-p-2 : tie.Need-enum-known-p-2
@@ -53,7 +55,9 @@ same-length c = search needs
 
 -- Src/lib.rt:629:1.
 returns : tie.Need-returns
-returns c = rw (c .before .before .before .before .enum-told .given .1) ((refl, c .before .before .put-none .ensures), refl)
+returns c =
+    let c4 = c .before .before .before .before in
+    rw (c4 .enum-told .given .1) ((refl, c .before .before .put-none .ensures), refl)
 
 -- Src/lib.rt:629:1.
 same-length-2 : tie.Need-same-length-2
@@ -61,7 +65,9 @@ same-length-2 c = search needs
 
 -- Src/lib.rt:629:1.
 returns-2 : tie.Need-returns-2
-returns-2 c = rw (c .before .before .before .before .before .p .given .1) ((refl, c .before .before .put-header .ensures), refl)
+returns-2 c =
+    let c5 = c .before .before .before .before .before in
+    rw (c5 .p .given .1) ((refl, c .before .before .put-header .ensures), refl)
 
 -- Src/lib.rt:629:1.
 same-length-3 : tie.Need-same-length-3
@@ -73,7 +79,10 @@ same-length-4 c = search needs
 
 -- Src/lib.rt:629:1.
 returns-3 : tie.Need-returns-3
-returns-3 c = rw (c .before .before .before .before .before .before .before .before .before .p2 .given .1, c .end-byte .ensures) ((refl, c .before .before .before .before .before .clear-sheet .ensures .0), c .before .before .before .before .before .clear-sheet .ensures .1)
+returns-3 c =
+    let c5 = c .before .before .before .before .before in
+    let c9 = c5 .before .before .before .before in
+    rw (c9 .p2 .given .1, c .end-byte .ensures) ((refl, c5 .clear-sheet .ensures .0), c5 .clear-sheet .ensures .1)
 
 -- Src/lib.rt:629:1.
 same-length-5 : tie.Need-same-length-5
@@ -85,7 +94,10 @@ same-length-6 c = search needs
 
 -- Src/lib.rt:629:1.
 returns-4 : tie.Need-returns-4
-returns-4 c = rw (c .before .before .before .before .before .before .before .before .p3 .given .1) ((refl, c .before .before .before .before .clear-sheet2 .ensures .0), c .before .before .before .before .clear-sheet2 .ensures .1)
+returns-4 c =
+    let c4 = c .before .before .before .before in
+    let c8 = c4 .before .before .before .before in
+    rw (c8 .p3 .given .1) ((refl, c4 .clear-sheet2 .ensures .0), c4 .clear-sheet2 .ensures .1)
 
 -- Src/lib.rt:629:1.
 same-length-7 : tie.Need-same-length-7
@@ -97,7 +109,10 @@ same-length-8 c = search needs
 
 -- Src/lib.rt:629:1.
 returns-5 : tie.Need-returns-5
-returns-5 c = rw (c .before .before .before .before .before .before .before .before .p4 .given .1) ((refl, c .before .before .before .before .clear-sheet3 .ensures .0), c .before .before .before .before .clear-sheet3 .ensures .1)
+returns-5 c =
+    let c4 = c .before .before .before .before in
+    let c8 = c4 .before .before .before .before in
+    rw (c8 .p4 .given .1) ((refl, c4 .clear-sheet3 .ensures .0), c4 .clear-sheet3 .ensures .1)
 
 pub encoding-or-none-spec : {M : Type 1} → statement M
 encoding-or-none-spec =

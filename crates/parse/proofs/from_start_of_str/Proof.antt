@@ -16,13 +16,15 @@ enum-known-to c = search needs
 -- Src/lib.rt:750:13.
 sub-result : tie.Need-sub-result
 sub-result c =
-    let r = rw (c .before .before .to .given .1) at (c .before .before .before .before .before .before .before .before .parse-encoding-or-none .ensures) in
+    let c8 = c .before .before .before .before .before .before .before .before in
+    let r = rw (c .before .before .to .given .1) at (c8 .parse-encoding-or-none .ensures) in
     omega (arith, r .within)
 
 -- Src/lib.rt:750:13.
 part-result-start : tie.Need-part-result-start
 part-result-start c =
-    let r = rw (c .before .before .to .given .1) at (c .before .before .before .before .before .before .before .before .parse-encoding-or-none .ensures) in
+    let c8 = c .before .before .before .before .before .before .before .before in
+    let r = rw (c .before .before .to .given .1) at (c8 .parse-encoding-or-none .ensures) in
     omega (arith, r .within)
 
 -- Src/lib.rt:750:13.
@@ -48,19 +50,25 @@ unknown-digit-requires c κs = search needs
 -- Src/lib.rt:758:17.
 put-none-requires : tie.Need-put-none-requires
 put-none-requires c κs =
-    let r = rw (c .before .before .before .before .why2 .given .1) at (c .before .before .before .before .before .before .before .before .before .before .parse-encoding-or-none .ensures) in
-    omega (arith, r .words-room, c .before .before .before .before .before .before .before .before .before .before .parse-encoding-or-none .kept .1 .0)
+    let c4 = c .before .before .before .before in
+    let c10 = c4 .before .before .before .before .before .before in
+    let r = rw (c4 .why2 .given .1) at (c10 .parse-encoding-or-none .ensures) in
+    omega (arith, r .words-room, c10 .parse-encoding-or-none .kept .1 .0)
 
 -- Src/lib.rt:760:17.
 sub-result-2 : tie.Need-sub-result-2
 sub-result-2 c =
-    let r = rw (c .before .before .before .before .before .before .before .before .why2 .given .1) at (c .before .before .before .before .before .before .before .before .before .before .before .before .before .before .parse-encoding-or-none .ensures) in
+    let c8 = c .before .before .before .before .before .before .before .before in
+    let c14 = c8 .before .before .before .before .before .before in
+    let r = rw (c8 .why2 .given .1) at (c14 .parse-encoding-or-none .ensures) in
     omega (arith, r .within)
 
 -- Src/lib.rt:760:17.
 part-result-start-2 : tie.Need-part-result-start-2
 part-result-start-2 c =
-    let r = rw (c .before .before .before .before .before .before .before .before .why2 .given .1) at (c .before .before .before .before .before .before .before .before .before .before .before .before .before .before .parse-encoding-or-none .ensures) in
+    let c8 = c .before .before .before .before .before .before .before .before in
+    let c14 = c8 .before .before .before .before .before .before in
+    let r = rw (c8 .why2 .given .1) at (c14 .parse-encoding-or-none .ensures) in
     omega (arith, r .within)
 
 -- Src/lib.rt:760:17.
@@ -82,7 +90,9 @@ same-length-2 c = search needs
 -- Src/lib.rt:740:1.
 returns : tie.Need-returns
 returns c =
-    let r = rw (c .before .before .before .to .given .1) at (c .before .before .before .before .before .before .before .before .before .parse-encoding-or-none .ensures) in
+    let c3 = c .before .before .before in
+    let c9 = c3 .before .before .before .before .before .before in
+    let r = rw (c3 .to .given .1) at (c9 .parse-encoding-or-none .ensures) in
     let s = start-tree _ _ _ _ _ r in
     (s .0, (end-part _ _ _ (r .within), s .1))
 
@@ -97,7 +107,8 @@ same-length-4 c = search needs
 -- Src/lib.rt:740:1.
 returns-2 : tie.Need-returns-2
 returns-2 c =
-    let r = rw (c .before .before .why .given .1) at (c .before .before .before .before .before .before .before .before .parse-encoding-or-none .ensures) in
+    let c8 = c .before .before .before .before .before .before .before .before in
+    let r = rw (c .before .before .why .given .1) at (c8 .parse-encoding-or-none .ensures) in
     let s = start-away _ _ _ _ _ _ _ (r .0) (r .1 .words-kept) (r .1 .names-kept) (c .refusal-words .ensures) in
     (s .0, (end-whole _, s .1))
 
@@ -112,8 +123,13 @@ same-length-6 c = search needs
 -- Src/lib.rt:740:1.
 returns-3 : tie.Need-returns-3
 returns-3 c =
-    let r = rw (c .before .before .before .before .before .before .before .before .before .why2 .given .1) at (c .before .before .before .before .before .before .before .before .before .before .before .before .before .before .before .parse-encoding-or-none .ensures) in
-    let s = start-digit _ _ _ _ _ _ _ r (sym (c .before .before .before .before .before .before .before .unknown-digit .ensures) ∙ c .before .before .before .before .before .before .if1 .taken) (c .before .before .before .before .put-none .ensures) in
+    let c4 = c .before .before .before .before in
+    let c6 = c4 .before .before in
+    let c7 = c6 .before in
+    let c9 = c7 .before .before in
+    let c15 = c9 .before .before .before .before .before .before in
+    let r = rw (c9 .why2 .given .1) at (c15 .parse-encoding-or-none .ensures) in
+    let s = start-digit _ _ _ _ _ _ _ r (sym (c7 .unknown-digit .ensures) ∙ c6 .if1 .taken) (c4 .put-none .ensures) in
     (s .0, (end-part _ _ _ (r .within), s .1))
 
 -- Src/lib.rt:740:1.
@@ -127,7 +143,9 @@ same-length-8 c = search needs
 -- Src/lib.rt:740:1.
 returns-4 : tie.Need-returns-4
 returns-4 c =
-    let r = rw (c .before .before .before .before .why2 .given .1) at (c .before .before .before .before .before .before .before .before .before .before .parse-encoding-or-none .ensures) in
+    let c4 = c .before .before .before .before in
+    let c10 = c4 .before .before .before .before .before .before in
+    let r = rw (c4 .why2 .given .1) at (c10 .parse-encoding-or-none .ensures) in
     let s = start-refused _ _ _ _ _ _ _ r (sym (c .before .before .unknown-digit .ensures) ∙ c .before .if1 .left) (c .refusal-words2 .ensures) in
     (s .0, (end-whole _, s .1))
 

@@ -23,8 +23,10 @@ enum-known-to c = search needs
 -- Src/lib.rt:688:17.
 clear-sheet-requires : tie.Need-clear-sheet-requires
 clear-sheet-requires c κs =
-    let r = rw (c .before .before .before .before .to .given .1) at (c .before .before .before .before .before .before .before .before .before .before .parse-encoding-or-none .ensures) in
-    omega (arith, r .words-room, r .names-room, c .before .before .before .before .before .before .before .before .before .before .parse-encoding-or-none .kept .1 .0, c .before .before .before .before .before .before .before .before .before .before .parse-encoding-or-none .kept .1 .1 .0)
+    let c4 = c .before .before .before .before in
+    let c10 = c4 .before .before .before .before .before .before in
+    let r = rw (c4 .to .given .1) at (c10 .parse-encoding-or-none .ensures) in
+    omega (arith, r .words-room, r .names-room, c10 .parse-encoding-or-none .kept .1 .0, c10 .parse-encoding-or-none .kept .1 .1 .0)
 
 -- Src/lib.rt:677:1.
 same-length : tie.Need-same-length
@@ -37,7 +39,8 @@ same-length-2 c = search needs
 -- Src/lib.rt:677:1.
 returns : tie.Need-returns
 returns c =
-    let r = rw (c .before .why .given .1) at (c .before .before .before .before .before .before .before .parse-encoding-or-none .ensures) in
+    let c7 = c .before .before .before .before .before .before .before in
+    let r = rw (c .before .why .given .1) at (c7 .parse-encoding-or-none .ensures) in
     whole-away _ _ _ _ _ _ (r .0) (r .1 .words-kept) (r .1 .names-kept)
 
 -- Src/lib.rt:677:1.
@@ -50,7 +53,9 @@ same-length-4 c = search needs
 
 -- Src/lib.rt:677:1.
 returns-2 : tie.Need-returns-2
-returns-2 c = whole-refused _ _ _ _ _ _ (rw (c .before .why2 .given .1) at (c .before .before .before .before .before .before .before .parse-encoding-or-none .ensures))
+returns-2 c =
+    let c7 = c .before .before .before .before .before .before .before in
+    whole-refused _ _ _ _ _ _ (rw (c .before .why2 .given .1) at (c7 .parse-encoding-or-none .ensures))
 
 -- Src/lib.rt:677:1.
 same-length-5 : tie.Need-same-length-5
@@ -62,7 +67,12 @@ same-length-6 c = search needs
 
 -- Src/lib.rt:677:1.
 returns-3 : tie.Need-returns-3
-returns-3 c = whole-rest _ _ _ _ _ _ _ (rw (c .before .before .before .before .before .before .before .before .before .to .given .1) at (c .before .before .before .before .before .before .before .before .before .before .before .before .before .before .before .parse-encoding-or-none .ensures)) (c .before .before .before .before .before .before .before .if1 .taken) (c .before .before .before .before .clear-sheet .ensures .0) (c .before .before .before .before .clear-sheet .ensures .1)
+returns-3 c =
+    let c4 = c .before .before .before .before in
+    let c7 = c4 .before .before .before in
+    let c9 = c7 .before .before in
+    let c15 = c9 .before .before .before .before .before .before in
+    whole-rest _ _ _ _ _ _ _ (rw (c9 .to .given .1) at (c15 .parse-encoding-or-none .ensures)) (c7 .if1 .taken) (c4 .clear-sheet .ensures .0) (c4 .clear-sheet .ensures .1)
 
 -- Src/lib.rt:677:1.
 same-length-7 : tie.Need-same-length-7
@@ -74,7 +84,9 @@ same-length-8 c = search needs
 
 -- Src/lib.rt:677:1.
 returns-4 : tie.Need-returns-4
-returns-4 c = whole-tree _ _ _ _ _ (rw (c .before .before .to .given .1) at (c .before .before .before .before .before .before .before .before .parse-encoding-or-none .ensures)) (c .if1 .left)
+returns-4 c =
+    let c8 = c .before .before .before .before .before .before .before .before in
+    whole-tree _ _ _ _ _ (rw (c .before .before .to .given .1) at (c8 .parse-encoding-or-none .ensures)) (c .if1 .left)
 
 pub from-str-spec : {M : Type 1} → statement M
 from-str-spec =

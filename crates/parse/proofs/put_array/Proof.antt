@@ -1,7 +1,7 @@
 use borrow.Author.Needs.{needs}
 use mathlib.Core.Path.{refl, sym, _∙_}
 use native.Mathlib.Omega.{arith}
-use Rattle.parse.proofs.Laws.{closed-in}
+use Rattle.codes.proofs.StepLaws.{closed-in}
 use Rattle.parse.proofs.put_array.Statement.{statement}
 use Rattle.parse.proofs.put_array.Tie as tie
 
@@ -15,13 +15,21 @@ closes-item-requires : tie.Need-closes-item-requires
 closes-item-requires c κs = search needs
 
 sub-put-node : tie.Need-sub-put-node
-sub-put-node c = rw (c .before .before .before .before .p .given .1) at (c .before .before .before .before .before .before .before .before .pre .1)
+sub-put-node c =
+    let c4 = c .before .before .before .before in
+    let c8 = c4 .before .before .before .before in
+    rw (c4 .p .given .1) at (c8 .pre .1)
 
 put-node-requires : tie.Need-put-node-requires
 put-node-requires c κs = search needs
 
 add-t23 : tie.Need-add-t23
-add-t23 c = let h = closed-in (c .before .before .before .before .before .before .before .before .before .before .before .args .text .now) (c .before .before .before .before .before .before .before .p .given .0 .0) (sym (c .before .before .before .before .before .closes-item .ensures) ∙ c .before .before .before .before .if1 .taken) in omega (arith, c .before .before .before .before .before .before .before .before .before .before .before .good .1 .0)
+add-t23 c =
+    let c4 = c .before .before .before .before in
+    let c5 = c4 .before in
+    let c7 = c5 .before .before in
+    let c11 = c7 .before .before .before .before in
+    let h = closed-in (c11 .args .text .now) (c7 .p .given .0 .0) (sym (c5 .closes-item .ensures) ∙ c4 .if1 .taken) in omega (arith, c11 .good .1 .0)
 
 enum-known-p-2 : tie.Need-enum-known-p-2
 enum-known-p-2 c = search needs
@@ -48,10 +56,16 @@ same-length : tie.Need-same-length
 same-length c = search needs
 
 returns-2 : tie.Need-returns-2
-returns-2 c = rw (c .before .before .before .before .before .before .before .p .given .1, sym (c .before .before .before .before .before .closes-item .ensures) ∙ c .before .before .before .before .if1 .taken) (refl, c .before .before .put-node .ensures)
+returns-2 c =
+    let c4 = c .before .before .before .before in
+    let c5 = c4 .before in
+    let c7 = c5 .before .before in
+    rw (c7 .p .given .1, sym (c5 .closes-item .ensures) ∙ c4 .if1 .taken) (refl, c .before .before .put-node .ensures)
 
 returns-3 : tie.Need-returns-3
-returns-3 c = rw (c .before .before .before .p .given .1, sym (c .before .closes-item .ensures) ∙ c .if1 .left) (refl, refl)
+returns-3 c =
+    let c3 = c .before .before .before in
+    rw (c3 .p .given .1, sym (c .before .closes-item .ensures) ∙ c .if1 .left) (refl, refl)
 
 returns-4 : tie.Need-returns-4
 returns-4 c = rw (c .before .before .p2 .given .1, c .end-byte .ensures) (refl, refl)
@@ -60,7 +74,9 @@ same-length-2 : tie.Need-same-length-2
 same-length-2 c = search needs
 
 returns-5 : tie.Need-returns-5
-returns-5 c = rw (c .before .before .before .before .before .p3 .given .1) (refl, c .before .before .put-none-under .ensures)
+returns-5 c =
+    let c5 = c .before .before .before .before .before in
+    rw (c5 .p3 .given .1) (refl, c .before .before .put-none-under .ensures)
 
 returns-6 : tie.Need-returns-6
 returns-6 c = rw (c .before .p4 .given .1) (refl, refl)

@@ -43,7 +43,11 @@ same-length-2 : tie.Need-same-length-2
 same-length-2 c = search needs
 
 returns : tie.Need-returns
-returns c = (code-put (c .before .before .before .before .before .before .before .before .before .before .before .before .before .before .args .p) (c .before .before .before .before .before .before .before .before .before .before .before .before .before .before .args .words .now) (c .before .before .before .before .before .before .before .before .before .before .put-node .last .0) (c .before .before .before .before .before .before .put-node2 .last .0) _ (c .before .before .before .before .before .before .before .before .before .before .before .before .before .before .pre .0) (c .before .before .before .before .before .before .before .before .before .before .put-node .ensures) (same-len-mid 4 (length (c .before .before .before .before .before .before .before .before .before .before .before .before .before .before .args .words .now) - 4) (c .before .before .before .before .before .before .before .before .before .before .before .before .before .before .args .words .now) (c .before .before .before .before .before .before .before .before .before .before .put-node .last .0) (c .before .before .before .before .before .before .before .before .before .before .put-node .kept .0)) (c .before .before .before .before .before .before .put-node2 .ensures) (c .before .before .put-header .ensures), first-cleared (c .before .before .before .before .before .before .before .before .before .before .before .before .before .before .args .names .now) (c .before .before .before .before .before .before .before .before .before .before .before .before .before .before .pre .1))
+returns c =
+    let c6 = c .before .before .before .before .before .before in
+    let c10 = c6 .before .before .before .before in
+    let c14 = c10 .before .before .before .before in
+    (code-put (c14 .args .p) (c14 .args .words .now) (c10 .put-node .last .0) (c6 .put-node2 .last .0) _ (c14 .pre .0) (c10 .put-node .ensures) (same-len-mid 4 (length (c14 .args .words .now) - 4) (c14 .args .words .now) (c10 .put-node .last .0) (c10 .put-node .kept .0)) (c6 .put-node2 .ensures) (c .before .before .put-header .ensures), first-cleared (c14 .args .names .now) (c14 .pre .1))
 
 pub put-code-spec : {M : Type 1} → statement M
 put-code-spec =

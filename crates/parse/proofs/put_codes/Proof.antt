@@ -1,9 +1,10 @@
-use Prim.Native.Nat.{_-_, _<_}
+use Prim.Native.Nat.{_-_}
 use mathlib.Core.Path.{_≡_, refl, _∙_}
 use native.Mathlib.Omega.{arith}
 use lib.ListN.{length}
 use borrow.Author.Needs.{needs}
 use Rattle.parse.specs.Agree.{CodesRead}
+use Rattle.codes.proofs.CodeLaws.{single-code}
 use Rattle.parse.proofs.Runs.{codes-none, codes-more}
 use Rattle.parse.proofs.Sheets.{slack-some}
 use Rattle.parse.proofs.put_codes.Statement.{statement}
@@ -37,7 +38,10 @@ add-put-node : tie.Need-add-put-node Inv-loop μ-loop
 add-put-node c = omega (arith, c .before .before .before .before .before .before .before .before .pre .1, c .before .before .before .before .before .loop .inv .0 .room)
 
 put-node-requires : tie.Need-put-node-requires Inv-loop μ-loop
-put-node-requires c κs = omega (arith, c .before .before .before .before .before .before .before .before .pre .1, c .before .before .before .before .before .loop .inv .0 .room, c .before .before .before .before .before .loop .inv .1, slack-some (c .before .before .before .before .before .before .before .before .args .text .now) (c .before .before .before .before .before .loop .i) (c .before .before .before .before .loop-test .taken))
+put-node-requires c κs =
+    let l = c .before .before .before .before .before in
+    let a = l .before .before .before in
+    omega (arith, a .pre .1, l .loop .inv .0 .room, l .loop .inv .1, slack-some (a .args .text .now) (l .loop .i) (c .before .before .before .before .loop-test .taken))
 
 add-i : tie.Need-add-i Inv-loop μ-loop
 add-i c = omega arith
@@ -47,11 +51,13 @@ loop-less c = omega arith
 
 loop-again : tie.Need-loop-again Inv-loop μ-loop
 loop-again c =
-    let l = c .before .before .before .before .before .before .before .before .loop in
-    let a = c .before .before .before .before .before .before .before .before .before .before .before .args in
+    let k = c .before .before .before .before .before in
+    let l = k .before .before .before .loop in
+    let a = k .before .before .before .before .before .before .args in
     let w = c .before .before .put-node in
-    let p : c .before .before .before .before .before .single-kind .result < 24 = c .before .before .before .before .if1 .left in
-    (rw (w .ensures) (codes-more (a .text .now) (a .at) (a .n) (a .words .now) (l .words) (l .i) (c .before .before .before .before .before .single-kind .result) (l .inv .0) (c .before .before .before .before .before .before .before .loop-test .taken) (c .before .before .before .before .before .single-kind .ensures .code-known (omega arith)) p), w .kept .0 ∙ l .inv .1)
+    let code = single-code _ _ (k .single-kind .ensures) (omega (arith, c .before .before .before .before .if1 .left)) in
+    let more = codes-more (a .text .now) (a .at) (a .n) (a .words .now) (l .words) (l .i) (k .single-kind .result) (l .inv .0) (k .before .before .loop-test .taken) code in
+    (rw (w .ensures) more, w .kept .0 ∙ l .inv .1)
 
 same-length-2 : tie.Need-same-length-2 Inv-loop μ-loop
 same-length-2 c = c .before .loop .inv .1

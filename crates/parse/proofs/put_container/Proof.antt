@@ -13,7 +13,10 @@ sub-put-node : tie.Need-sub-put-node
 sub-put-node c = search needs
 
 sub-put-node-2 : tie.Need-sub-put-node-2
-sub-put-node-2 c = rw (c .before .before .before .i .given .1) at (c .before .before .before .before .before .before .pre .1)
+sub-put-node-2 c =
+    let c3 = c .before .before .before in
+    let c6 = c3 .before .before .before in
+    rw (c3 .i .given .1) at (c6 .pre .1)
 
 put-node-requires : tie.Need-put-node-requires
 put-node-requires c κs = search needs
@@ -25,7 +28,10 @@ same-length : tie.Need-same-length
 same-length c = search needs
 
 returns : tie.Need-returns
-returns c = rw (c .before .before .before .before .before .before .i .given .1) (refl, c .before .before .put-node .ensures ∙ rw (c .before .before .before .kind .ensures) refl)
+returns c =
+    let c3 = c .before .before .before in
+    let c6 = c3 .before .before .before in
+    rw (c6 .i .given .1) (refl, c .before .before .put-node .ensures ∙ rw (c3 .kind .ensures) refl)
 
 returns-2 : tie.Need-returns-2
 returns-2 c = rw (c .before .i2 .given .1) (refl, refl)

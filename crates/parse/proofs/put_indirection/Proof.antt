@@ -7,7 +7,9 @@ enum-known-p : tie.Need-enum-known-p
 enum-known-p c = search needs
 
 sub-put-node : tie.Need-sub-put-node
-sub-put-node c = rw (c .before .before .p .given .1) at (c .before .before .before .before .before .pre .1)
+sub-put-node c =
+    let c5 = c .before .before .before .before .before in
+    rw (c .before .before .p .given .1) at (c5 .pre .1)
 
 put-node-requires : tie.Need-put-node-requires
 put-node-requires c κs = search needs
@@ -46,7 +48,9 @@ same-length : tie.Need-same-length
 same-length c = search needs
 
 returns : tie.Need-returns
-returns c = rw (c .before .before .before .before .before .p .given .1) (refl, c .before .before .put-node .ensures)
+returns c =
+    let c5 = c .before .before .before .before .before in
+    rw (c5 .p .given .1) (refl, c .before .before .put-node .ensures)
 
 returns-2 : tie.Need-returns-2
 returns-2 c = rw (c .before .p2 .given .1) (refl, refl)
@@ -55,19 +59,25 @@ same-length-2 : tie.Need-same-length-2
 same-length-2 c = search needs
 
 returns-3 : tie.Need-returns-3
-returns-3 c = rw (c .before .before .before .before .enum-told .given .1) (refl, c .before .before .put-none-under .ensures)
+returns-3 c =
+    let c4 = c .before .before .before .before in
+    rw (c4 .enum-told .given .1) (refl, c .before .before .put-none-under .ensures)
 
 same-length-3 : tie.Need-same-length-3
 same-length-3 c = search needs
 
 returns-4 : tie.Need-returns-4
-returns-4 c = rw (c .before .before .before .before .enum-told2 .given .1) (refl, c .before .before .put-none-under2 .ensures)
+returns-4 c =
+    let c4 = c .before .before .before .before in
+    rw (c4 .enum-told2 .given .1) (refl, c .before .before .put-none-under2 .ensures)
 
 same-length-4 : tie.Need-same-length-4
 same-length-4 c = search needs
 
 returns-5 : tie.Need-returns-5
-returns-5 c = rw (c .before .before .before .before .enum-told3 .given .1) (refl, c .before .before .put-none-under3 .ensures)
+returns-5 c =
+    let c4 = c .before .before .before .before in
+    rw (c4 .enum-told3 .given .1) (refl, c .before .before .put-none-under3 .ensures)
 
 pub put-indirection-spec : {M : Type 1} → statement M
 put-indirection-spec =

@@ -4,6 +4,8 @@ use mathlib.Core.List.{List}
 use native.Mathlib.Omega.{arith}
 use lib.ListN.{length}
 use borrow.Author.Needs.{needs}
+use Rattle.parser.proofs.RunLaws.{run-to}
+use Rattle.codes.specs.Answer.{isIndirection}
 use Rattle.parse.specs.Agree.{Lists, lists, Reads}
 use Rattle.parse.specs.Out.{After}
 use Rattle.parse.proofs.Runs.{reads-indirection, after-less, after-held}
@@ -12,19 +14,25 @@ use Rattle.parse.proofs.put_indirections.Tie as tie
 
 abbrev Inv-loop : tie.InvT-loop
 Inv-loop text at to words₀ n m p₀ i₀ words p i =
-    ((at ≤ i) × (i ≤ to)) × (After p (n + (i - at)) × ((length words ≡ length words₀) × ((b : Lists) (ns : List ℕ) → Reads text to (n + (to - at)) m b (lists words₀ ns) p₀ → Reads text i (n + (i - at)) m b (lists words ns) p)))
+    ((at ≤ i) × (i ≤ to)) × (After p (n + (i - at)) × ((length words ≡ length words₀)
+    × ((b : Lists) (ns : List ℕ) → Reads text to (n + (to - at)) m b (lists words₀ ns) p₀ → Reads text i (n + (i - at)) m b (lists words ns) p)))
 
 abbrev μ-loop : tie.MeasureT-loop
 μ-loop text at to words₀ n m p₀ i₀ words p i = i
 
 loop-holds : tie.Need-loop-holds Inv-loop μ-loop
-loop-holds c = ((search needs, search needs), (c .before .before .pre .after, (refl, λ b ns r. r)))
+loop-holds c =
+    let p = c .before .before .pre in
+    let r = run-to isIndirection _ _ _ (p .at-place) (p .ends) in
+    ((r .onward, omega arith), (p .after, (refl, λ b ns q. q)))
 
 sub-indirection-word : tie.Need-sub-indirection-word Inv-loop μ-loop
 sub-indirection-word c = omega arith
 
 shared-slice-read-indirection-word : tie.Need-shared-slice-read-indirection-word Inv-loop μ-loop
-shared-slice-read-indirection-word c = omega (arith, c .before .before .before .before .before .pre .ends .within)
+shared-slice-read-indirection-word c =
+    let p = c .before .before .before .before .before .pre in
+    omega (arith, run-to isIndirection _ _ _ (p .at-place) (p .ends) .within)
 
 indirection-word-requires : tie.Need-indirection-word-requires Inv-loop μ-loop
 indirection-word-requires c κs = search needs
@@ -36,10 +44,15 @@ sub-put-indirection-2 : tie.Need-sub-put-indirection-2 Inv-loop μ-loop
 sub-put-indirection-2 c = omega arith
 
 add-put-indirection : tie.Need-add-put-indirection Inv-loop μ-loop
-add-put-indirection c = omega (arith, c .before .before .before .before .before .before .before .pre .room (omega arith), c .before .before .before .before .before .before .before .good)
+add-put-indirection c =
+    let s = c .before .before .before .before .before .before .before in
+    omega (arith, s .pre .room (omega arith), s .good)
 
 put-indirection-requires : tie.Need-put-indirection-requires Inv-loop μ-loop
-put-indirection-requires c κs = (omega (arith, c .before .before .before .before .before .before .before .pre .room (omega arith), c .before .before .before .before .loop .inv .1 .1 .0), after-less (c .before .before .before .before .loop .p) _ _ (omega arith) (c .before .before .before .before .loop .inv .1 .0))
+put-indirection-requires c κs =
+    let l = c .before .before .before .before in
+    let s = l .before .before .before in
+    (omega (arith, s .pre .room (omega arith), l .loop .inv .1 .1 .0), after-less (l .loop .p) _ _ (omega arith) (l .loop .inv .1 .0))
 
 sub-i : tie.Need-sub-i Inv-loop μ-loop
 sub-i c = omega arith
@@ -50,14 +63,19 @@ loop-less c = omega arith
 loop-again : tie.Need-loop-again Inv-loop μ-loop
 loop-again c =
     let l = c .before .before .before .before .before .before .before .loop in
-    let a = c .before .before .before .before .before .before .before .before .before .before .args in
-    let w = c .before .before .put-indirection in (
+    let s = c .before .before .before .before .before .before .before .before .before .before in
+    let a = s .args in
+    let w = c .before .before .put-indirection in
+    let run = run-to isIndirection _ _ _ (s .pre .at-place) (s .pre .ends) in
+    let k : ℕ = a .n + (l .i - 1 - a .at) in
+    let here = run .run (l .i - 1) (omega arith) (omega arith) in
+    let step = reads-indirection (a .text .now) (l .i - 1) (l .i) k (a .n + (l .i - a .at)) (a .m) (omega arith) (omega arith) (omega (arith, run .within)) here in (
       omega arith,
       (
-        rw (w .ensures .0) (after-held (l .p) (l .i) (a .n + (l .i - 1 - a .at)) (a .m) (after-less (l .p) _ _ (omega arith) (l .inv .1 .0))),
+        rw (w .ensures .0) (after-held (l .p) (l .i) k (a .m) (after-less (l .p) _ _ (omega arith) (l .inv .1 .0))),
         (
           w .kept .1 .1 .1 .0 ∙ l .inv .1 .1 .0,
-          λ b ns r. rw (w .ensures .0, w .ensures .1, c .before .before .before .before .indirection-word .ensures) (reads-indirection (a .text .now) (l .i - 1) (l .i) (a .n + (l .i - 1 - a .at)) (a .n + (l .i - a .at)) (a .m) (omega arith) (omega arith) (omega (arith, c .before .before .before .before .before .before .before .before .before .before .pre .ends .within)) (c .before .before .before .before .before .before .before .before .before .before .pre .ends .run (l .i - 1) (omega arith) (omega arith)) b (lists (l .words) ns) (l .p) (l .inv .1 .1 .1 b ns r)),
+          λ b ns r. rw (w .ensures .0, w .ensures .1, c .before .before .before .before .indirection-word .ensures) (step b (lists (l .words) ns) (l .p) (l .inv .1 .1 .1 b ns r)),
         ),
       ),
     )

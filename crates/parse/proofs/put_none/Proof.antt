@@ -30,7 +30,10 @@ same-length c = search needs
 
 -- Src/lib.rt:621:1.
 returns : tie.Need-returns
-returns c = none-put (c .before .before .before .before .before .before .before .before .before .args .words .now) _ _ (omega (arith, c .before .before .before .before .before .before .before .before .before .pre)) (c .before .before .before .before .before .before .put-node .ensures) (c .before .before .put-header .ensures)
+returns c =
+    let c6 = c .before .before .before .before .before .before in
+    let c9 = c6 .before .before .before in
+    none-put (c9 .args .words .now) _ _ (omega (arith, c9 .pre)) (c6 .put-node .ensures) (c .before .before .put-header .ensures)
 
 pub put-none-spec : {M : Type 1} → statement M
 put-none-spec =

@@ -2,12 +2,14 @@
 use mathlib.Core.Path.{_≡_, refl, ap}
 use native.Mathlib.Omega.{arith}
 use borrow.Author.Needs.{needs}
+use Rattle.parser.proofs.PlaceLaws.{remains-bytes}
 use lib.ListN.{length, length-drop}
 use Rattle.replay.proofs.write_answers.Statement.{statement}
 use Rattle.replay.proofs.write_answers.Tie as tie
 
 abbrev Inv-loop : tie.InvT-loop
-Inv-loop input text₀ aw₀ an₀ bw₀ bn₀ out₀ unread₀ text aw an bw bn out unread = (length text ≡ length text₀) × (length aw ≡ length aw₀) × (length an ≡ length an₀) × (length bw ≡ length bw₀) × (length bn ≡ length bn₀) × (length out ≡ length out₀)
+Inv-loop input text₀ aw₀ an₀ bw₀ bn₀ out₀ unread₀ text aw an bw bn out unread = (length text ≡ length text₀) × (length aw ≡ length aw₀) ×
+    (length an ≡ length an₀) × (length bw ≡ length bw₀) × (length bn ≡ length bn₀) × (length out ≡ length out₀)
 
 abbrev μ-loop : tie.MeasureT-loop
 μ-loop input text₀ aw₀ an₀ bw₀ bn₀ out₀ unread₀ text aw an bw bn out unread = length unread
@@ -25,7 +27,11 @@ rest-requires : tie.Need-rest-requires Inv-loop μ-loop
 rest-requires c κs = search needs
 
 loop-less : tie.Need-loop-less Inv-loop μ-loop
-loop-less c = omega (arith, simp length-drop at (ap length (c .rest .ensures)), c .before .before .before .before .before .before .before .before .before .before .before .before .before .before .before .before .before .before .before .before .before .loop-test .taken)
+loop-less c = omega (
+  arith,
+  simp length-drop at (ap length (remains-bytes _ _ (c .rest .ensures))),
+  c .before .before .before .before .before .before .before .before .before .before .before .before .before .before .before .before .before .before .before .before .before .loop-test .taken,
+)
 
 loop-again : tie.Need-loop-again Inv-loop μ-loop
 loop-again c = search needs

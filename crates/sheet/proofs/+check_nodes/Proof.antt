@@ -88,7 +88,8 @@ check-nodes-plain-ok-requires : (t : ℕ) → check-nodes-lts.Need-plain-ok-requ
 check-nodes-plain-ok-requires t c κs = (failed (c .before .is-container .ensures) (c .if1 .taken), omega arith, omega arith)
 
 check-nodes-returns : (t : ℕ) → check-nodes-lts.Need-returns (claims t) (check-nodes-at t) check-nodes.Post check-nodes-Inv-loop check-nodes-μ-loop
-check-nodes-returns t c = sym (c .before .before .before .before .before .before .loop .inv .3 ∙ walked-bad _ _ _ _ _ _ _ (c .before .before .before .before .before .loop-test .taken) (failed (c .before .plain-ok .ensures _ _) (c .if2 .taken)))
+check-nodes-returns t c = sym (c .before .before .before .before .before .before .loop .inv .3 ∙ walked-bad _ _ _ _ _ _ _ (c .before .before .before .before .before .loop-test .taken)
+    (failed (c .before .plain-ok .ensures _ _) (c .if2 .taken)))
 
 check-nodes-add-at : (t : ℕ) → check-nodes-lts.Need-add-at (claims t) (check-nodes-at t) check-nodes.Post check-nodes-Inv-loop check-nodes-μ-loop
 check-nodes-add-at t c = search needs
@@ -100,13 +101,21 @@ check-nodes-loop-less : (t : ℕ) → check-nodes-lts.Need-loop-less (claims t) 
 check-nodes-loop-less t c = search needs
 
 check-nodes-loop-again : (t : ℕ) → check-nodes-lts.Need-loop-again (claims t) (check-nodes-at t) check-nodes.Post check-nodes-Inv-loop check-nodes-μ-loop
-check-nodes-loop-again t c = (omega arith, omega arith, omega arith, c .before .before .before .before .before .before .loop .inv .3 ∙ walked-plain _ _ _ _ _ _ _ (c .before .before .before .before .before .loop-test .taken) (passed (c .before .plain-ok .ensures _ _) (c .if2 .left)) (failed (c .before .before .before .is-container .ensures) (c .before .before .if1 .taken)))
+check-nodes-loop-again t c = (
+  omega arith,
+  omega arith,
+  omega arith,
+  c .before .before .before .before .before .before .loop .inv .3
+      ∙ walked-plain _ _ _ _ _ _ _ (c .before .before .before .before .before .loop-test .taken) (passed (c .before .plain-ok .ensures _ _) (c .if2 .left))
+      (failed (c .before .before .before .is-container .ensures) (c .before .before .if1 .taken)),
+)
 
 check-nodes-container-ok-requires : (t : ℕ) → check-nodes-lts.Need-container-ok-requires (claims t) (check-nodes-at t) check-nodes.Post check-nodes-Inv-loop check-nodes-μ-loop
 check-nodes-container-ok-requires t c κs = (passed (c .before .is-container .ensures) (c .if1 .left), omega arith, omega arith, omega arith)
 
 check-nodes-returns-2 : (t : ℕ) → check-nodes-lts.Need-returns-2 (claims t) (check-nodes-at t) check-nodes.Post check-nodes-Inv-loop check-nodes-μ-loop
-check-nodes-returns-2 t c = sym (c .before .before .before .before .before .before .loop .inv .3 ∙ walked-bad _ _ _ _ _ _ _ (c .before .before .before .before .before .loop-test .taken) (failed (c .before .container-ok .ensures) (c .if3 .taken)))
+check-nodes-returns-2 t c = sym (c .before .before .before .before .before .before .loop .inv .3 ∙ walked-bad _ _ _ _ _ _ _ (c .before .before .before .before .before .loop-test .taken)
+    (failed (c .before .container-ok .ensures) (c .if3 .taken)))
 
 check-nodes-add-size : (t : ℕ) → check-nodes-lts.Need-add-size (claims t) (check-nodes-at t) check-nodes.Post check-nodes-Inv-loop check-nodes-μ-loop
 check-nodes-add-size t c = search needs
@@ -142,7 +151,8 @@ check-nodes-loop-less-2 : (t : ℕ) → check-nodes-lts.Need-loop-less-2 (claims
 check-nodes-loop-less-2 t c = search needs
 
 check-nodes-loop-again-2 : (t : ℕ) → check-nodes-lts.Need-loop-again-2 (claims t) (check-nodes-at t) check-nodes.Post check-nodes-Inv-loop check-nodes-μ-loop
-check-nodes-loop-again-2 t c = let b = c .before .before .before .before in let k = container t b in let d : countAt (nodes t b) (looped t b .loop .at) ≡ looped t b .loop .left = omega arith in (omega arith, omega arith, omega arith, looped t b .loop .inv .3 ∙ walked-last _ _ _ _ _ _ _ (b .before .before .before .before .before .loop-test .taken) (fits t b) (kind t b) d _ (c .before .name-good .ensures))
+check-nodes-loop-again-2 t c = let b = c .before .before .before .before in let k = container t b in let d : countAt (nodes t b) (looped t b .loop .at) ≡ looped t b .loop .left = omega arith in
+    (omega arith, omega arith, omega arith, looped t b .loop .inv .3 ∙ walked-last _ _ _ _ _ _ _ (b .before .before .before .before .before .loop-test .taken) (fits t b) (kind t b) d _ (c .before .name-good .ensures))
 
 check-nodes-sub-check-nodes : (t : ℕ) → check-nodes-lts.Need-sub-check-nodes (claims t) (check-nodes-at t) check-nodes.Post check-nodes-Inv-loop check-nodes-μ-loop
 check-nodes-sub-check-nodes t c = search needs
@@ -178,7 +188,9 @@ check-nodes-enum-told : (t : ℕ) → check-nodes-lts.Need-enum-told (claims t) 
 check-nodes-enum-told t c = search needs
 
 check-nodes-returns-3 : (t : ℕ) → check-nodes-lts.Need-returns-3 (claims t) (check-nodes-at t) check-nodes.Post check-nodes-Inv-loop check-nodes-μ-loop
-check-nodes-returns-3 t c = let b = c .before .before .before .before .before .before .before .before .before in sym (looped t b .loop .inv .3 ∙ walked-broken _ _ _ _ _ _ _ (b .before .before .before .before .before .loop-test .taken) (fits t b) (kind t b) _ (c .before .before .before .before .before .before .name-good .ensures) _ (rw (whole, whole) at (c .before .before .check-nodes .ensures)) (c .enum-told .given .1))
+check-nodes-returns-3 t c = let b = c .before .before .before .before .before .before .before .before .before in
+    sym (looped t b .loop .inv .3 ∙ walked-broken _ _ _ _ _ _ _ (b .before .before .before .before .before .loop-test .taken) (fits t b) (kind t b) _
+    (c .before .before .before .before .before .before .name-good .ensures) _ (rw (whole, whole) at (c .before .before .check-nodes .ensures)) (c .enum-told .given .1))
 
 check-nodes-mul-at : (t : ℕ) → check-nodes-lts.Need-mul-at (claims t) (check-nodes-at t) check-nodes.Post check-nodes-Inv-loop check-nodes-μ-loop
 check-nodes-mul-at t c = let k = container t (c .before .before .before .before .before .before .before .before .before .before) in search needs
@@ -193,7 +205,14 @@ check-nodes-loop-less-3 : (t : ℕ) → check-nodes-lts.Need-loop-less-3 (claims
 check-nodes-loop-less-3 t c = let k = container t (c .before .before .before .before .before .before .before .before .before .before) in omega arith
 
 check-nodes-loop-again-3 : (t : ℕ) → check-nodes-lts.Need-loop-again-3 (claims t) (check-nodes-at t) check-nodes.Post check-nodes-Inv-loop check-nodes-μ-loop
-check-nodes-loop-again-3 t c = let b = c .before .before .before .before .before .before .before .before .before .before in let k = container t b in (omega arith, omega arith, walked-le _ _ _ _ _ _ _ _ _ (k .name-fits) (sym (c .before .inner .given .1) ∙ c .before .before .before .check-nodes .ensures), looped t b .loop .inv .3 ∙ walked-next _ _ _ _ _ _ _ (b .before .before .before .before .before .loop-test .taken) (fits t b) (kind t b) _ (c .before .before .before .before .before .before .before .name-good .ensures) _ (rw (whole, whole) at (c .before .before .before .check-nodes .ensures)) _ _ (c .before .inner .given .1))
+check-nodes-loop-again-3 t c = let b = c .before .before .before .before .before .before .before .before .before .before in let k = container t b in (
+  omega arith,
+  omega arith,
+  walked-le _ _ _ _ _ _ _ _ _ (k .name-fits) (sym (c .before .inner .given .1) ∙ c .before .before .before .check-nodes .ensures),
+  looped t b .loop .inv .3
+      ∙ walked-next _ _ _ _ _ _ _ (b .before .before .before .before .before .loop-test .taken) (fits t b) (kind t b) _ (c .before .before .before .before .before .before .before .name-good .ensures) _
+      (rw (whole, whole) at (c .before .before .before .check-nodes .ensures)) _ _ (c .before .inner .given .1),
+)
 
 check-nodes-returns-4 : (t : ℕ) → check-nodes-lts.Need-returns-4 (claims t) (check-nodes-at t) check-nodes.Post check-nodes-Inv-loop check-nodes-μ-loop
 check-nodes-returns-4 t c = sym (c .before .loop .inv .3 ∙ walked-none _ _ _ _ _ _ _ (c .loop-test .left))

@@ -34,7 +34,13 @@ returns-4 c = rw (le-leb _ _ (c .before .before .before .before .before .before 
 
 returns-5 : tie.Need-returns-5
 unfolding header
-returns-5 c = rw (le-leb _ _ (c .before .before .before .before .before .before .before .before .if1 .left), le-leb _ _ (c .before .before .before .before .if2 .left), le-leb _ _ (c .before .before .before .if3 .left), eq-eqb _ _ (c .before .if4 .left), lt-leb _ _ (c .if5 .taken))
+returns-5 c = rw (
+  le-leb _ _ (c .before .before .before .before .before .before .before .before .if1 .left),
+  le-leb _ _ (c .before .before .before .before .if2 .left),
+  le-leb _ _ (c .before .before .before .if3 .left),
+  eq-eqb _ _ (c .before .if4 .left),
+  lt-leb _ _ (c .if5 .taken),
+)
 
 mul-if6 : tie.Need-mul-if6
 mul-if6 c = search needs
@@ -44,15 +50,38 @@ add-if6 c = search needs
 
 returns-6 : tie.Need-returns-6
 unfolding header
-returns-6 c = rw (le-leb _ _ (c .before .before .before .before .before .before .before .before .before .if1 .left), le-leb _ _ (c .before .before .before .before .before .if2 .left), le-leb _ _ (c .before .before .before .before .if3 .left), eq-eqb _ _ (c .before .before .if4 .left), le-leb _ _ (c .before .if5 .left), ne-eqb _ _ (c .if6 .taken))
+returns-6 c = rw (
+  le-leb _ _ (c .before .before .before .before .before .before .before .before .before .if1 .left),
+  le-leb _ _ (c .before .before .before .before .before .if2 .left),
+  le-leb _ _ (c .before .before .before .before .if3 .left),
+  eq-eqb _ _ (c .before .before .if4 .left),
+  le-leb _ _ (c .before .if5 .left),
+  ne-eqb _ _ (c .if6 .taken),
+)
 
 returns-7 : tie.Need-returns-7
 unfolding header
-returns-7 c = rw (le-leb _ _ (c .before .before .before .before .before .before .before .before .before .before .if1 .left), le-leb _ _ (c .before .before .before .before .before .before .if2 .left), le-leb _ _ (c .before .before .before .before .before .if3 .left), eq-eqb _ _ (c .before .before .before .if4 .left), le-leb _ _ (c .before .before .if5 .left), eq-eqb _ _ (c .before .if6 .left), lt-leb _ _ (c .if7 .taken))
+returns-7 c = rw (
+  le-leb _ _ (c .before .before .before .before .before .before .before .before .before .before .if1 .left),
+  le-leb _ _ (c .before .before .before .before .before .before .if2 .left),
+  le-leb _ _ (c .before .before .before .before .before .if3 .left),
+  eq-eqb _ _ (c .before .before .before .if4 .left),
+  le-leb _ _ (c .before .before .if5 .left),
+  eq-eqb _ _ (c .before .if6 .left),
+  lt-leb _ _ (c .if7 .taken),
+)
 
 returns-8 : tie.Need-returns-8
 unfolding header
-returns-8 c = rw (le-leb _ _ (c .before .before .before .before .before .before .before .before .before .before .if1 .left), le-leb _ _ (c .before .before .before .before .before .before .if2 .left), le-leb _ _ (c .before .before .before .before .before .if3 .left), eq-eqb _ _ (c .before .before .before .if4 .left), le-leb _ _ (c .before .before .if5 .left), eq-eqb _ _ (c .before .if6 .left), le-leb _ _ (c .if7 .left))
+returns-8 c = rw (
+  le-leb _ _ (c .before .before .before .before .before .before .before .before .before .before .if1 .left),
+  le-leb _ _ (c .before .before .before .before .before .before .if2 .left),
+  le-leb _ _ (c .before .before .before .before .before .if3 .left),
+  eq-eqb _ _ (c .before .before .before .if4 .left),
+  le-leb _ _ (c .before .before .if5 .left),
+  eq-eqb _ _ (c .before .if6 .left),
+  le-leb _ _ (c .if7 .left),
+)
 
 pub header-ok-spec : {M : Type 1} → statement M
 header-ok-spec =

@@ -27,7 +27,9 @@ verify-name-requires : tie.Need-verify-name-requires
 verify-name-requires c κs = search needs
 
 returns-2 : tie.Need-returns-2
-returns-2 c = rw (not-false (c .before .before .before .before .args .good) (c .before .before .if1 .left)) (c .verify-name .ensures ∙ ap (λ (n : ℕ). verifyName (take n (drop (c .before .before .before .before .args .from) (c .before .before .before .before .args .names .now)))) (add-sub-cancel-left (c .before .before .before .before .args .from) (c .before .before .before .before .args .size)))
+returns-2 c = rw (not-false (c .before .before .before .before .args .good) (c .before .before .if1 .left))
+    (c .verify-name .ensures ∙ ap (λ (n : ℕ). verifyName (take n (drop (c .before .before .before .before .args .from) (c .before .before .before .before .args .names .now))))
+    (add-sub-cancel-left (c .before .before .before .before .args .from) (c .before .before .before .before .args .size)))
 
 pub name-good-spec : {M : Type 1} → statement M
 name-good-spec =

@@ -47,7 +47,8 @@ shared-slice-read-result : tie.Need-shared-slice-read-result
 shared-slice-read-result c = search needs
 
 returns-2 : tie.Need-returns-2
-returns-2 c = λ p e. sym (node-code _ _ _ p e (c .before .before .before .before .before .before .before .before .pre .1) (c .before .before .before .before .before .if1 .taken) ∙ rw (passed (c .before .before .no-numbers .ensures) (c .before .if2 .left)))
+returns-2 c = λ p e. sym (node-code _ _ _ p e (c .before .before .before .before .before .before .before .before .pre .1) (c .before .before .before .before .before .if1 .taken)
+    ∙ rw (passed (c .before .before .no-numbers .ensures) (c .before .if2 .left)))
 
 is-indirection-requires : tie.Need-is-indirection-requires
 is-indirection-requires c κs = search needs
@@ -74,7 +75,8 @@ no-numbers-requires-2 : tie.Need-no-numbers-requires-2
 no-numbers-requires-2 c κs = search needs
 
 returns-3 : tie.Need-returns-3
-returns-3 c = λ p e. let k = indirection-kind _ (sym (c .before .before .before .before .before .is-indirection .ensures) ∙ c .before .before .before .before .if3 .taken) in sym (node-indirection _ _ _ p e (k .0) (k .1) ∙ rw (failed (c .before .no-numbers2 .ensures) (c .if4 .taken)))
+returns-3 c = λ p e. let k = indirection-kind _ (sym (c .before .before .before .before .before .is-indirection .ensures) ∙ c .before .before .before .before .if3 .taken) in
+    sym (node-indirection _ _ _ p e (k .0) (k .1) ∙ rw (failed (c .before .no-numbers2 .ensures) (c .if4 .taken)))
 
 add-child-ok : tie.Need-add-child-ok
 add-child-ok c = search needs
@@ -89,7 +91,9 @@ child-ok-requires : tie.Need-child-ok-requires
 child-ok-requires c κs = search needs
 
 returns-4 : tie.Need-returns-4
-returns-4 c = λ p e. let k = indirection-kind _ (sym (c .before .before .before .before .before .before .before .is-indirection .ensures) ∙ c .before .before .before .before .before .before .if3 .taken) in sym (node-indirection _ _ _ p e (k .0) (k .1) ∙ rw (passed (c .before .before .before .no-numbers2 .ensures) (c .before .before .if4 .left)) (sym (c .child-ok .ensures _ (omega arith) (omega arith))))
+returns-4 c = λ p e. let k = indirection-kind _ (sym (c .before .before .before .before .before .before .before .is-indirection .ensures)
+    ∙ c .before .before .before .before .before .before .if3 .taken) in
+    sym (node-indirection _ _ _ p e (k .0) (k .1) ∙ rw (passed (c .before .before .before .no-numbers2 .ensures) (c .before .before .if4 .left)) (sym (c .child-ok .ensures _ (omega arith) (omega arith))))
 
 add-numbers-ok : tie.Need-add-numbers-ok
 add-numbers-ok c = search needs

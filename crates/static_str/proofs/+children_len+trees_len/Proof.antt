@@ -49,7 +49,16 @@ abbrev children-len-claims : ℕ → children-len-lts.Claims
 children-len-claims t = (trees-len-below t, trees-len.Post)
 
 abbrev trees-len-claims : ℕ → trees-len-lts.Claims
-trees-len-claims t = (node-len-reads.Asked, node-len-reads.Learnt, level-below-reads.Asked, level-below-reads.Learnt, children-len-below t, children-len.Post, pass-reads.Asked, pass-reads.Learnt)
+trees-len-claims t = (
+  node-len-reads.Asked,
+  node-len-reads.Learnt,
+  level-below-reads.Asked,
+  level-below-reads.Learnt,
+  children-len-below t,
+  children-len.Post,
+  pass-reads.Asked,
+  pass-reads.Learnt,
+)
 
 children-len-add-count : (t : ℕ) → children-len-lts.Need-add-count (children-len-claims t) (children-len-at t) children-len.Post
 children-len-add-count t c = search needs
@@ -85,16 +94,26 @@ children-len-sub-trees-len-2 : (t : ℕ) → children-len-lts.Need-sub-trees-len
 children-len-sub-trees-len-2 t c = search needs
 
 children-len-trees-len-requires : (t : ℕ) → children-len-lts.Need-trees-len-requires (children-len-claims t) (children-len-at t) children-len.Post
-children-len-trees-len-requires t c κs = let p = c .before .before .before .before .before .before .pre .1 .0 .0 .some-node in let i = children-there (c .before .before .before .before .before .before .pre .1 .0 .0) (c .before .before .before .before .before .before .pre .1 .1) in rw whole (omega arith, ((i .0, omega (arith, c .before .before .before .before .before .before .pre .1 .0 .1)), i .1))
+children-len-trees-len-requires t c κs =
+    let c6 = c .before .before .before .before .before .before in
+    let p = c6 .pre .1 .0 .0 .some-node in let i = children-there (c6 .pre .1 .0 .0) (c6 .pre .1 .1)
+    in rw whole (omega arith, ((i .0, omega (arith, c6 .pre .1 .0 .1)), i .1))
 
 children-len-returns : (t : ℕ) → children-len-lts.Need-returns (children-len-claims t) (children-len-at t) children-len.Post
-children-len-returns t c = same-passed (c .before .before .before .before .args .nodes .now) (c .before .before .before .before .args .at) (c .enum-told .given .1)
+children-len-returns t c =
+    let c4 = c .before .before .before .before in
+    same-passed (c4 .args .nodes .now) (c4 .args .at) (c .enum-told .given .1)
 
 children-len-returns-2 : (t : ℕ) → children-len-lts.Need-returns-2 (children-len-claims t) (children-len-at t) children-len.Post
-children-len-returns-2 t c = hidden-passed (c .before .before .before .before .args .nodes .now) (c .before .before .before .before .args .at) (c .enum-told2 .given .1) (c .before .before .before .before .pre .1 .0 .0 .some-node)
+children-len-returns-2 t c =
+    let c4 = c .before .before .before .before in
+    hidden-passed (c4 .args .nodes .now) (c4 .args .at) (c .enum-told2 .given .1) (c4 .pre .1 .0 .0 .some-node)
 
 children-len-returns-3 : (t : ℕ) → children-len-lts.Need-returns-3 (children-len-claims t) (children-len-at t) children-len.Post
-children-len-returns-3 t c = deeper-passed (c .before .before .before .before .before .before .before .args .nodes .now) (c .before .before .before .before .before .before .before .args .at) (c .before .before .before .below .given .1) (c .before .before .before .before .before .before .before .pre .1 .0 .0 .some-node) (rw whole at (c .trees-len .ensures))
+children-len-returns-3 t c =
+    let c3 = c .before .before .before in
+    let c7 = c3 .before .before .before .before in
+    deeper-passed (c7 .args .nodes .now) (c7 .args .at) (c3 .below .given .1) (c7 .pre .1 .0 .0 .some-node) (rw whole at (c .trees-len .ensures))
 
 abbrev trees-len-Inv-loop : trees-len-lts.InvT-loop
 trees-len-Inv-loop nodes from n level at₀ left₀ len₀ at left len = Measuring nodes level from n at left len
@@ -103,73 +122,174 @@ abbrev trees-len-μ-loop : trees-len-lts.MeasureT-loop
 trees-len-μ-loop nodes from n level at₀ left₀ len₀ at left len = left
 
 trees-len-loop-holds : (t : ℕ) → trees-len-lts.Need-loop-holds (trees-len-claims t) (trees-len-at t) trees-len.Post trees-len-Inv-loop trees-len-μ-loop
-trees-len-loop-holds t c = start-measuring _ _ _ _ (c .before .pre .1 .0 .0) (c .before .pre .1 .1)
+trees-len-loop-holds t c =
+    start-measuring _ _ _ _ (c .before .pre .1 .0 .0) (c .before .pre .1 .1)
 
 trees-len-mul-kind : (t : ℕ) → trees-len-lts.Need-mul-kind (trees-len-claims t) (trees-len-at t) trees-len.Post trees-len-Inv-loop trees-len-μ-loop
 trees-len-mul-kind t c = let h = node-here (c .before .loop .inv .nodes) (c .loop-test .taken) in omega arith
 
-trees-len-shared-slice-read-kind : (t : ℕ) → trees-len-lts.Need-shared-slice-read-kind (trees-len-claims t) (trees-len-at t) trees-len.Post trees-len-Inv-loop trees-len-μ-loop
-trees-len-shared-slice-read-kind t c = let h = node-here (c .before .before .loop .inv .nodes) (c .before .loop-test .taken) in omega arith
+trees-len-shared-slice-read-kind : (t : ℕ) → trees-len-lts.Need-shared-slice-read-kind (trees-len-claims t) (trees-len-at t) trees-len.Post trees-len-Inv-loop
+    trees-len-μ-loop
+trees-len-shared-slice-read-kind t c =
+    let c2 = c .before .before in
+    let h = node-here (c2 .loop .inv .nodes) (c .before .loop-test .taken) in omega arith
 
 trees-len-add-node-len : (t : ℕ) → trees-len-lts.Need-add-node-len (trees-len-claims t) (trees-len-at t) trees-len.Post trees-len-Inv-loop trees-len-μ-loop
-trees-len-add-node-len t c = let h = node-here (c .before .before .loop .inv .nodes) (c .before .loop-test .taken) in omega arith
+trees-len-add-node-len t c =
+    let c2 = c .before .before in
+    let h = node-here (c2 .loop .inv .nodes) (c .before .loop-test .taken) in omega arith
 
 trees-len-mul-node-len : (t : ℕ) → trees-len-lts.Need-mul-node-len (trees-len-claims t) (trees-len-at t) trees-len.Post trees-len-Inv-loop trees-len-μ-loop
-trees-len-mul-node-len t c = let h = node-here (c .before .before .loop .inv .nodes) (c .before .loop-test .taken) in omega arith
+trees-len-mul-node-len t c =
+    let c2 = c .before .before in
+    let h = node-here (c2 .loop .inv .nodes) (c .before .loop-test .taken) in omega arith
 
-trees-len-shared-slice-read-node-len : (t : ℕ) → trees-len-lts.Need-shared-slice-read-node-len (trees-len-claims t) (trees-len-at t) trees-len.Post trees-len-Inv-loop trees-len-μ-loop
-trees-len-shared-slice-read-node-len t c = let h = node-here (c .before .before .before .loop .inv .nodes) (c .before .before .loop-test .taken) in omega arith
+trees-len-shared-slice-read-node-len : (t : ℕ) → trees-len-lts.Need-shared-slice-read-node-len (trees-len-claims t) (trees-len-at t) trees-len.Post
+    trees-len-Inv-loop trees-len-μ-loop
+trees-len-shared-slice-read-node-len t c =
+    let c2 = c .before .before in
+    let c3 = c2 .before in
+    let h = node-here (c3 .loop .inv .nodes) (c2 .loop-test .taken) in omega arith
 
 trees-len-add-node-len-2 : (t : ℕ) → trees-len-lts.Need-add-node-len-2 (trees-len-claims t) (trees-len-at t) trees-len.Post trees-len-Inv-loop trees-len-μ-loop
-trees-len-add-node-len-2 t c = let h = node-here (c .before .before .before .loop .inv .nodes) (c .before .before .loop-test .taken) in omega arith
+trees-len-add-node-len-2 t c =
+    let c2 = c .before .before in
+    let c3 = c2 .before in
+    let h = node-here (c3 .loop .inv .nodes) (c2 .loop-test .taken) in omega arith
 
 trees-len-mul-node-len-2 : (t : ℕ) → trees-len-lts.Need-mul-node-len-2 (trees-len-claims t) (trees-len-at t) trees-len.Post trees-len-Inv-loop trees-len-μ-loop
-trees-len-mul-node-len-2 t c = let h = node-here (c .before .before .before .loop .inv .nodes) (c .before .before .loop-test .taken) in omega arith
+trees-len-mul-node-len-2 t c =
+    let c2 = c .before .before in
+    let c3 = c2 .before in
+    let h = node-here (c3 .loop .inv .nodes) (c2 .loop-test .taken) in omega arith
 
-trees-len-shared-slice-read-node-len-2 : (t : ℕ) → trees-len-lts.Need-shared-slice-read-node-len-2 (trees-len-claims t) (trees-len-at t) trees-len.Post trees-len-Inv-loop trees-len-μ-loop
-trees-len-shared-slice-read-node-len-2 t c = let h = node-here (c .before .before .before .before .loop .inv .nodes) (c .before .before .before .loop-test .taken) in omega arith
+trees-len-shared-slice-read-node-len-2 : (t : ℕ) → trees-len-lts.Need-shared-slice-read-node-len-2 (trees-len-claims t) (trees-len-at t) trees-len.Post
+    trees-len-Inv-loop trees-len-μ-loop
+trees-len-shared-slice-read-node-len-2 t c =
+    let c3 = c .before .before .before in
+    let c4 = c3 .before in
+    let h = node-here (c4 .loop .inv .nodes) (c3 .loop-test .taken) in omega arith
 
-trees-len-node-len-requires : (t : ℕ) → trees-len-lts.Need-node-len-requires (trees-len-claims t) (trees-len-at t) trees-len.Post trees-len-Inv-loop trees-len-μ-loop
-trees-len-node-len-requires t c κs = λ k. let h = here (c .before .before .before .before .loop .inv .nodes) (c .before .before .before .loop-test .taken) .name k in omega arith
+trees-len-node-len-requires : (t : ℕ) → trees-len-lts.Need-node-len-requires (trees-len-claims t) (trees-len-at t) trees-len.Post trees-len-Inv-loop
+    trees-len-μ-loop
+trees-len-node-len-requires t c κs =
+    let c3 = c .before .before .before in
+    let c4 = c3 .before in
+    λ k. let h = here (c4 .loop .inv .nodes) (c3 .loop-test .taken) .name k in omega arith
 
 trees-len-add-len : (t : ℕ) → trees-len-lts.Need-add-len (trees-len-claims t) (trees-len-at t) trees-len.Post trees-len-Inv-loop trees-len-μ-loop
-trees-len-add-len t c = omega (arith, c .before .before .before .before .before .loop .inv .bound, c .before .before .before .before .loop-test .taken, c .node-len .ensures .1, c .before .before .before .before .before .before .before .pre .1 .0 .1)
+trees-len-add-len t c =
+    let c4 = c .before .before .before .before in
+    let c5 = c4 .before in
+    let c7 = c5 .before .before in
+    omega (arith, c5 .loop .inv .bound, c4 .loop-test .taken, c .node-len .ensures .1, c7 .pre .1 .0 .1)
 
-trees-len-level-below-requires : (t : ℕ) → trees-len-lts.Need-level-below-requires (trees-len-claims t) (trees-len-at t) trees-len.Post trees-len-Inv-loop trees-len-μ-loop
+trees-len-level-below-requires : (t : ℕ) → trees-len-lts.Need-level-below-requires (trees-len-claims t) (trees-len-at t) trees-len.Post trees-len-Inv-loop
+    trees-len-μ-loop
 trees-len-level-below-requires t c κs = search needs
 
-trees-len-children-len-requires : (t : ℕ) → trees-len-lts.Need-children-len-requires (trees-len-claims t) (trees-len-at t) trees-len.Post trees-len-Inv-loop trees-len-μ-loop
-trees-len-children-len-requires t c κs = let q = node-within (c .before .before .before .before .before .before .loop .inv .nodes) (c .before .before .before .before .before .loop-test .taken) in let f = c .before .before .before .before .before .before .loop .inv .nodes .few in (omega arith, ((node-here (c .before .before .before .before .before .before .loop .inv .nodes) (c .before .before .before .before .before .loop-test .taken), omega (arith, c .before .before .before .before .before .before .before .before .pre .1 .0 .1)), node-named (c .before .before .before .before .before .before .loop .inv .nodes) (c .before .before .before .before .before .loop-test .taken)))
+trees-len-children-len-requires : (t : ℕ) → trees-len-lts.Need-children-len-requires (trees-len-claims t) (trees-len-at t) trees-len.Post trees-len-Inv-loop
+    trees-len-μ-loop
+trees-len-children-len-requires t c κs =
+    let c5 = c .before .before .before .before .before in
+    let c6 = c5 .before in
+    let c8 = c6 .before .before in
+    let q = node-within (c6 .loop .inv .nodes) (c5 .loop-test .taken) in let f = c6 .loop .inv .nodes .few
+    in (
+      omega arith,
+      (
+        (node-here (c6 .loop .inv .nodes) (c5 .loop-test .taken), omega (arith, c8 .pre .1 .0 .1)),
+        node-named (c6 .loop .inv .nodes)
+            (c5 .loop-test .taken),
+      ),
+    )
 
 trees-len-add-len-2 : (t : ℕ) → trees-len-lts.Need-add-len-2 (trees-len-claims t) (trees-len-at t) trees-len.Post trees-len-Inv-loop trees-len-μ-loop
-trees-len-add-len-2 t c = omega (arith, passed-within (c .before .before .before .before .before .before .before .loop .inv) (c .before .before .before .before .before .before .loop-test .taken) (c .before .level-below .result), c .before .before .before .before .before .before .before .loop .inv .bound, c .before .before .node-len .ensures .1, c .children-len .ensures .1, c .before .before .before .before .before .before .before .before .before .pre .1 .0 .1)
+trees-len-add-len-2 t c =
+    let c2 = c .before .before in
+    let c6 = c2 .before .before .before .before in
+    let c7 = c6 .before in
+    let c9 = c7 .before .before in
+    omega (
+      arith,
+      passed-within (c7 .loop .inv) (c6 .loop-test .taken) (c .before .level-below .result),
+      c7 .loop .inv .bound,
+      c2 .node-len .ensures .1,
+      c .children-len .ensures .1,
+      c9 .pre .1 .0 .1,
+    )
 
 trees-len-add-pass : (t : ℕ) → trees-len-lts.Need-add-pass (trees-len-claims t) (trees-len-at t) trees-len.Post trees-len-Inv-loop trees-len-μ-loop
-trees-len-add-pass t c = let h = node-here (c .before .before .before .before .before .before .before .loop .inv .nodes) (c .before .before .before .before .before .before .loop-test .taken) in omega arith
+trees-len-add-pass t c =
+    let c6 = c .before .before .before .before .before .before in
+    let c7 = c6 .before in
+    let h = node-here (c7 .loop .inv .nodes) (c6 .loop-test .taken) in omega arith
 
 trees-len-mul-pass : (t : ℕ) → trees-len-lts.Need-mul-pass (trees-len-claims t) (trees-len-at t) trees-len.Post trees-len-Inv-loop trees-len-μ-loop
-trees-len-mul-pass t c = let h = node-here (c .before .before .before .before .before .before .before .loop .inv .nodes) (c .before .before .before .before .before .before .loop-test .taken) in omega arith
+trees-len-mul-pass t c =
+    let c6 = c .before .before .before .before .before .before in
+    let c7 = c6 .before in
+    let h = node-here (c7 .loop .inv .nodes) (c6 .loop-test .taken) in omega arith
 
-trees-len-shared-slice-read-pass : (t : ℕ) → trees-len-lts.Need-shared-slice-read-pass (trees-len-claims t) (trees-len-at t) trees-len.Post trees-len-Inv-loop trees-len-μ-loop
-trees-len-shared-slice-read-pass t c = let h = node-here (c .before .before .before .before .before .before .before .before .loop .inv .nodes) (c .before .before .before .before .before .before .before .loop-test .taken) in omega arith
+trees-len-shared-slice-read-pass : (t : ℕ) → trees-len-lts.Need-shared-slice-read-pass (trees-len-claims t) (trees-len-at t) trees-len.Post trees-len-Inv-loop
+    trees-len-μ-loop
+trees-len-shared-slice-read-pass t c =
+    let c7 = c .before .before .before .before .before .before .before in
+    let c8 = c7 .before in
+    let h = node-here (c8 .loop .inv .nodes) (c7 .loop-test .taken) in omega arith
 
 trees-len-pass-requires : (t : ℕ) → trees-len-lts.Need-pass-requires (trees-len-claims t) (trees-len-at t) trees-len.Post trees-len-Inv-loop trees-len-μ-loop
 trees-len-pass-requires t c κs = search needs
 
 trees-len-mul-at : (t : ℕ) → trees-len-lts.Need-mul-at (trees-len-claims t) (trees-len-at t) trees-len.Post trees-len-Inv-loop trees-len-μ-loop
-trees-len-mul-at t c = omega (arith, c .pass .ensures, passed-within (c .before .before .before .before .before .before .before .before .before .loop .inv) (c .before .before .before .before .before .before .before .before .loop-test .taken) (c .before .before .before .level-below .result), c .before .before .before .before .before .before .before .before .before .loop .inv .nodes .whole .room)
+trees-len-mul-at t c =
+    let c3 = c .before .before .before in
+    let c8 = c3 .before .before .before .before .before in
+    let c9 = c8 .before in
+    omega (arith, c .pass .ensures, passed-within (c9 .loop .inv) (c8 .loop-test .taken) (c3 .level-below .result), c9 .loop .inv .nodes .whole .room)
 
 trees-len-add-at : (t : ℕ) → trees-len-lts.Need-add-at (trees-len-claims t) (trees-len-at t) trees-len.Post trees-len-Inv-loop trees-len-μ-loop
-trees-len-add-at t c = omega (arith, c .pass .ensures, passed-within (c .before .before .before .before .before .before .before .before .before .loop .inv) (c .before .before .before .before .before .before .before .before .loop-test .taken) (c .before .before .before .level-below .result), c .before .before .before .before .before .before .before .before .before .loop .inv .nodes .whole .room)
+trees-len-add-at t c =
+    let c3 = c .before .before .before in
+    let c8 = c3 .before .before .before .before .before in
+    let c9 = c8 .before in
+    omega (arith, c .pass .ensures, passed-within (c9 .loop .inv) (c8 .loop-test .taken) (c3 .level-below .result), c9 .loop .inv .nodes .whole .room)
 
 trees-len-sub-left : (t : ℕ) → trees-len-lts.Need-sub-left (trees-len-claims t) (trees-len-at t) trees-len.Post trees-len-Inv-loop trees-len-μ-loop
-trees-len-sub-left t c = omega (arith, c .pass .ensures, passed-some (c .before .before .before .before .before .before .before .before .before .loop .inv) (c .before .before .before .before .before .before .before .before .loop-test .taken) (c .before .before .before .level-below .result), passed-within (c .before .before .before .before .before .before .before .before .before .loop .inv) (c .before .before .before .before .before .before .before .before .loop-test .taken) (c .before .before .before .level-below .result))
+trees-len-sub-left t c =
+    let c3 = c .before .before .before in
+    let c8 = c3 .before .before .before .before .before in
+    let c9 = c8 .before in
+    omega (
+      arith,
+      c .pass .ensures,
+      passed-some (c9 .loop .inv) (c8 .loop-test .taken) (c3 .level-below .result),
+      passed-within (c9 .loop .inv)
+          (c8 .loop-test .taken) (c3 .level-below .result),
+    )
 
 trees-len-loop-less : (t : ℕ) → trees-len-lts.Need-loop-less (trees-len-claims t) (trees-len-at t) trees-len.Post trees-len-Inv-loop trees-len-μ-loop
-trees-len-loop-less t c = omega (arith, c .pass .ensures, passed-some (c .before .before .before .before .before .before .before .before .before .loop .inv) (c .before .before .before .before .before .before .before .before .loop-test .taken) (c .before .before .before .level-below .result), passed-within (c .before .before .before .before .before .before .before .before .before .loop .inv) (c .before .before .before .before .before .before .before .before .loop-test .taken) (c .before .before .before .level-below .result))
+trees-len-loop-less t c =
+    let c3 = c .before .before .before in
+    let c8 = c3 .before .before .before .before .before in
+    let c9 = c8 .before in
+    omega (
+      arith,
+      c .pass .ensures,
+      passed-some (c9 .loop .inv) (c8 .loop-test .taken) (c3 .level-below .result),
+      passed-within (c9 .loop .inv)
+          (c8 .loop-test .taken) (c3 .level-below .result),
+    )
 
 trees-len-loop-again : (t : ℕ) → trees-len-lts.Need-loop-again (trees-len-claims t) (trees-len-at t) trees-len.Post trees-len-Inv-loop trees-len-μ-loop
-trees-len-loop-again t c = summed (c .before .before .before .before .before .before .before .before .before .loop .inv) (c .before .before .before .before .before .before .before .before .loop-test .taken) (c .before .before .before .level-below .result) (c .before .before .before .level-below .ensures) _ _ _ (c .pass .ensures) (c .before .before .before .before .node-len .ensures) (c .before .before .children-len .ensures)
+trees-len-loop-again t c =
+    let c2 = c .before .before in
+    let c3 = c2 .before in
+    let c4 = c3 .before in
+    let c8 = c4 .before .before .before .before in
+    let c9 = c8 .before in
+    summed (c9 .loop .inv) (c8 .loop-test .taken) (c3 .level-below .result) (c3 .level-below .ensures) _ _ _ (c .pass .ensures) (c4 .node-len .ensures)
+    (c2 .children-len .ensures)
 
 trees-len-returns : (t : ℕ) → trees-len-lts.Need-returns (trees-len-claims t) (trees-len-at t) trees-len.Post trees-len-Inv-loop trees-len-μ-loop
 trees-len-returns t c = measured (c .before .loop .inv) (c .loop-test .left)

@@ -18,9 +18,9 @@ use Rattle.static_str.proofs.+print_children+print_trees.Lts-print_chil
 use Rattle.static_str.proofs.print_trees.Reads as print-trees
 use Rattle.static_str.proofs.print_trees.Kinds as print-trees-kinds
 use Rattle.static_str.proofs.+print_children+print_trees.Lts-print_trees as print-trees-lts
-use Rattle.static_str.proofs.children_level.Reads as children-level-reads
+use Rattle.kinds.proofs.NestingLevel.children.Reads as children-reads
 use Rattle.static_str.proofs.close_node.Reads as close-node-reads
-use Rattle.static_str.proofs.held_level.Reads as held-level-reads
+use Rattle.kinds.proofs.NestingLevel.inside.Reads as inside-reads
 use Rattle.static_str.proofs.points_last.Reads as points-last-reads
 use Rattle.static_str.proofs.open_node.Reads as open-node-reads
 use Rattle.static_str.proofs.+print_children+print_trees.{statement}
@@ -57,10 +57,21 @@ print-trees-below t =
     and 3 print-trees-kinds.ps (falls 3 print-trees-kinds.ps _<_ μ-print-trees t) print-trees.Pre
 
 abbrev print-children-claims : ℕ → print-children-lts.Claims
-print-children-claims t = (children-level-reads.Asked, children-level-reads.Learnt, print-trees-below t, print-trees.Post)
+print-children-claims t = (children-reads.Asked, children-reads.Learnt, print-trees-below t, print-trees.Post)
 
 abbrev print-trees-claims : ℕ → print-trees-lts.Claims
-print-trees-claims t = (open-node-reads.Asked, open-node-reads.Learnt, points-last-reads.Asked, points-last-reads.Learnt, held-level-reads.Asked, held-level-reads.Learnt, print-children-below t, print-children.Post, close-node-reads.Asked, close-node-reads.Learnt)
+print-trees-claims t = (
+  open-node-reads.Asked,
+  open-node-reads.Learnt,
+  points-last-reads.Asked,
+  points-last-reads.Learnt,
+  inside-reads.Asked,
+  inside-reads.Learnt,
+  print-children-below t,
+  print-children.Post,
+  close-node-reads.Asked,
+  close-node-reads.Learnt,
+)
 
 print-children-add-count : (t : ℕ) → print-children-lts.Need-add-count (print-children-claims t) (print-children-at t) print-children.Post
 print-children-add-count t c = search needs
@@ -68,20 +79,23 @@ print-children-add-count t c = search needs
 print-children-mul-count : (t : ℕ) → print-children-lts.Need-mul-count (print-children-claims t) (print-children-at t) print-children.Post
 print-children-mul-count t c = search needs
 
-print-children-shared-slice-read-count : (t : ℕ) → print-children-lts.Need-shared-slice-read-count (print-children-claims t) (print-children-at t) print-children.Post
+print-children-shared-slice-read-count : (t : ℕ) → print-children-lts.Need-shared-slice-read-count (print-children-claims t) (print-children-at t)
+    print-children.Post
 print-children-shared-slice-read-count t c = search needs
 
 print-children-returns : (t : ℕ) → print-children-lts.Need-returns (print-children-claims t) (print-children-at t) print-children.Post
-print-children-returns t c = let a = c .before .before .before .before .before .args in wrote-same (sym (no-children (a .names .now) (a .nodes .now) (a .level) (a .at) (omega arith))) (wrote-none (a .out .now) (a .to))
+print-children-returns t c = let a = c .before .before .before .before .before .args
+    in wrote-same (sym (no-children (a .names .now) (a .nodes .now) (a .level) (a .at) (omega arith))) (wrote-none (a .out .now) (a .to))
 
-print-children-mul-children-level : (t : ℕ) → print-children-lts.Need-mul-children-level (print-children-claims t) (print-children-at t) print-children.Post
-print-children-mul-children-level t c = search needs
+print-children-mul-children : (t : ℕ) → print-children-lts.Need-mul-children (print-children-claims t) (print-children-at t) print-children.Post
+print-children-mul-children t c = search needs
 
-print-children-shared-slice-read-children-level : (t : ℕ) → print-children-lts.Need-shared-slice-read-children-level (print-children-claims t) (print-children-at t) print-children.Post
-print-children-shared-slice-read-children-level t c = search needs
+print-children-shared-slice-read-children : (t : ℕ) → print-children-lts.Need-shared-slice-read-children (print-children-claims t) (print-children-at t)
+    print-children.Post
+print-children-shared-slice-read-children t c = search needs
 
-print-children-children-level-requires : (t : ℕ) → print-children-lts.Need-children-level-requires (print-children-claims t) (print-children-at t) print-children.Post
-print-children-children-level-requires t c κs = search needs
+print-children-children-requires : (t : ℕ) → print-children-lts.Need-children-requires (print-children-claims t) (print-children-at t) print-children.Post
+print-children-children-requires t c κs = search needs
 
 print-children-enum-told : (t : ℕ) → print-children-lts.Need-enum-told (print-children-claims t) (print-children-at t) print-children.Post
 print-children-enum-told t c = search needs
@@ -92,7 +106,8 @@ print-children-enum-known-inner t c = search needs
 print-children-sub-print-trees : (t : ℕ) → print-children-lts.Need-sub-print-trees (print-children-claims t) (print-children-at t) print-children.Post
 print-children-sub-print-trees t c = search needs
 
-print-children-part-print-trees-start : (t : ℕ) → print-children-lts.Need-part-print-trees-start (print-children-claims t) (print-children-at t) print-children.Post
+print-children-part-print-trees-start : (t : ℕ) → print-children-lts.Need-part-print-trees-start (print-children-claims t) (print-children-at t)
+    print-children.Post
 print-children-part-print-trees-start t c = search needs
 
 print-children-part-print-trees-end : (t : ℕ) → print-children-lts.Need-part-print-trees-end (print-children-claims t) (print-children-at t) print-children.Post
@@ -101,10 +116,12 @@ print-children-part-print-trees-end t c = search needs
 print-children-sub-print-trees-2 : (t : ℕ) → print-children-lts.Need-sub-print-trees-2 (print-children-claims t) (print-children-at t) print-children.Post
 print-children-sub-print-trees-2 t c = search needs
 
-print-children-part-print-trees-start-2 : (t : ℕ) → print-children-lts.Need-part-print-trees-start-2 (print-children-claims t) (print-children-at t) print-children.Post
+print-children-part-print-trees-start-2 : (t : ℕ) → print-children-lts.Need-part-print-trees-start-2 (print-children-claims t) (print-children-at t)
+    print-children.Post
 print-children-part-print-trees-start-2 t c = search needs
 
-print-children-part-print-trees-end-2 : (t : ℕ) → print-children-lts.Need-part-print-trees-end-2 (print-children-claims t) (print-children-at t) print-children.Post
+print-children-part-print-trees-end-2 : (t : ℕ) → print-children-lts.Need-part-print-trees-end-2 (print-children-claims t) (print-children-at t)
+    print-children.Post
 print-children-part-print-trees-end-2 t c = search needs
 
 print-children-add-print-trees : (t : ℕ) → print-children-lts.Need-add-print-trees (print-children-claims t) (print-children-at t) print-children.Post
@@ -114,102 +131,236 @@ print-children-sub-print-trees-3 : (t : ℕ) → print-children-lts.Need-sub-pri
 print-children-sub-print-trees-3 t c = search needs
 
 print-children-print-trees-requires : (t : ℕ) → print-children-lts.Need-print-trees-requires (print-children-claims t) (print-children-at t) print-children.Post
-print-children-print-trees-requires t c κs = let a = c .before .before .before .before .before .before .before .before .before .before .before .before .before .args in let p = c .before .before .before .before .before .before .before .before .before .before .before .before .before .pre .1 .0 .0 .some-node in rw (whole, whole) (omega arith, (children-there (c .before .before .before .before .before .before .before .before .before .before .before .before .before .pre .1 .0 .0) (c .before .before .before .before .before .before .before .before .before .before .before .before .before .pre .1 .0 .1), omega (arith, ap length (included-text (a .names .now) (a .nodes .now) (a .level) (a .at) _ (sym (c .before .before .before .before .before .before .children-level .ensures) ∙ c .before .before .before .before .inner .given .1)), c .before .before .before .before .before .before .before .before .before .before .before .before .before .pre .1 .1)))
+print-children-print-trees-requires t c κs =
+    let c4 = c .before .before .before .before in
+    let c6 = c4 .before .before in
+    let c13 = c6 .before .before .before .before .before .before .before in
+    let a = c13 .args in let p = c13 .pre .1 .0 .0 .some-node in rw (whole, whole) (
+      omega arith,
+      (
+        children-there (c13 .pre .1 .0 .0) (c13 .pre .1 .0 .1),
+        omega (
+          arith,
+          ap length (included-text (a .names .now) (a .nodes .now) (a .level) (a .at) _ (sym (c6 .children .ensures) ∙ c4 .inner .given .1)),
+          c13 .pre .1 .1,
+        ),
+      ),
+    )
 
 print-children-returns-2 : (t : ℕ) → print-children-lts.Need-returns-2 (print-children-claims t) (print-children-at t) print-children.Post
-print-children-returns-2 t c = let a = c .before .before .before .before .before .before .before .before .before .args in wrote-same (sym (dropped-text (a .names .now) (a .nodes .now) (a .level) (a .at) (sym (c .before .before .children-level .ensures) ∙ c .enum-told .given .1))) (wrote-none (a .out .now) (a .to))
+print-children-returns-2 t c =
+    let c2 = c .before .before in
+    let c9 = c2 .before .before .before .before .before .before .before in
+    let a = c9 .args in wrote-same (sym (dropped-text (a .names .now) (a .nodes .now) (a .level) (a .at)
+    (sym (c2 .children .ensures) ∙ c .enum-told .given .1))) (wrote-none (a .out .now) (a .to))
 
 print-children-same-length : (t : ℕ) → print-children-lts.Need-same-length (print-children-claims t) (print-children-at t) print-children.Post
 print-children-same-length t c = search needs
 
 print-children-returns-3 : (t : ℕ) → print-children-lts.Need-returns-3 (print-children-claims t) (print-children-at t) print-children.Post
-print-children-returns-3 t c = let a = c .before .before .before .before .before .before .before .before .before .before .before .before .before .before .before .before .args in wrote-same (sym (included-text (a .names .now) (a .nodes .now) (a .level) (a .at) _ (sym (c .before .before .before .before .before .before .before .before .before .children-level .ensures) ∙ c .before .before .before .before .before .before .before .inner .given .1))) (rw (whole, whole) at (c .before .before .print-trees .ensures))
+print-children-returns-3 t c =
+    let c2 = c .before .before in
+    let c7 = c2 .before .before .before .before .before in
+    let c9 = c7 .before .before in
+    let c16 = c9 .before .before .before .before .before .before .before in
+    let a = c16 .args in wrote-same (sym (included-text (a .names .now) (a .nodes .now) (a .level) (a .at) _
+    (sym (c9 .children .ensures) ∙ c7 .inner .given .1))) (rw (whole, whole) at (c2 .print-trees .ensures))
 
 abbrev print-trees-Inv-loop : print-trees-lts.InvT-loop
-print-trees-Inv-loop nodes names from n level₀ out₀ start at₀ left₀ to₀ level out at left to = Printing names nodes level out₀ start from n (print level₀ (trees names nodes n from)) out at left to
+print-trees-Inv-loop nodes names from n level₀ out₀ start at₀ left₀ to₀ level out at left to = Printing names nodes level out₀ start from n
+    (print level₀ (trees names nodes n from)) out at left to
 
 abbrev print-trees-μ-loop : print-trees-lts.MeasureT-loop
 print-trees-μ-loop nodes names from n level₀ out₀ start at₀ left₀ to₀ level out at left to = left
 
-print-trees-loop-holds : (t : ℕ) → print-trees-lts.Need-loop-holds (print-trees-claims t) (print-trees-at t) print-trees.Post print-trees-Inv-loop print-trees-μ-loop
-print-trees-loop-holds t c = start-printing _ _ _ _ _ _ _ (c .before .before .before .pre .1 .0 .0) (c .before .before .before .pre .1 .0 .1) (c .before .before .before .pre .1 .1)
+print-trees-loop-holds : (t : ℕ) → print-trees-lts.Need-loop-holds (print-trees-claims t) (print-trees-at t) print-trees.Post print-trees-Inv-loop
+    print-trees-μ-loop
+print-trees-loop-holds t c =
+    let c3 = c .before .before .before in
+    start-printing _ _ _ _ _ _ _ (c3 .pre .1 .0 .0) (c3 .pre .1 .0 .1) (c3 .pre .1 .1)
 
-print-trees-mul-kind : (t : ℕ) → print-trees-lts.Need-mul-kind (print-trees-claims t) (print-trees-at t) print-trees.Post print-trees-Inv-loop print-trees-μ-loop
+print-trees-mul-kind : (t : ℕ) → print-trees-lts.Need-mul-kind (print-trees-claims t) (print-trees-at t) print-trees.Post print-trees-Inv-loop
+    print-trees-μ-loop
 print-trees-mul-kind t c = let h = node-here (c .before .loop .inv .nodes) (c .loop-test .taken) in omega arith
 
-print-trees-shared-slice-read-kind : (t : ℕ) → print-trees-lts.Need-shared-slice-read-kind (print-trees-claims t) (print-trees-at t) print-trees.Post print-trees-Inv-loop print-trees-μ-loop
-print-trees-shared-slice-read-kind t c = let h = node-here (c .before .before .loop .inv .nodes) (c .before .loop-test .taken) in omega arith
+print-trees-shared-slice-read-kind : (t : ℕ) → print-trees-lts.Need-shared-slice-read-kind (print-trees-claims t) (print-trees-at t) print-trees.Post
+    print-trees-Inv-loop print-trees-μ-loop
+print-trees-shared-slice-read-kind t c =
+    let c2 = c .before .before in
+    let h = node-here (c2 .loop .inv .nodes) (c .before .loop-test .taken) in omega arith
 
-print-trees-add-second : (t : ℕ) → print-trees-lts.Need-add-second (print-trees-claims t) (print-trees-at t) print-trees.Post print-trees-Inv-loop print-trees-μ-loop
-print-trees-add-second t c = let h = node-here (c .before .before .loop .inv .nodes) (c .before .loop-test .taken) in omega arith
+print-trees-add-second : (t : ℕ) → print-trees-lts.Need-add-second (print-trees-claims t) (print-trees-at t) print-trees.Post print-trees-Inv-loop
+    print-trees-μ-loop
+print-trees-add-second t c =
+    let c2 = c .before .before in
+    let h = node-here (c2 .loop .inv .nodes) (c .before .loop-test .taken) in omega arith
 
-print-trees-mul-second : (t : ℕ) → print-trees-lts.Need-mul-second (print-trees-claims t) (print-trees-at t) print-trees.Post print-trees-Inv-loop print-trees-μ-loop
-print-trees-mul-second t c = let h = node-here (c .before .before .loop .inv .nodes) (c .before .loop-test .taken) in omega arith
+print-trees-mul-second : (t : ℕ) → print-trees-lts.Need-mul-second (print-trees-claims t) (print-trees-at t) print-trees.Post print-trees-Inv-loop
+    print-trees-μ-loop
+print-trees-mul-second t c =
+    let c2 = c .before .before in
+    let h = node-here (c2 .loop .inv .nodes) (c .before .loop-test .taken) in omega arith
 
-print-trees-shared-slice-read-second : (t : ℕ) → print-trees-lts.Need-shared-slice-read-second (print-trees-claims t) (print-trees-at t) print-trees.Post print-trees-Inv-loop print-trees-μ-loop
-print-trees-shared-slice-read-second t c = let h = node-here (c .before .before .before .loop .inv .nodes) (c .before .before .loop-test .taken) in omega arith
+print-trees-shared-slice-read-second : (t : ℕ) → print-trees-lts.Need-shared-slice-read-second (print-trees-claims t) (print-trees-at t) print-trees.Post
+    print-trees-Inv-loop print-trees-μ-loop
+print-trees-shared-slice-read-second t c =
+    let c2 = c .before .before in
+    let c3 = c2 .before in
+    let h = node-here (c3 .loop .inv .nodes) (c2 .loop-test .taken) in omega arith
 
-print-trees-add-count : (t : ℕ) → print-trees-lts.Need-add-count (print-trees-claims t) (print-trees-at t) print-trees.Post print-trees-Inv-loop print-trees-μ-loop
-print-trees-add-count t c = let h = node-here (c .before .before .before .loop .inv .nodes) (c .before .before .loop-test .taken) in omega arith
+print-trees-add-count : (t : ℕ) → print-trees-lts.Need-add-count (print-trees-claims t) (print-trees-at t) print-trees.Post print-trees-Inv-loop
+    print-trees-μ-loop
+print-trees-add-count t c =
+    let c2 = c .before .before in
+    let c3 = c2 .before in
+    let h = node-here (c3 .loop .inv .nodes) (c2 .loop-test .taken) in omega arith
 
-print-trees-mul-count : (t : ℕ) → print-trees-lts.Need-mul-count (print-trees-claims t) (print-trees-at t) print-trees.Post print-trees-Inv-loop print-trees-μ-loop
-print-trees-mul-count t c = let h = node-here (c .before .before .before .loop .inv .nodes) (c .before .before .loop-test .taken) in omega arith
+print-trees-mul-count : (t : ℕ) → print-trees-lts.Need-mul-count (print-trees-claims t) (print-trees-at t) print-trees.Post print-trees-Inv-loop
+    print-trees-μ-loop
+print-trees-mul-count t c =
+    let c2 = c .before .before in
+    let c3 = c2 .before in
+    let h = node-here (c3 .loop .inv .nodes) (c2 .loop-test .taken) in omega arith
 
-print-trees-shared-slice-read-count : (t : ℕ) → print-trees-lts.Need-shared-slice-read-count (print-trees-claims t) (print-trees-at t) print-trees.Post print-trees-Inv-loop print-trees-μ-loop
-print-trees-shared-slice-read-count t c = let h = node-here (c .before .before .before .before .loop .inv .nodes) (c .before .before .before .loop-test .taken) in omega arith
+print-trees-shared-slice-read-count : (t : ℕ) → print-trees-lts.Need-shared-slice-read-count (print-trees-claims t) (print-trees-at t) print-trees.Post
+    print-trees-Inv-loop print-trees-μ-loop
+print-trees-shared-slice-read-count t c =
+    let c3 = c .before .before .before in
+    let c4 = c3 .before in
+    let h = node-here (c4 .loop .inv .nodes) (c3 .loop-test .taken) in omega arith
 
-print-trees-add-open-node : (t : ℕ) → print-trees-lts.Need-add-open-node (print-trees-claims t) (print-trees-at t) print-trees.Post print-trees-Inv-loop print-trees-μ-loop
-print-trees-add-open-node t c = let h = node-here (c .before .before .before .before .loop .inv .nodes) (c .before .before .before .loop-test .taken) in omega arith
+print-trees-add-open-node : (t : ℕ) → print-trees-lts.Need-add-open-node (print-trees-claims t) (print-trees-at t) print-trees.Post print-trees-Inv-loop
+    print-trees-μ-loop
+print-trees-add-open-node t c =
+    let c3 = c .before .before .before in
+    let c4 = c3 .before in
+    let h = node-here (c4 .loop .inv .nodes) (c3 .loop-test .taken) in omega arith
 
-print-trees-mul-open-node : (t : ℕ) → print-trees-lts.Need-mul-open-node (print-trees-claims t) (print-trees-at t) print-trees.Post print-trees-Inv-loop print-trees-μ-loop
-print-trees-mul-open-node t c = let h = node-here (c .before .before .before .before .loop .inv .nodes) (c .before .before .before .loop-test .taken) in omega arith
+print-trees-mul-open-node : (t : ℕ) → print-trees-lts.Need-mul-open-node (print-trees-claims t) (print-trees-at t) print-trees.Post print-trees-Inv-loop
+    print-trees-μ-loop
+print-trees-mul-open-node t c =
+    let c3 = c .before .before .before in
+    let c4 = c3 .before in
+    let h = node-here (c4 .loop .inv .nodes) (c3 .loop-test .taken) in omega arith
 
-print-trees-shared-slice-read-open-node : (t : ℕ) → print-trees-lts.Need-shared-slice-read-open-node (print-trees-claims t) (print-trees-at t) print-trees.Post print-trees-Inv-loop print-trees-μ-loop
-print-trees-shared-slice-read-open-node t c = let h = node-here (c .before .before .before .before .before .loop .inv .nodes) (c .before .before .before .before .loop-test .taken) in omega arith
+print-trees-shared-slice-read-open-node : (t : ℕ) → print-trees-lts.Need-shared-slice-read-open-node (print-trees-claims t) (print-trees-at t) print-trees.Post
+    print-trees-Inv-loop print-trees-μ-loop
+print-trees-shared-slice-read-open-node t c =
+    let c4 = c .before .before .before .before in
+    let c5 = c4 .before in
+    let h = node-here (c5 .loop .inv .nodes) (c4 .loop-test .taken) in omega arith
 
-print-trees-open-node-requires : (t : ℕ) → print-trees-lts.Need-open-node-requires (print-trees-claims t) (print-trees-at t) print-trees.Post print-trees-Inv-loop print-trees-μ-loop
-print-trees-open-node-requires t c κs = (here (c .before .before .before .before .before .before .loop .inv .nodes) (c .before .before .before .before .before .loop-test .taken) .name, room-to-open (c .before .before .before .before .before .before .loop .inv) (c .before .before .before .before .before .loop-test .taken))
+print-trees-open-node-requires : (t : ℕ) → print-trees-lts.Need-open-node-requires (print-trees-claims t) (print-trees-at t) print-trees.Post
+    print-trees-Inv-loop print-trees-μ-loop
+print-trees-open-node-requires t c κs =
+    let c5 = c .before .before .before .before .before in
+    let c6 = c5 .before in
+    (here (c6 .loop .inv .nodes) (c5 .loop-test .taken) .name, room-to-open (c6 .loop .inv) (c5 .loop-test .taken))
 
-print-trees-points-last-requires : (t : ℕ) → print-trees-lts.Need-points-last-requires (print-trees-claims t) (print-trees-at t) print-trees.Post print-trees-Inv-loop print-trees-μ-loop
+print-trees-points-last-requires : (t : ℕ) → print-trees-lts.Need-points-last-requires (print-trees-claims t) (print-trees-at t) print-trees.Post
+    print-trees-Inv-loop print-trees-μ-loop
 print-trees-points-last-requires t c κs = search needs
 
-print-trees-held-level-requires : (t : ℕ) → print-trees-lts.Need-held-level-requires (print-trees-claims t) (print-trees-at t) print-trees.Post print-trees-Inv-loop print-trees-μ-loop
-print-trees-held-level-requires t c κs = let k = c .before .points-last .ensures (c .if1 .taken) in (k .0, k .1)
+print-trees-inside-requires : (t : ℕ) → print-trees-lts.Need-inside-requires (print-trees-claims t) (print-trees-at t) print-trees.Post print-trees-Inv-loop
+    print-trees-μ-loop
+print-trees-inside-requires t c κs = search needs
 
 print-trees-add-at : (t : ℕ) → print-trees-lts.Need-add-at (print-trees-claims t) (print-trees-at t) print-trees.Post print-trees-Inv-loop print-trees-μ-loop
-print-trees-add-at t c = let h = node-here (c .before .before .before .before .before .before .before .before .before .before .before .before .loop .inv .nodes) (c .before .before .before .before .before .before .before .before .before .before .before .loop-test .taken) in omega arith
+print-trees-add-at t c =
+    let c11 = c .before .before .before .before .before .before .before .before .before .before .before in
+    let c12 = c11 .before in
+    let h = node-here (c12 .loop .inv .nodes) (c11 .loop-test .taken) in omega arith
 
-print-trees-sub-left : (t : ℕ) → print-trees-lts.Need-sub-left (print-trees-claims t) (print-trees-at t) print-trees.Post print-trees-Inv-loop print-trees-μ-loop
-print-trees-sub-left t c = omega (arith, some-node (c .before .before .before .before .before .before .before .before .before .before .before .before .loop .inv .nodes) (c .before .before .before .before .before .before .before .before .before .before .before .loop-test .taken), node-within (c .before .before .before .before .before .before .before .before .before .before .before .before .loop .inv .nodes) (c .before .before .before .before .before .before .before .before .before .before .before .loop-test .taken))
+print-trees-sub-left : (t : ℕ) → print-trees-lts.Need-sub-left (print-trees-claims t) (print-trees-at t) print-trees.Post print-trees-Inv-loop
+    print-trees-μ-loop
+print-trees-sub-left t c =
+    let c11 = c .before .before .before .before .before .before .before .before .before .before .before in
+    let c12 = c11 .before in
+    omega (arith, some-node (c12 .loop .inv .nodes) (c11 .loop-test .taken), node-within (c12 .loop .inv .nodes) (c11 .loop-test .taken))
 
-print-trees-loop-less : (t : ℕ) → print-trees-lts.Need-loop-less (print-trees-claims t) (print-trees-at t) print-trees.Post print-trees-Inv-loop print-trees-μ-loop
-print-trees-loop-less t c = omega (arith, some-node (c .before .before .before .before .before .before .before .before .before .before .before .before .loop .inv .nodes) (c .before .before .before .before .before .before .before .before .before .before .before .loop-test .taken), node-within (c .before .before .before .before .before .before .before .before .before .before .before .before .loop .inv .nodes) (c .before .before .before .before .before .before .before .before .before .before .before .loop-test .taken))
+print-trees-loop-less : (t : ℕ) → print-trees-lts.Need-loop-less (print-trees-claims t) (print-trees-at t) print-trees.Post print-trees-Inv-loop
+    print-trees-μ-loop
+print-trees-loop-less t c =
+    let c11 = c .before .before .before .before .before .before .before .before .before .before .before in
+    let c12 = c11 .before in
+    omega (arith, some-node (c12 .loop .inv .nodes) (c11 .loop-test .taken), node-within (c12 .loop .inv .nodes) (c11 .loop-test .taken))
 
-print-trees-loop-again : (t : ℕ) → print-trees-lts.Need-loop-again (print-trees-claims t) (print-trees-at t) print-trees.Post print-trees-Inv-loop print-trees-μ-loop
-print-trees-loop-again t c = let k = c .before .before .points-last .ensures (c .before .if1 .taken) in held-next (c .before .before .before .before .before .before .before .before .before .before .before .before .loop .inv) (c .before .before .before .before .before .before .before .before .before .before .before .loop-test .taken) (c .before .before .before .before .before .open-node .ensures) (k .0) (k .1) (k .2) _ (c .held-level .ensures)
+print-trees-loop-again : (t : ℕ) → print-trees-lts.Need-loop-again (print-trees-claims t) (print-trees-at t) print-trees.Post print-trees-Inv-loop
+    print-trees-μ-loop
+print-trees-loop-again t c =
+    let c2 = c .before .before in
+    let c5 = c2 .before .before .before in
+    let c11 = c5 .before .before .before .before .before .before in
+    let c12 = c11 .before in
+    let k = c2 .points-last .ensures (c .before .if1 .taken) in held-next (c12 .loop .inv) (c11 .loop-test .taken) (c5 .open-node .ensures) (k .0) (k .1)
+    (k .2) _ (c .inside .ensures)
 
-print-trees-print-children-requires : (t : ℕ) → print-trees-lts.Need-print-children-requires (print-trees-claims t) (print-trees-at t) print-trees.Post print-trees-Inv-loop print-trees-μ-loop
-print-trees-print-children-requires t c κs = (omega (arith, node-within (c .before .before .before .before .before .before .before .before .before .before .before .before .loop .inv .nodes) (c .before .before .before .before .before .before .before .before .before .before .before .loop-test .taken), c .before .before .before .before .before .before .before .before .before .before .before .before .loop .inv .nodes .few), ((node-here (c .before .before .before .before .before .before .before .before .before .before .before .before .loop .inv .nodes) (c .before .before .before .before .before .before .before .before .before .before .before .loop-test .taken), node-named (c .before .before .before .before .before .before .before .before .before .before .before .before .loop .inv .nodes) (c .before .before .before .before .before .before .before .before .before .before .before .loop-test .taken)), room-to-fill (c .before .before .before .before .before .before .before .before .before .before .before .before .loop .inv) (c .before .before .before .before .before .before .before .before .before .before .before .loop-test .taken) (c .before .before .before .before .before .open-node .ensures)))
+print-trees-print-children-requires : (t : ℕ) → print-trees-lts.Need-print-children-requires (print-trees-claims t) (print-trees-at t) print-trees.Post
+    print-trees-Inv-loop print-trees-μ-loop
+print-trees-print-children-requires t c κs =
+    let c5 = c .before .before .before .before .before in
+    let c11 = c5 .before .before .before .before .before .before in
+    let c12 = c11 .before in (
+      omega (arith, node-within (c12 .loop .inv .nodes) (c11 .loop-test .taken), c12 .loop .inv .nodes .few),
+      (
+        (node-here (c12 .loop .inv .nodes) (c11 .loop-test .taken), node-named (c12 .loop .inv .nodes) (c11 .loop-test .taken)),
+        room-to-fill (c12 .loop .inv)
+            (c11 .loop-test .taken) (c5 .open-node .ensures),
+      ),
+    )
 
-print-trees-close-node-requires : (t : ℕ) → print-trees-lts.Need-close-node-requires (print-trees-claims t) (print-trees-at t) print-trees.Post print-trees-Inv-loop print-trees-μ-loop
-print-trees-close-node-requires t c κs = room-to-close (c .before .before .before .before .before .before .before .before .before .before .before .before .before .before .before .before .loop .inv) (c .before .before .before .before .before .before .before .before .before .before .before .before .before .before .before .loop-test .taken) (c .before .before .before .before .before .before .before .before .before .open-node .ensures) (c .before .before .before .print-children .ensures)
+print-trees-close-node-requires : (t : ℕ) → print-trees-lts.Need-close-node-requires (print-trees-claims t) (print-trees-at t) print-trees.Post
+    print-trees-Inv-loop print-trees-μ-loop
+print-trees-close-node-requires t c κs =
+    let c3 = c .before .before .before in
+    let c9 = c3 .before .before .before .before .before .before in
+    let c15 = c9 .before .before .before .before .before .before in
+    let c16 = c15 .before in
+    room-to-close (c16 .loop .inv) (c15 .loop-test .taken) (c9 .open-node .ensures) (c3 .print-children .ensures)
 
 print-trees-mul-at : (t : ℕ) → print-trees-lts.Need-mul-at (print-trees-claims t) (print-trees-at t) print-trees.Post print-trees-Inv-loop print-trees-μ-loop
-print-trees-mul-at t c = let h = node-here (c .before .before .before .before .before .before .before .before .before .before .before .before .before .before .before .before .before .before .before .loop .inv .nodes) (c .before .before .before .before .before .before .before .before .before .before .before .before .before .before .before .before .before .before .loop-test .taken) in omega arith
+print-trees-mul-at t c =
+    let c18 = c .before .before .before .before .before .before .before .before .before .before .before .before .before .before .before .before .before .before
+    in
+    let c19 = c18 .before in
+    let h = node-here (c19 .loop .inv .nodes) (c18 .loop-test .taken) in omega arith
 
-print-trees-add-at-2 : (t : ℕ) → print-trees-lts.Need-add-at-2 (print-trees-claims t) (print-trees-at t) print-trees.Post print-trees-Inv-loop print-trees-μ-loop
-print-trees-add-at-2 t c = let h = node-here (c .before .before .before .before .before .before .before .before .before .before .before .before .before .before .before .before .before .before .before .loop .inv .nodes) (c .before .before .before .before .before .before .before .before .before .before .before .before .before .before .before .before .before .before .loop-test .taken) in omega arith
+print-trees-add-at-2 : (t : ℕ) → print-trees-lts.Need-add-at-2 (print-trees-claims t) (print-trees-at t) print-trees.Post print-trees-Inv-loop
+    print-trees-μ-loop
+print-trees-add-at-2 t c =
+    let c18 = c .before .before .before .before .before .before .before .before .before .before .before .before .before .before .before .before .before .before
+    in
+    let c19 = c18 .before in
+    let h = node-here (c19 .loop .inv .nodes) (c18 .loop-test .taken) in omega arith
 
-print-trees-sub-left-2 : (t : ℕ) → print-trees-lts.Need-sub-left-2 (print-trees-claims t) (print-trees-at t) print-trees.Post print-trees-Inv-loop print-trees-μ-loop
-print-trees-sub-left-2 t c = omega (arith, some-node (c .before .before .before .before .before .before .before .before .before .before .before .before .before .before .before .before .before .before .before .loop .inv .nodes) (c .before .before .before .before .before .before .before .before .before .before .before .before .before .before .before .before .before .before .loop-test .taken), node-within (c .before .before .before .before .before .before .before .before .before .before .before .before .before .before .before .before .before .before .before .loop .inv .nodes) (c .before .before .before .before .before .before .before .before .before .before .before .before .before .before .before .before .before .before .loop-test .taken))
+print-trees-sub-left-2 : (t : ℕ) → print-trees-lts.Need-sub-left-2 (print-trees-claims t) (print-trees-at t) print-trees.Post print-trees-Inv-loop
+    print-trees-μ-loop
+print-trees-sub-left-2 t c =
+    let c18 = c .before .before .before .before .before .before .before .before .before .before .before .before .before .before .before .before .before .before
+    in
+    let c19 = c18 .before in
+    omega (arith, some-node (c19 .loop .inv .nodes) (c18 .loop-test .taken), node-within (c19 .loop .inv .nodes) (c18 .loop-test .taken))
 
-print-trees-loop-less-2 : (t : ℕ) → print-trees-lts.Need-loop-less-2 (print-trees-claims t) (print-trees-at t) print-trees.Post print-trees-Inv-loop print-trees-μ-loop
-print-trees-loop-less-2 t c = omega (arith, some-node (c .before .before .before .before .before .before .before .before .before .before .before .before .before .before .before .before .before .before .before .loop .inv .nodes) (c .before .before .before .before .before .before .before .before .before .before .before .before .before .before .before .before .before .before .loop-test .taken), node-within (c .before .before .before .before .before .before .before .before .before .before .before .before .before .before .before .before .before .before .before .loop .inv .nodes) (c .before .before .before .before .before .before .before .before .before .before .before .before .before .before .before .before .before .before .loop-test .taken))
+print-trees-loop-less-2 : (t : ℕ) → print-trees-lts.Need-loop-less-2 (print-trees-claims t) (print-trees-at t) print-trees.Post print-trees-Inv-loop
+    print-trees-μ-loop
+print-trees-loop-less-2 t c =
+    let c18 = c .before .before .before .before .before .before .before .before .before .before .before .before .before .before .before .before .before .before
+    in
+    let c19 = c18 .before in
+    omega (arith, some-node (c19 .loop .inv .nodes) (c18 .loop-test .taken), node-within (c19 .loop .inv .nodes) (c18 .loop-test .taken))
 
-print-trees-loop-again-2 : (t : ℕ) → print-trees-lts.Need-loop-again-2 (print-trees-claims t) (print-trees-at t) print-trees.Post print-trees-Inv-loop print-trees-μ-loop
-print-trees-loop-again-2 t c = turned (c .before .before .before .before .before .before .before .before .before .before .before .before .before .before .before .before .before .before .before .loop .inv) (c .before .before .before .before .before .before .before .before .before .before .before .before .before .before .before .before .before .before .loop-test .taken) (c .before .before .before .before .before .before .before .before .before .before .before .before .open-node .ensures) (c .before .before .before .before .before .before .print-children .ensures) (c .before .before .close-node .ensures)
+print-trees-loop-again-2 : (t : ℕ) → print-trees-lts.Need-loop-again-2 (print-trees-claims t) (print-trees-at t) print-trees.Post print-trees-Inv-loop
+    print-trees-μ-loop
+print-trees-loop-again-2 t c =
+    let c2 = c .before .before in
+    let c6 = c2 .before .before .before .before in
+    let c12 = c6 .before .before .before .before .before .before in
+    let c18 = c12 .before .before .before .before .before .before in
+    let c19 = c18 .before in
+    turned (c19 .loop .inv) (c18 .loop-test .taken) (c12 .open-node .ensures) (c6 .print-children .ensures) (c2 .close-node .ensures)
 
-print-trees-same-length : (t : ℕ) → print-trees-lts.Need-same-length (print-trees-claims t) (print-trees-at t) print-trees.Post print-trees-Inv-loop print-trees-μ-loop
+print-trees-same-length : (t : ℕ) → print-trees-lts.Need-same-length (print-trees-claims t) (print-trees-at t) print-trees.Post print-trees-Inv-loop
+    print-trees-μ-loop
 print-trees-same-length t c = c .before .loop .inv .room
 
 print-trees-returns : (t : ℕ) → print-trees-lts.Need-returns (print-trees-claims t) (print-trees-at t) print-trees.Post print-trees-Inv-loop print-trees-μ-loop
@@ -224,9 +375,9 @@ pub +print-children+print-trees-spec : {M : Type 1} → statement M
     (print-children-mul-count t)
     (print-children-shared-slice-read-count t)
     (print-children-returns t)
-    (print-children-mul-children-level t)
-    (print-children-shared-slice-read-children-level t)
-    (print-children-children-level-requires t)
+    (print-children-mul-children t)
+    (print-children-shared-slice-read-children t)
+    (print-children-children-requires t)
     (print-children-enum-told t)
     (print-children-enum-known-inner t)
     (print-children-sub-print-trees t)
@@ -260,7 +411,7 @@ pub +print-children+print-trees-spec : {M : Type 1} → statement M
     (print-trees-shared-slice-read-open-node t)
     (print-trees-open-node-requires t)
     (print-trees-points-last-requires t)
-    (print-trees-held-level-requires t)
+    (print-trees-inside-requires t)
     (print-trees-add-at t)
     (print-trees-sub-left t)
     (print-trees-loop-less t)

@@ -38,16 +38,24 @@ put-number-add-put : (t : ℕ) → put-number-lts.Need-add-put (put-number-claim
 put-number-add-put t c = search needs
 
 put-number-put-requires : (t : ℕ) → put-number-lts.Need-put-requires (put-number-claims t) (put-number-at t) put-number.Post
-put-number-put-requires t c κs = omega (arith, decimal-one (c .before .before .before .args .n) (c .before .if1 .taken), c .before .before .before .pre .1)
+put-number-put-requires t c κs =
+    let c3 = c .before .before .before in
+    omega (arith, decimal-one (c3 .args .n) (c .before .if1 .taken), c3 .pre .1)
 
 put-number-same-length : (t : ℕ) → put-number-lts.Need-same-length (put-number-claims t) (put-number-at t) put-number.Post
 put-number-same-length t c = search needs
 
 put-number-returns : (t : ℕ) → put-number-lts.Need-returns (put-number-claims t) (put-number-at t) put-number.Post
-put-number-returns t c = wrote-same (sym (decimal-low (c .before .before .before .before .before .before .args .n) (c .before .before .before .before .if1 .taken))) (c .before .before .put .ensures)
+put-number-returns t c =
+    let c2 = c .before .before in
+    let c4 = c2 .before .before in
+    let c6 = c4 .before .before in
+    wrote-same (sym (decimal-low (c6 .args .n) (c4 .if1 .taken))) (c2 .put .ensures)
 
 put-number-put-number-requires : (t : ℕ) → put-number-lts.Need-put-number-requires (put-number-claims t) (put-number-at t) put-number.Post
-put-number-put-number-requires t c κs = let l = decimal-more (c .before .before .before .args .n) (c .before .if1 .left) in let h = c .before .before .before .pre .1 in (omega arith, omega arith)
+put-number-put-number-requires t c κs =
+    let c3 = c .before .before .before in
+    let l = decimal-more (c3 .args .n) (c .before .if1 .left) in let h = c3 .pre .1 in (omega arith, omega arith)
 
 put-number-cast-digit : (t : ℕ) → put-number-lts.Need-cast-digit (put-number-claims t) (put-number-at t) put-number.Post
 put-number-cast-digit t c = search needs
@@ -56,13 +64,27 @@ put-number-add-put-2 : (t : ℕ) → put-number-lts.Need-add-put-2 (put-number-c
 put-number-add-put-2 t c = search needs
 
 put-number-put-requires-2 : (t : ℕ) → put-number-lts.Need-put-requires-2 (put-number-claims t) (put-number-at t) put-number.Post
-put-number-put-requires-2 t c κs = omega (arith, decimal-more (c .before .before .before .before .before .before .before .args .n) (c .before .before .before .before .before .if1 .left), c .before .before .before .before .before .before .before .pre .1, c .before .before .before .put-number .ensures .place, c .before .before .before .put-number .kept .0)
+put-number-put-requires-2 t c κs =
+    let c3 = c .before .before .before in
+    let c5 = c3 .before .before in
+    let c7 = c5 .before .before in
+    omega (arith, decimal-more (c7 .args .n) (c5 .if1 .left), c7 .pre .1, c3 .put-number .ensures .place, c3 .put-number .kept .0)
 
 put-number-same-length-2 : (t : ℕ) → put-number-lts.Need-same-length-2 (put-number-claims t) (put-number-at t) put-number.Post
-put-number-same-length-2 t c = c .before .before .put2 .kept .0 ∙ c .before .before .before .before .before .before .put-number .kept .0
+put-number-same-length-2 t c =
+    let c2 = c .before .before in
+    let c6 = c2 .before .before .before .before in
+    c2 .put2 .kept .0 ∙ c6 .put-number .kept .0
 
 put-number-returns-2 : (t : ℕ) → put-number-lts.Need-returns-2 (put-number-claims t) (put-number-at t) put-number.Post
-put-number-returns-2 t c = let a = c .before .before .before .before .before .before .before .before .before .before .args in let hi = decimal-high (a .n) (c .before .before .before .before .before .before .before .before .if1 .left) in wrote-same (sym hi) (wrote-append (decimal (a .n / 10)) ((48 + a .n % 10) ∷ []) (subst (λ (xs : List ℕ). a .at + length xs ≤ length (a .out .now)) hi (c .before .before .before .before .before .before .before .before .before .before .pre .1)) (c .before .before .before .before .before .before .put-number .ensures) (c .before .before .put2 .ensures))
+put-number-returns-2 t c =
+    let c2 = c .before .before in
+    let c6 = c2 .before .before .before .before in
+    let c8 = c6 .before .before in
+    let c10 = c8 .before .before in
+    let a = c10 .args in let hi = decimal-high (a .n) (c8 .if1 .left) in wrote-same (sym hi)
+    (wrote-append (decimal (a .n / 10)) ((48 + a .n % 10) ∷ []) (subst (λ (xs : List ℕ). a .at + length xs ≤ length (a .out .now)) hi (c10 .pre .1))
+    (c6 .put-number .ensures) (c2 .put2 .ensures))
 
 pub +put-number-spec : {M : Type 1} → statement M
 +put-number-spec = close μ-put-number λ t. put-number-lts.spec (put-number-claims t)

@@ -23,10 +23,16 @@ enum-told-2 : tie.Need-enum-told-2
 enum-told-2 c = search needs
 
 returns : tie.Need-returns
-returns c = let e = ap length (fields-shown (c .before .before .before .args .level) _ (sym (c .before .before .container-include-fields .ensures) ∙ c .enum-told .given .1)) in (omega arith, omega arith)
+returns c =
+    let c2 = c .before .before in
+    let c3 = c2 .before in
+    let e = ap length (fields-shown (c3 .args .level) _ (sym (c2 .container-include-fields .ensures) ∙ c .enum-told .given .1)) in (omega arith, omega arith)
 
 returns-2 : tie.Need-returns-2
-returns-2 c = let e = ap length (fields-hidden (c .before .before .before .args .level) (sym (c .before .before .container-include-fields .ensures) ∙ c .enum-told2 .given .1)) in (omega arith, omega arith)
+returns-2 c =
+    let c2 = c .before .before in
+    let c3 = c2 .before in
+    let e = ap length (fields-hidden (c3 .args .level) (sym (c2 .container-include-fields .ensures) ∙ c .enum-told2 .given .1)) in (omega arith, omega arith)
 
 pub container-len-spec : {M : Type 1} → statement M
 container-len-spec =

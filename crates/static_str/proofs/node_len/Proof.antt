@@ -12,16 +12,30 @@ code-len-requires : tie.Need-code-len-requires
 code-len-requires c κs = search needs
 
 returns : tie.Need-returns
-returns c = (λ s h. c .code-len .ensures .0 ∙ own-primitive s (c .before .before .args .kind) (c .before .before .args .first) (c .before .before .args .second) (c .before .before .args .level) (c .before .if1 .taken), omega arith)
+returns c =
+    let c2 = c .before .before in (
+      λ s h. c .code-len .ensures .0 ∙ own-primitive s (c2 .args .kind) (c2 .args .first) (c2 .args .second) (c2 .args .level) (c .before .if1 .taken),
+      omega arith,
+    )
 
 is-container-requires : tie.Need-is-container-requires
 is-container-requires c κs = search needs
 
 container-len-requires : tie.Need-container-len-requires
-container-len-requires c κs = c .before .before .before .pre (sym (c .before .is-container .ensures) ∙ c .if2 .taken)
+container-len-requires c κs =
+    let c3 = c .before .before .before in
+    c3 .pre (sym (c .before .is-container .ensures) ∙ c .if2 .taken)
 
 returns-2 : tie.Need-returns-2
-returns-2 c = let a = c .before .before .before .before .args in (λ s h. c .container-len .ensures .0 ∙ own-container s (a .kind) (a .first) (a .second) (a .level) (c .before .before .before .if1 .left) (sym (c .before .before .is-container .ensures) ∙ c .before .if2 .taken) (h (sym (c .before .before .is-container .ensures) ∙ c .before .if2 .taken)), c .container-len .ensures .1)
+returns-2 c =
+    let c2 = c .before .before in
+    let c3 = c2 .before in
+    let c4 = c3 .before in
+    let a = c4 .args in (
+      λ s h. c .container-len .ensures .0 ∙ own-container s (a .kind) (a .first) (a .second) (a .level) (c3 .if1 .left)
+          (sym (c2 .is-container .ensures) ∙ c .before .if2 .taken) (h (sym (c2 .is-container .ensures) ∙ c .before .if2 .taken)),
+      c .container-len .ensures .1,
+    )
 
 static-int-str-len-requires : tie.Need-static-int-str-len-requires
 static-int-str-len-requires c κs = search needs
@@ -30,7 +44,13 @@ add-result : tie.Need-add-result
 add-result c = omega (arith, decimal-fits (c .before .before .before .before .before .args .second) (omega arith))
 
 returns-3 : tie.Need-returns-3
-returns-3 c = let a = c .before .before .before .before .before .args in (λ s h. ap (λ (n : ℕ). 1 + n) (c .static-int-str-len .ensures) ∙ own-bits s (a .kind) (a .first) (a .second) (a .level) (c .before .if3 .taken), omega (arith, decimal-fits (a .second) (omega arith)))
+returns-3 c =
+    let c5 = c .before .before .before .before .before in
+    let a = c5 .args in (
+      λ s h. ap (λ (n : ℕ). 1 + n) (c .static-int-str-len .ensures)
+          ∙ own-bits s (a .kind) (a .first) (a .second) (a .level) (c .before .if3 .taken),
+      omega (arith, decimal-fits (a .second) (omega arith)),
+    )
 
 static-int-str-len-requires-2 : tie.Need-static-int-str-len-requires-2
 static-int-str-len-requires-2 c κs = search needs
@@ -42,16 +62,27 @@ static-int-str-len-requires-3 : tie.Need-static-int-str-len-requires-3
 static-int-str-len-requires-3 c κs = search needs
 
 add-result-3 : tie.Need-add-result-3
-add-result-3 c = omega (arith, decimal-fits (c .before .before .before .before .before .before .before .args .first) (omega arith), decimal-fits (c .before .before .before .before .before .before .before .args .second) (omega arith))
+add-result-3 c =
+    let c7 = c .before .before .before .before .before .before .before in
+    omega (arith, decimal-fits (c7 .args .first) (omega arith), decimal-fits (c7 .args .second) (omega arith))
 
 returns-4 : tie.Need-returns-4
-returns-4 c = let a = c .before .before .before .before .before .before .before .args in (λ s h. ap₂ (λ (m n : ℕ). 1 + m + n) (c .before .static-int-str-len2 .ensures) (c .static-int-str-len3 .ensures) ∙ own-typed s (a .kind) (a .first) (a .second) (a .level) (c .before .before .if4 .taken), omega (arith, decimal-fits (a .first) (omega arith), decimal-fits (a .second) (omega arith)))
+returns-4 c =
+    let c2 = c .before .before in
+    let c7 = c2 .before .before .before .before .before in
+    let a = c7 .args in (
+      λ s h. ap₂ (λ (m n : ℕ). 1 + m + n) (c .before .static-int-str-len2 .ensures) (c .static-int-str-len3 .ensures)
+          ∙ own-typed s (a .kind) (a .first) (a .second) (a .level) (c2 .if4 .taken),
+      omega (arith, decimal-fits (a .first) (omega arith), decimal-fits (a .second) (omega arith)),
+    )
 
 returns-5 : tie.Need-returns-5
-returns-5 c = let a = c .before .before .before .before .before .before .args in (λ s h. own-pointer s (a .kind) (a .first) (a .second) (a .level) (c .if5 .taken), omega arith)
+returns-5 c = let a = c .before .before .before .before .before .before .args
+    in (λ s h. own-pointer s (a .kind) (a .first) (a .second) (a .level) (c .if5 .taken), omega arith)
 
 returns-6 : tie.Need-returns-6
-returns-6 c = let a = c .before .before .before .before .before .before .before .args in (λ s h. own-atomic s (a .kind) (a .first) (a .second) (a .level) (c .if6 .taken), omega arith)
+returns-6 c = let a = c .before .before .before .before .before .before .before .args
+    in (λ s h. own-atomic s (a .kind) (a .first) (a .second) (a .level) (c .if6 .taken), omega arith)
 
 static-int-str-len-requires-4 : tie.Need-static-int-str-len-requires-4
 static-int-str-len-requires-4 c κs = search needs
@@ -60,10 +91,28 @@ add-result-4 : tie.Need-add-result-4
 add-result-4 c = omega (arith, decimal-fits (c .before .before .before .before .before .before .before .before .before .args .first) (omega arith))
 
 returns-7 : tie.Need-returns-7
-returns-7 c = let a = c .before .before .before .before .before .before .before .before .before .args in (λ s h. ap (λ (n : ℕ). 2 + n) (c .static-int-str-len4 .ensures) ∙ own-array s (a .kind) (a .first) (a .second) (a .level) (c .before .if7 .taken), omega (arith, decimal-fits (a .first) (omega arith)))
+returns-7 c =
+    let c9 = c .before .before .before .before .before .before .before .before .before in
+    let a = c9 .args in (
+      λ s h. ap (λ (n : ℕ). 2 + n) (c .static-int-str-len4 .ensures)
+          ∙ own-array s (a .kind) (a .first) (a .second) (a .level) (c .before .if7 .taken),
+      omega (arith, decimal-fits (a .first) (omega arith)),
+    )
 
 returns-8 : tie.Need-returns-8
-returns-8 c = let a = c .before .before .before .before .before .before .before .before .args in (λ s h. own-none s (a .kind) (a .first) (a .second) (a .level) (c .before .before .before .before .before .before .before .if1 .left) (sym (c .before .before .before .before .before .before .is-container .ensures) ∙ c .before .before .before .before .before .if2 .left) (c .before .before .before .before .if3 .left) (c .before .before .before .if4 .left) (c .before .before .if5 .left) (c .before .if6 .left) (c .if7 .left), omega arith)
+returns-8 c =
+    let c2 = c .before .before in
+    let c3 = c2 .before in
+    let c4 = c3 .before in
+    let c5 = c4 .before in
+    let c6 = c5 .before in
+    let c7 = c6 .before in
+    let c8 = c7 .before in
+    let a = c8 .args in (
+      λ s h. own-none s (a .kind) (a .first) (a .second) (a .level) (c7 .if1 .left) (sym (c6 .is-container .ensures) ∙ c5 .if2 .left)
+          (c4 .if3 .left) (c3 .if4 .left) (c2 .if5 .left) (c .before .if6 .left) (c .if7 .left),
+      omega arith,
+    )
 
 pub node-len-spec : {M : Type 1} → statement M
 node-len-spec =

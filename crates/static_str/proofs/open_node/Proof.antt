@@ -11,19 +11,32 @@ use Rattle.static_str.proofs.open_node.Statement.{statement}
 use Rattle.static_str.proofs.open_node.Tie as tie
 
 put-code-requires : tie.Need-put-code-requires
-put-code-requires c κs = let a = c .before .before .before .before .args in omega (arith, ap length (opening-primitive (a .names .now) (a .kind) (a .first) (a .second) (a .level) (c .before .if1 .taken)), c .before .before .before .before .pre .1)
+put-code-requires c κs =
+    let c4 = c .before .before .before .before in
+    let a = c4 .args in omega (
+      arith,
+      ap length (opening-primitive (a .names .now) (a .kind) (a .first) (a .second) (a .level) (c .before .if1 .taken)),
+      c4 .pre .1,
+    )
 
 same-length : tie.Need-same-length
 same-length c = search needs
 
 returns : tie.Need-returns
-returns c = let a = c .before .before .before .before .before .before .before .args in wrote-same (sym (opening-primitive (a .names .now) (a .kind) (a .first) (a .second) (a .level) (c .before .before .before .before .if1 .taken))) (c .before .before .put-code .ensures)
+returns c =
+    let c2 = c .before .before in
+    let c4 = c2 .before .before in
+    let c7 = c4 .before .before .before in
+    let a = c7 .args in wrote-same (sym (opening-primitive (a .names .now) (a .kind) (a .first) (a .second) (a .level) (c4 .if1 .taken)))
+    (c2 .put-code .ensures)
 
 is-container-requires : tie.Need-is-container-requires
 is-container-requires c κs = search needs
 
 add-to : tie.Need-add-to
-add-to c = omega (arith, c .before .before .before .before .before .pre .0 (sym (c .before .is-container .ensures) ∙ c .if2 .taken))
+add-to c =
+    let c5 = c .before .before .before .before .before in
+    omega (arith, c5 .pre .0 (sym (c .before .is-container .ensures) ∙ c .if2 .taken))
 
 container-of-requires : tie.Need-container-of-requires
 container-of-requires c κs = search needs
@@ -35,70 +48,144 @@ part-open-container-start : tie.Need-part-open-container-start
 part-open-container-start c = search needs
 
 part-open-container-end : tie.Need-part-open-container-end
-part-open-container-end c = omega (arith, c .before .before .before .before .before .before .pre .0 (sym (c .before .before .is-container .ensures) ∙ c .before .if2 .taken))
+part-open-container-end c =
+    let c2 = c .before .before in
+    let c6 = c2 .before .before .before .before in
+    omega (arith, c6 .pre .0 (sym (c2 .is-container .ensures) ∙ c .before .if2 .taken))
 
 open-container-requires : tie.Need-open-container-requires
-open-container-requires c κs = let a = c .before .before .before .before .before .before .before .before .args in omega (arith, ap length (opening-slice (a .names .now) (a .kind) (a .first) (a .second) (a .level) _ (c .before .before .container-of .ensures) (c .before .before .before .before .before .if1 .left) (sym (c .before .before .before .before .is-container .ensures) ∙ c .before .before .before .if2 .taken)), c .before .before .before .before .before .before .before .before .pre .1)
+open-container-requires c κs =
+    let c2 = c .before .before in
+    let c3 = c2 .before in
+    let c4 = c3 .before in
+    let c5 = c4 .before in
+    let c8 = c5 .before .before .before in
+    let a = c8 .args in omega (
+      arith,
+      ap length (opening-slice (a .names .now) (a .kind) (a .first) (a .second) (a .level) _ (c2 .container-of .ensures)
+          (c5 .if1 .left) (sym (c4 .is-container .ensures) ∙ c3 .if2 .taken)),
+      c8 .pre .1,
+    )
 
 same-length-2 : tie.Need-same-length-2
 same-length-2 c = search needs
 
 returns-2 : tie.Need-returns-2
-returns-2 c = let a = c .before .before .before .before .before .before .before .before .before .before .before .args in wrote-same (opening-slice (a .names .now) (a .kind) (a .first) (a .second) (a .level) _ (c .before .before .before .before .before .container-of .ensures) (c .before .before .before .before .before .before .before .before .if1 .left) (sym (c .before .before .before .before .before .before .before .is-container .ensures) ∙ c .before .before .before .before .before .before .if2 .taken)) (c .before .before .open-container .ensures)
+returns-2 c =
+    let c2 = c .before .before in
+    let c5 = c2 .before .before .before in
+    let c6 = c5 .before in
+    let c7 = c6 .before in
+    let c8 = c7 .before in
+    let c11 = c8 .before .before .before in
+    let a = c11 .args in wrote-same (opening-slice (a .names .now) (a .kind) (a .first) (a .second) (a .level) _ (c5 .container-of .ensures) (c8 .if1 .left)
+    (sym (c7 .is-container .ensures) ∙ c6 .if2 .taken)) (c2 .open-container .ensures)
 
 put-tagged-requires : tie.Need-put-tagged-requires
-put-tagged-requires c κs = let a = c .before .before .before .before .before .before .before .args in omega (arith, ap length (opening-bits (a .names .now) (a .kind) (a .first) (a .second) (a .level) (c .before .if3 .taken)), c .before .before .before .before .before .before .before .pre .1)
+put-tagged-requires c κs =
+    let c7 = c .before .before .before .before .before .before .before in
+    let a = c7 .args in omega (arith, ap length (opening-bits (a .names .now) (a .kind) (a .first) (a .second) (a .level) (c .before .if3 .taken)), c7 .pre .1)
 
 same-length-3 : tie.Need-same-length-3
 same-length-3 c = search needs
 
 returns-3 : tie.Need-returns-3
-returns-3 c = let a = c .before .before .before .before .before .before .before .before .before .before .args in wrote-same (sym (opening-bits (a .names .now) (a .kind) (a .first) (a .second) (a .level) (c .before .before .before .before .if3 .taken))) (c .before .before .put-tagged .ensures)
+returns-3 c =
+    let c2 = c .before .before in
+    let c4 = c2 .before .before in
+    let c10 = c4 .before .before .before .before .before .before in
+    let a = c10 .args in wrote-same (sym (opening-bits (a .names .now) (a .kind) (a .first) (a .second) (a .level) (c4 .if3 .taken))) (c2 .put-tagged .ensures)
 
 put-tagged-requires-2 : tie.Need-put-tagged-requires-2
-put-tagged-requires-2 c κs = let a = c .before .before .before .before .before .before .before .before .args in omega (arith, ap length (opening-typed (a .names .now) (a .kind) (a .first) (a .second) (a .level) (c .before .if4 .taken)), c .before .before .before .before .before .before .before .before .pre .1)
+put-tagged-requires-2 c κs =
+    let c8 = c .before .before .before .before .before .before .before .before in
+    let a = c8 .args in omega (arith, ap length (opening-typed (a .names .now) (a .kind) (a .first) (a .second) (a .level) (c .before .if4 .taken)), c8 .pre .1)
 
 same-length-4 : tie.Need-same-length-4
 same-length-4 c = search needs
 
 returns-4 : tie.Need-returns-4
-returns-4 c = let a = c .before .before .before .before .before .before .before .before .before .before .before .args in wrote-same (sym (opening-typed (a .names .now) (a .kind) (a .first) (a .second) (a .level) (c .before .before .before .before .if4 .taken))) (c .before .before .put-tagged2 .ensures)
+returns-4 c =
+    let c2 = c .before .before in
+    let c4 = c2 .before .before in
+    let c11 = c4 .before .before .before .before .before .before .before in
+    let a = c11 .args in wrote-same (sym (opening-typed (a .names .now) (a .kind) (a .first) (a .second) (a .level) (c4 .if4 .taken)))
+    (c2 .put-tagged2 .ensures)
 
 prefix-byte-requires : tie.Need-prefix-byte-requires
 prefix-byte-requires c κs = search needs
 
 put-requires : tie.Need-put-requires
-put-requires c κs = let a = c .before .before .before .before .before .before .before .before .before .before .args in omega (arith, ap length (opening-pointer (a .names .now) (a .kind) (a .first) (a .second) (a .level) (c .before .before .if5 .taken)), c .before .before .before .before .before .before .before .before .before .before .pre .1)
+put-requires c κs =
+    let c2 = c .before .before in
+    let c10 = c2 .before .before .before .before .before .before .before .before in
+    let a = c10 .args in omega (arith, ap length (opening-pointer (a .names .now) (a .kind) (a .first) (a .second) (a .level) (c2 .if5 .taken)), c10 .pre .1)
 
 same-length-5 : tie.Need-same-length-5
 same-length-5 c = search needs
 
 returns-5 : tie.Need-returns-5
-returns-5 c = let a = c .before .before .before .before .before .before .before .before .before .before .before .before .before .args in wrote-same (sym (opening-pointer (a .names .now) (a .kind) (a .first) (a .second) (a .level) (c .before .before .before .before .before .if5 .taken))) (wrote-same (ap (λ (x : ℕ). x ∷ []) (c .before .before .before .prefix-byte .ensures)) (c .before .before .put .ensures))
+returns-5 c =
+    let c2 = c .before .before in
+    let c3 = c2 .before in
+    let c5 = c3 .before .before in
+    let c13 = c5 .before .before .before .before .before .before .before .before in
+    let a = c13 .args in wrote-same (sym (opening-pointer (a .names .now) (a .kind) (a .first) (a .second) (a .level) (c5 .if5 .taken)))
+    (wrote-same (ap (λ (x : ℕ). x ∷ []) (c3 .prefix-byte .ensures)) (c2 .put .ensures))
 
 prefix-byte-requires-2 : tie.Need-prefix-byte-requires-2
 prefix-byte-requires-2 c κs = search needs
 
 put-requires-2 : tie.Need-put-requires-2
-put-requires-2 c κs = let a = c .before .before .before .before .before .before .before .before .before .before .before .args in omega (arith, ap length (opening-atomic (a .names .now) (a .kind) (a .first) (a .second) (a .level) (c .before .before .if6 .taken)), c .before .before .before .before .before .before .before .before .before .before .before .pre .1)
+put-requires-2 c κs =
+    let c2 = c .before .before in
+    let c11 = c2 .before .before .before .before .before .before .before .before .before in
+    let a = c11 .args in omega (arith, ap length (opening-atomic (a .names .now) (a .kind) (a .first) (a .second) (a .level) (c2 .if6 .taken)), c11 .pre .1)
 
 same-length-6 : tie.Need-same-length-6
 same-length-6 c = search needs
 
 returns-6 : tie.Need-returns-6
-returns-6 c = let a = c .before .before .before .before .before .before .before .before .before .before .before .before .before .before .args in wrote-same (sym (opening-atomic (a .names .now) (a .kind) (a .first) (a .second) (a .level) (c .before .before .before .before .before .if6 .taken))) (wrote-same (ap (λ (x : ℕ). x ∷ []) (c .before .before .before .prefix-byte2 .ensures)) (c .before .before .put2 .ensures))
+returns-6 c =
+    let c2 = c .before .before in
+    let c3 = c2 .before in
+    let c5 = c3 .before .before in
+    let c14 = c5 .before .before .before .before .before .before .before .before .before in
+    let a = c14 .args in wrote-same (sym (opening-atomic (a .names .now) (a .kind) (a .first) (a .second) (a .level) (c5 .if6 .taken)))
+    (wrote-same (ap (λ (x : ℕ). x ∷ []) (c3 .prefix-byte2 .ensures)) (c2 .put2 .ensures))
 
 put-tagged-requires-3 : tie.Need-put-tagged-requires-3
-put-tagged-requires-3 c κs = let a = c .before .before .before .before .before .before .before .before .before .before .before .args in omega (arith, ap length (opening-array (a .names .now) (a .kind) (a .first) (a .second) (a .level) (c .before .if7 .taken)), c .before .before .before .before .before .before .before .before .before .before .before .pre .1)
+put-tagged-requires-3 c κs =
+    let c11 = c .before .before .before .before .before .before .before .before .before .before .before in
+    let a = c11 .args in omega (
+      arith,
+      ap length (opening-array (a .names .now) (a .kind) (a .first) (a .second) (a .level) (c .before .if7 .taken)),
+      c11 .pre .1,
+    )
 
 same-length-7 : tie.Need-same-length-7
 same-length-7 c = search needs
 
 returns-7 : tie.Need-returns-7
-returns-7 c = let a = c .before .before .before .before .before .before .before .before .before .before .before .before .before .before .args in wrote-same (sym (opening-array (a .names .now) (a .kind) (a .first) (a .second) (a .level) (c .before .before .before .before .if7 .taken))) (c .before .before .put-tagged3 .ensures)
+returns-7 c =
+    let c2 = c .before .before in
+    let c4 = c2 .before .before in
+    let c14 = c4 .before .before .before .before .before .before .before .before .before .before in
+    let a = c14 .args in wrote-same (sym (opening-array (a .names .now) (a .kind) (a .first) (a .second) (a .level) (c4 .if7 .taken)))
+    (c2 .put-tagged3 .ensures)
 
 returns-8 : tie.Need-returns-8
-returns-8 c = let a = c .before .before .before .before .before .before .before .before .before .before .args in wrote-same (sym (opening-none (a .names .now) (a .kind) (a .first) (a .second) (a .level) (c .before .before .before .before .before .before .before .if1 .left) (sym (c .before .before .before .before .before .before .is-container .ensures) ∙ c .before .before .before .before .before .if2 .left) (c .before .before .before .before .if3 .left) (c .before .before .before .if4 .left) (c .before .before .if5 .left) (c .before .if6 .left) (c .if7 .left))) (wrote-none (a .out .now) (a .at))
+returns-8 c =
+    let c2 = c .before .before in
+    let c3 = c2 .before in
+    let c4 = c3 .before in
+    let c5 = c4 .before in
+    let c6 = c5 .before in
+    let c7 = c6 .before in
+    let c10 = c7 .before .before .before in
+    let a = c10 .args in wrote-same (sym (opening-none (a .names .now) (a .kind) (a .first) (a .second) (a .level) (c7 .if1 .left)
+    (sym (c6 .is-container .ensures) ∙ c5 .if2 .left) (c4 .if3 .left) (c3 .if4 .left) (c2 .if5 .left) (c .before .if6 .left) (c .if7 .left)))
+    (wrote-none (a .out .now) (a .at))
 
 pub open-node-spec : {M : Type 1} → statement M
 open-node-spec =

@@ -35,7 +35,16 @@ loop-less : tie.Need-loop-less Inv-loop μ-loop
 loop-less c = search needs
 
 loop-again : tie.Need-loop-again Inv-loop μ-loop
-loop-again c = let a = c .before .before .before .args in let h = c .before .before .loop .inv in (omega arith, simp length-set (h .1), ap (λ (o : List ℕ). set o (a .at + c .before .before .loop .i) (getD (a .s .now) (c .before .before .loop .i) 0)) (h .2) ∙ written-more (a .out .now) (a .s .now) (a .at) (c .before .before .loop .i) _ (c .before .before .before .pre) (c .before .loop-test .taken) refl)
+loop-again c =
+    let c2 = c .before .before in
+    let c3 = c2 .before in
+    let a = c3 .args in let h = c2 .loop .inv in (
+      omega arith,
+      simp length-set (h .1),
+      ap
+          (λ (o : List ℕ). set o (a .at + c2 .loop .i) (getD (a .s .now) (c2 .loop .i) 0)) (h .2)
+          ∙ written-more (a .out .now) (a .s .now) (a .at) (c2 .loop .i) _ (c3 .pre) (c .before .loop-test .taken) refl,
+    )
 
 add-result : tie.Need-add-result Inv-loop μ-loop
 add-result c = search needs
@@ -44,7 +53,10 @@ same-length : tie.Need-same-length Inv-loop μ-loop
 same-length c = search needs
 
 returns : tie.Need-returns Inv-loop μ-loop
-returns c = wrote-whole (c .before .before .args .out .now) _ (c .before .before .args .s .now) (c .before .before .args .at) (c .before .loop .i) (c .before .loop .inv .0) (c .loop-test .left) (c .before .loop .inv .2)
+returns c =
+    let c2 = c .before .before in
+    wrote-whole (c2 .args .out .now) _ (c2 .args .s .now) (c2 .args .at) (c .before .loop .i) (c .before .loop .inv .0) (c .loop-test .left)
+    (c .before .loop .inv .2)
 
 pub put-bytes-spec : {M : Type 1} → statement M
 put-bytes-spec =

@@ -15,7 +15,10 @@ enum-told : tie.Need-enum-told
 enum-told c = search needs
 
 put-requires : tie.Need-put-requires
-put-requires c κs = omega (arith, ap length (fields-shown (c .before .before .before .before .before .args .level) _ (sym (c .before .before .before .container-include-fields .ensures) ∙ c .before .enum-told .given .1)))
+put-requires c κs =
+    let c3 = c .before .before .before in
+    let c5 = c3 .before .before in
+    omega (arith, ap length (fields-shown (c5 .args .level) _ (sym (c3 .container-include-fields .ensures) ∙ c .before .enum-told .given .1)))
 
 enum-told-2 : tie.Need-enum-told-2
 enum-told-2 c = search needs
@@ -24,10 +27,19 @@ same-length : tie.Need-same-length
 same-length c = search needs
 
 returns : tie.Need-returns
-returns c = wrote-same (sym (fields-shown (c .before .before .before .before .before .before .before .before .args .level) _ (sym (c .before .before .before .before .before .before .container-include-fields .ensures) ∙ c .before .before .before .before .enum-told .given .1))) (c .before .before .put .ensures)
+returns c =
+    let c2 = c .before .before in
+    let c4 = c2 .before .before in
+    let c6 = c4 .before .before in
+    let c8 = c6 .before .before in
+    wrote-same (sym (fields-shown (c8 .args .level) _ (sym (c6 .container-include-fields .ensures) ∙ c4 .enum-told .given .1))) (c2 .put .ensures)
 
 returns-2 : tie.Need-returns-2
-returns-2 c = let a = c .before .before .before .before .args in wrote-same (sym (fields-hidden (a .level) (sym (c .before .before .container-include-fields .ensures) ∙ c .enum-told2 .given .1))) (wrote-none (a .out .now) (a .at))
+returns-2 c =
+    let c2 = c .before .before in
+    let c4 = c2 .before .before in
+    let a = c4 .args in wrote-same (sym (fields-hidden (a .level) (sym (c2 .container-include-fields .ensures) ∙ c .enum-told2 .given .1)))
+    (wrote-none (a .out .now) (a .at))
 
 pub put-equals-spec : {M : Type 1} → statement M
 put-equals-spec =

@@ -16,7 +16,11 @@ same-length : tie.Need-same-length
 same-length c = search needs
 
 returns : tie.Need-returns
-returns c = wrote-append (c .before .before .before .before .before .before .before .before .before .args .b ∷ []) (decimal (c .before .before .before .before .before .before .before .before .before .args .n)) (c .before .before .before .before .before .before .before .before .before .pre) (c .before .before .before .before .before .before .put .ensures) (c .before .before .put-number .ensures)
+returns c =
+    let c2 = c .before .before in
+    let c6 = c2 .before .before .before .before in
+    let c9 = c6 .before .before .before in
+    wrote-append (c9 .args .b ∷ []) (decimal (c9 .args .n)) (c9 .pre) (c6 .put .ensures) (c2 .put-number .ensures)
 
 pub put-tagged-spec : {M : Type 1} → statement M
 put-tagged-spec = tie.close (tie.spec put-requires put-number-requires same-length returns)

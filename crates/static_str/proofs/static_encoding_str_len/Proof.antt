@@ -1,8 +1,7 @@
--- `static_str::static_encoding_str_len` meets its contract. Assumes nothing.
-use mathlib.Core.Path.{sym, _∙_}
 use native.Mathlib.Omega.{arith}
 use Rattle.kinds.proofs.ListLaws.{whole}
-use Rattle.static_str.proofs.SheetTextLaws.{good-sheet, len-of, len-good, len-code}
+use Rattle.sheet.proofs.GivenLaws.{given-refused, given-code, given-nodes, nodes-part}
+use Rattle.static_str.proofs.AnswerLaws.{len-refused, len-code, len-nodes}
 use borrow.Author.Needs.{needs}
 use Rattle.static_str.proofs.static_encoding_str_len.Statement.{statement}
 use Rattle.static_str.proofs.static_encoding_str_len.Tie as tie
@@ -28,32 +27,34 @@ part-check-end-2 c = search needs
 check-requires : tie.Need-check-requires
 check-requires c κs = search needs
 
-enum-told : tie.Need-enum-told
-enum-told c = search needs
+enum-known-why : tie.Need-enum-known-why
+enum-known-why c = search needs
 
-enum-told-2 : tie.Need-enum-told-2
-enum-told-2 c = search needs
-
-enum-told-3 : tie.Need-enum-told-3
-enum-told-3 c = search needs
-
-shared-slice-read-kind : tie.Need-shared-slice-read-kind
-shared-slice-read-kind c = let g = good-sheet (c .before .before .before .before .before .before .before .before .args .words .now) (c .before .before .before .before .before .before .before .before .args .names .now) (sym (rw (whole, whole) at (c .before .before .before .check .ensures)) ∙ c .before .enum-told3 .given .1) in let r = g .room in let s = g .some in omega arith
+enum-known-kind : tie.Need-enum-known-kind
+enum-known-kind c = search needs
 
 code-len-requires : tie.Need-code-len-requires
-code-len-requires c κs = search needs
+code-len-requires c κs =
+    let c3 = c .before .before .before in
+    (given-code _ _ (rw (whole, whole) at (c3 .check .ensures .1)) (c .before .kind .given .1)) .code
 
-returns : tie.Need-returns
-returns c = len-code (c .before .before .before .before .before .before .before .before .before .before .args .words .now) (c .before .before .before .before .before .before .before .before .before .before .args .names .now) (sym (rw (whole, whole) at (c .before .before .before .before .before .check .ensures)) ∙ c .before .before .before .enum-told3 .given .1) (c .before .if1 .taken) _ (c .code-len .ensures .0)
+enum-known-first : tie.Need-enum-known-first
+enum-known-first c = search needs
 
-shared-slice-read-n : tie.Need-shared-slice-read-n
-shared-slice-read-n c = let g = good-sheet (c .before .before .before .before .before .before .before .before .before .before .args .words .now) (c .before .before .before .before .before .before .before .before .before .before .args .names .now) (sym (rw (whole, whole) at (c .before .before .before .before .before .check .ensures)) ∙ c .before .before .before .enum-told3 .given .1) in let r = g .room in let s = g .some in omega arith
+mul-trees-len : tie.Need-mul-trees-len
+mul-trees-len c =
+    let c3 = c .before .before .before in
+    let h = (given-nodes _ _ (rw (whole, whole) at (c3 .check .ensures .1)) (c .before .first .given .1)) in omega (arith, h .starts)
 
 sub-trees-len : tie.Need-sub-trees-len
-sub-trees-len c = let g = good-sheet (c .before .before .before .before .before .before .before .before .before .before .args .words .now) (c .before .before .before .before .before .before .before .before .before .before .args .names .now) (sym (rw (whole, whole) at (c .before .before .before .before .before .check .ensures)) ∙ c .before .before .before .enum-told3 .given .1) in let r = g .room in let s = g .some in omega arith
+sub-trees-len c =
+    let c3 = c .before .before .before in
+    let h = (given-nodes _ _ (rw (whole, whole) at (c3 .check .ensures .1)) (c .before .first .given .1)) in omega (arith, h .starts)
 
 part-trees-len-start : tie.Need-part-trees-len-start
-part-trees-len-start c = let g = good-sheet (c .before .before .before .before .before .before .before .before .before .before .args .words .now) (c .before .before .before .before .before .before .before .before .before .before .args .names .now) (sym (rw (whole, whole) at (c .before .before .before .before .before .check .ensures)) ∙ c .before .before .before .enum-told3 .given .1) in let r = g .room in let s = g .some in omega arith
+part-trees-len-start c =
+    let c3 = c .before .before .before in
+    let h = (given-nodes _ _ (rw (whole, whole) at (c3 .check .ensures .1)) (c .before .first .given .1)) in omega (arith, h .starts)
 
 part-trees-len-end : tie.Need-part-trees-len-end
 part-trees-len-end c = search needs
@@ -62,16 +63,32 @@ new-requires : tie.Need-new-requires
 new-requires c κs = search needs
 
 trees-len-requires : tie.Need-trees-len-requires
-trees-len-requires c κs = let g = good-sheet (c .before .before .before .before .before .before .before .before .before .before .before .before .args .words .now) (c .before .before .before .before .before .before .before .before .before .before .before .before .args .names .now) (sym (rw (whole, whole) at (c .before .before .before .before .before .before .before .check .ensures)) ∙ c .before .before .before .before .before .enum-told3 .given .1) in ((g .whole, g .few), g .short-names)
+trees-len-requires c κs =
+    let c3 = c .before .before .before in
+    let c5 = c3 .before .before in
+    let h = (nodes-part (given-nodes _ _ (rw (whole, whole) at (c5 .check .ensures .1)) (c3 .first .given .1))) in ((h .whole, h .few), h .short-names)
+
+returns : tie.Need-returns
+returns c =
+    let c3 = c .before .before .before in
+    let c8 = c3 .before .before .before .before .before in
+    len-refused (c8 .args .words .now) (c8 .args .names .now) (given-refused _ _ (rw (whole, whole) at (c3 .check .ensures .1)) (c .before .why .given .1))
 
 returns-2 : tie.Need-returns-2
-returns-2 c = sym (len-of (c .before .before .before .before .before .before .before .args .words .now) (c .before .before .before .before .before .before .before .args .names .now) (sym (rw (whole, whole) at (c .before .before .check .ensures)) ∙ c .enum-told .given .1))
+returns-2 c =
+    let c2 = c .before .before in
+    let c4 = c2 .before .before in
+    let c9 = c4 .before .before .before .before .before in
+    len-code (c9 .args .words .now) (c9 .args .names .now) (given-code _ _ (rw (whole, whole) at (c4 .check .ensures .1)) (c2 .kind .given .1))
+    (c .code-len .ensures .0)
 
 returns-3 : tie.Need-returns-3
-returns-3 c = sym (len-of (c .before .before .before .before .before .before .before .args .words .now) (c .before .before .before .before .before .before .before .args .names .now) (sym (rw (whole, whole) at (c .before .before .check .ensures)) ∙ c .enum-told2 .given .1))
-
-returns-4 : tie.Need-returns-4
-returns-4 c = len-good (c .before .before .before .before .before .before .before .before .before .before .before .before .before .args .words .now) (c .before .before .before .before .before .before .before .before .before .before .before .before .before .args .names .now) (sym (rw (whole, whole) at (c .before .before .before .before .before .before .before .before .check .ensures)) ∙ c .before .before .before .before .before .before .enum-told3 .given .1) _ (c .before .new .ensures) _ (c .trees-len .ensures .0)
+returns-3 c =
+    let c4 = c .before .before .before .before in
+    let c6 = c4 .before .before in
+    let c11 = c6 .before .before .before .before .before in
+    len-nodes (c11 .args .words .now) (c11 .args .names .now) _ _
+    (nodes-part (given-nodes _ _ (rw (whole, whole) at (c6 .check .ensures .1)) (c4 .first .given .1))) (c .before .new .ensures) (c .trees-len .ensures .0)
 
 pub static-encoding-str-len-spec : {M : Type 1} → statement M
 static-encoding-str-len-spec =
@@ -84,18 +101,16 @@ static-encoding-str-len-spec =
     part-check-start-2
     part-check-end-2
     check-requires
-    enum-told
-    enum-told-2
-    enum-told-3
-    shared-slice-read-kind
+    enum-known-why
+    enum-known-kind
     code-len-requires
-    returns
-    shared-slice-read-n
+    enum-known-first
+    mul-trees-len
     sub-trees-len
     part-trees-len-start
     part-trees-len-end
     new-requires
     trees-len-requires
+    returns
     returns-2
-    returns-3
-    returns-4)
+    returns-3)

@@ -24,7 +24,7 @@ rest-requires : tie.Need-rest-requires Inv-loop μ-loop
 rest-requires c κs = tt
 
 loop-less : tie.Need-loop-less Inv-loop μ-loop
-loop-less c = omega (arith, simp length-drop at (ap length (c .rest .ensures)), c .before .before .before .loop-test .taken)
+loop-less c = omega (arith, simp length-drop at (ap length (remains-bytes _ _ (c .rest .ensures))), c .before .before .before .loop-test .taken)
 
 loop-again : tie.Need-loop-again Inv-loop μ-loop
 loop-again c = tt

@@ -1,8 +1,6 @@
 use borrow.Author.Needs.{needs}
 use Rattle.kinds.proofs.NestingLevel.container_include_fields.Statement.{statement}
 use Rattle.kinds.proofs.NestingLevel.container_include_fields.Tie as tie
-use Rattle.kinds.proofs.NestingLevel.container_include_fields.Reads as reads
-use Rattle.kinds.proofs.NestingLevel.container_include_fields.Lts as lts
 
 enum-told : tie.Need-enum-told
 enum-told c = search needs

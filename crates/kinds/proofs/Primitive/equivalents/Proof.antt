@@ -3,10 +3,6 @@ use Rattle.kinds.specs.Primitive.{equivalent}
 use borrow.Author.Needs.{needs}
 use Rattle.kinds.proofs.Primitive.equivalents.Statement.{statement}
 use Rattle.kinds.proofs.Primitive.equivalents.Tie as tie
-use Rattle.kinds.proofs.Primitive.equivalents.Reads as reads
-use Rattle.kinds.proofs.Primitive.equivalents.Lts as lts
-use Rattle.kinds.proofs.Primitive.kind.Reads as kind-reads
-use Rattle.kinds.proofs.equivalent_kinds.Reads as equivalent-kinds-reads
 
 kind-requires : tie.Need-kind-requires
 kind-requires c κs = search needs

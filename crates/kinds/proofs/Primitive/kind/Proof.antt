@@ -1,8 +1,6 @@
 use borrow.Author.Needs.{needs}
 use Rattle.kinds.proofs.Primitive.kind.Statement.{statement}
 use Rattle.kinds.proofs.Primitive.kind.Tie as tie
-use Rattle.kinds.proofs.Primitive.kind.Reads as reads
-use Rattle.kinds.proofs.Primitive.kind.Lts as lts
 
 enum-told : tie.Need-enum-told
 enum-told c = search needs

@@ -3,10 +3,6 @@ use Rattle.kinds.specs.Primitive.{primitiveSize}
 use borrow.Author.Needs.{needs}
 use Rattle.kinds.proofs.Primitive.size.Statement.{statement}
 use Rattle.kinds.proofs.Primitive.size.Tie as tie
-use Rattle.kinds.proofs.Primitive.size.Reads as reads
-use Rattle.kinds.proofs.Primitive.size.Lts as lts
-use Rattle.kinds.proofs.Primitive.kind.Reads as kind-reads
-use Rattle.kinds.proofs.primitive_size.Reads as primitive-size-reads
 
 kind-requires : tie.Need-kind-requires
 kind-requires c κs = search needs

@@ -3,10 +3,6 @@ use Rattle.kinds.specs.Primitive.{code}
 use borrow.Author.Needs.{needs}
 use Rattle.kinds.proofs.Primitive.to_str.Statement.{statement}
 use Rattle.kinds.proofs.Primitive.to_str.Tie as tie
-use Rattle.kinds.proofs.Primitive.to_str.Reads as reads
-use Rattle.kinds.proofs.Primitive.to_str.Lts as lts
-use Rattle.kinds.proofs.Primitive.kind.Reads as kind-reads
-use Rattle.kinds.proofs.primitive_code.Reads as primitive-code-reads
 
 kind-requires : tie.Need-kind-requires
 kind-requires c κs = search needs

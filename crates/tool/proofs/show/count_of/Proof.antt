@@ -32,16 +32,21 @@ loop-less c = omega arith
 
 loop-again : tie.Need-loop-again Inv-loop μ-loop
 loop-again c =
-    let a = c .before .before .before .before .args in
-    let l = c .before .before .before .loop in
-    let h = c .before .before .loop-test .taken in
+    let c2 = c .before .before in
+    let c3 = c2 .before in
+    let c4 = c3 .before in
+    let a = c4 .args in
+    let l = c3 .loop in
+    let h = c2 .loop-test .taken in
     ⊎-elim
     (λ w. let e = counts (a .b) (a .s .now) (l .i) h (w .0 .taken) in let q = l .inv .0 in (omega arith, omega arith, omega arith))
     (λ w. let e = counts-not (a .b) (a .s .now) (l .i) h (w .0 .left) in let q = l .inv .0 in (omega arith, omega arith, omega arith))
     (c .if1 .came)
 
 returns : tie.Need-returns Inv-loop μ-loop
-returns c = let e = counts-end (c .before .before .args .b) (c .before .before .args .s .now) (c .before .loop .i) (c .loop-test .left) in let q = c .before .loop .inv .0 in omega arith
+returns c =
+    let c2 = c .before .before in
+    let e = counts-end (c2 .args .b) (c2 .args .s .now) (c .before .loop .i) (c .loop-test .left) in let q = c .before .loop .inv .0 in omega arith
 
 pub count-of-spec : {M : Type 1} → statement M
 count-of-spec =

@@ -48,16 +48,29 @@ loop-less c = omega arith
 
 loop-again : tie.Need-loop-again Inv-loop μ-loop
 loop-again c =
-    let a = c .before .before .before .before .before .args in
-    let l = c .before .before .before .loop in
+    let c3 = c .before .before .before in
+    let c5 = c3 .before .before in
+    let a = c5 .args in
+    let l = c3 .loop in
     ⊎-elim
-    (λ w. (w .1 ∙ ap (λ (k : ℕ). k + 1) (l .inv .0) ∙ holds (a .words .now) (a .i) (l .j) (subst (λ (k : ℕ). a .i - l .j < k) (c .before .word-at .ensures) (w .0 .taken)), omega arith, omega arith))
-    (λ w. (w .1 ∙ l .inv .0 ∙ holds-not (a .words .now) (a .i) (l .j) (subst (λ (k : ℕ). k ≤ a .i - l .j) (c .before .word-at .ensures) (w .0 .left)), omega arith, omega arith))
+    (λ w. (
+      w .1 ∙ ap (λ (k : ℕ). k + 1) (l .inv .0) ∙ holds (a .words .now) (a .i) (l .j)
+          (subst (λ (k : ℕ). a .i - l .j < k) (c .before .word-at .ensures) (w .0 .taken)),
+      omega arith,
+      omega arith,
+    ))
+    (λ w. (
+      w .1 ∙ l .inv .0 ∙ holds-not (a .words .now) (a .i) (l .j) (subst (λ (k : ℕ). k ≤ a .i - l .j) (c .before .word-at .ensures) (w .0 .left)),
+      omega arith,
+      omega arith,
+    ))
     (c .if1 .came)
 
 returns : tie.Need-returns Inv-loop μ-loop
 unfolding depthOf
-returns c = c .before .loop .inv .0 ∙ ap (holders (c .before .before .before .args .words .now) (c .before .before .before .args .i)) (omega arith)
+returns c =
+    let c3 = c .before .before .before in
+    c .before .loop .inv .0 ∙ ap (holders (c3 .args .nodes .now) (c3 .args .i)) (omega arith)
 
 pub depth-spec : {M : Type 1} → statement M
 depth-spec =

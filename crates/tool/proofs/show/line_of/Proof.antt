@@ -3,6 +3,8 @@ use Prim.Native.Nat.{_-_}
 use mathlib.Core.Path.{_≡_, refl, ap, _∙_}
 use native.Mathlib.Omega.{arith}
 use borrow.Author.Needs.{needs}
+use Rattle.lines.proofs.FieldLaws.{front-bytes}
+use Rattle.parser.proofs.PlaceLaws.{remains-bytes}
 use Rattle.tool.specs.Show.{lineOf}
 use Rattle.tool.proofs.ShowLaws.{line-more, line-here}
 use Rattle.tool.proofs.show.line_of.Statement.{statement}
@@ -27,13 +29,18 @@ loop-less : tie.Need-loop-less Inv-loop μ-loop
 loop-less c = omega arith
 
 loop-again : tie.Need-loop-again Inv-loop μ-loop
-loop-again c = ap (lineOf (c .before .before .loop .left - 1)) (c .rest .ensures) ∙ line-more (c .before .before .loop .left) (c .before .before .loop .unread .now) (c .before .loop-test .taken) ∙ c .before .before .loop .inv
+loop-again c =
+    let c2 = c .before .before in
+    ap (lineOf (c2 .loop .left - 1)) (remains-bytes _ _ (c .rest .ensures)) ∙ line-more (c2 .loop .left) (c2 .loop .unread .now) (c .before .loop-test .taken)
+    ∙ c2 .loop .inv
 
 field-requires : tie.Need-field-requires Inv-loop μ-loop
 field-requires c κs = search needs
 
 returns : tie.Need-returns Inv-loop μ-loop
-returns c = c .field .ensures ∙ line-here (c .before .before .loop .left) (c .before .before .loop .unread .now) (c .before .loop-test .left) ∙ c .before .before .loop .inv
+returns c =
+    let c2 = c .before .before in
+    front-bytes _ _ (c .field .ensures) ∙ line-here (c2 .loop .left) (c2 .loop .unread .now) (c .before .loop-test .left) ∙ c2 .loop .inv
 
 pub line-of-spec : {M : Type 1} → statement M
 line-of-spec =

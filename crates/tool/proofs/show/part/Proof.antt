@@ -4,6 +4,7 @@ use lib.ListN.{take}
 use Rattle.kinds.proofs.ListLaws.{part-rest}
 use Rattle.tool.proofs.ShowLaws.{take-none}
 use borrow.Author.Needs.{needs}
+use Rattle.lines.proofs.FieldLaws.{front-bytes}
 use Rattle.tool.proofs.show.part.Statement.{statement}
 use Rattle.tool.proofs.show.part.Tie as tie
 
@@ -20,13 +21,17 @@ front-requires : tie.Need-front-requires
 front-requires c κs = search needs
 
 returns : tie.Need-returns
-returns c = c .front .ensures ∙ ap (take (c .before .before .before .before .args .n)) (part-rest (c .before .before .before .before .args .s .now) (c .before .before .before .before .args .from))
+returns c =
+    let c4 = c .before .before .before .before in
+    front-bytes _ _ (c .front .ensures) ∙ ap (take (c4 .args .n)) (part-rest (c4 .args .s .now) (c4 .args .from))
 
 front-requires-2 : tie.Need-front-requires-2
 front-requires-2 c κs = search needs
 
 returns-2 : tie.Need-returns-2
-returns-2 c = c .front2 .ensures ∙ take-none (c .before .before .before .args .n) (c .before .before .before .args .from) (c .before .before .before .args .s .now) (c .before .if1 .left)
+returns-2 c =
+    let c3 = c .before .before .before in
+    c .front2 .ensures ∙ take-none (c3 .args .n) (c3 .args .from) (c3 .args .s .now) (c .before .if1 .left)
 
 pub part-spec : {M : Type 1} → statement M
 part-spec =

@@ -20,7 +20,12 @@ same-length : tie.Need-same-length
 same-length c = search needs
 
 returns : tie.Need-returns
-returns c = put-same (byte-itself (c .before .before .before .before .before .before .before .before .args .byte) (c .before .before .before .before .before .before .if1 .taken) (ltb-true (c .before .before .before .before .before .before .before .before .args .byte) 127 (c .before .before .before .before .before .if2 .taken))) (c .before .before .put-bytes .ensures)
+returns c =
+    let c2 = c .before .before in
+    let c5 = c2 .before .before .before in
+    let c6 = c5 .before in
+    let c8 = c6 .before .before in
+    put-same (byte-itself (c8 .args .byte) (c6 .if1 .taken) (ltb-true (c8 .args .byte) 127 (c5 .if2 .taken))) (c2 .put-bytes .ensures)
 
 slice-aggregate-put-bytes-2 : tie.Need-slice-aggregate-put-bytes-2
 slice-aggregate-put-bytes-2 c = search needs
@@ -36,9 +41,14 @@ same-length-2 c = search needs
 
 returns-2 : tie.Need-returns-2
 returns-2 c =
+    let c2 = c .before .before in
+    let c6 = c2 .before .before .before .before in
+    let c9 = c6 .before .before .before in
+    let c11 = c9 .before .before in
     put-same
-    (⊎-elim (λ w. byte-high (c .before .before .before .before .before .before .before .before .before .before .before .args .byte) (w .0 .taken) (ltb-false (c .before .before .before .before .before .before .before .before .before .before .before .args .byte) 127 (w .1 .left))) (λ w. byte-low (c .before .before .before .before .before .before .before .before .before .before .before .args .byte) (w .left)) (c .before .before .before .before .before .before .before .before .before .if1 .came))
-    (put-append _ _ (c .before .before .before .before .before .before .put-bytes2 .ensures) (c .before .before .put-number .ensures))
+    (⊎-elim (λ w. byte-high (c11 .args .byte) (w .0 .taken) (ltb-false (c11 .args .byte) 127 (w .1 .left))) (λ w. byte-low (c11 .args .byte) (w .left))
+    (c9 .if1 .came))
+    (put-append _ _ (c6 .put-bytes2 .ensures) (c2 .put-number .ensures))
 
 pub put-byte-spec : {M : Type 1} → statement M
 put-byte-spec =

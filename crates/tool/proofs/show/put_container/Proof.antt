@@ -15,7 +15,11 @@ same-length : tie.Need-same-length
 same-length c = search needs
 
 returns : tie.Need-returns
-returns c = put-same (container-union (c .before .before .before .before .before .before .before .args .kind) (c .before .before .before .before .before .if1 .taken)) (c .before .before .put-bytes .ensures)
+returns c =
+    let c2 = c .before .before in
+    let c5 = c2 .before .before .before in
+    let c7 = c5 .before .before in
+    put-same (container-union (c7 .args .kind) (c5 .if1 .taken)) (c2 .put-bytes .ensures)
 
 slice-aggregate-put-bytes-2 : tie.Need-slice-aggregate-put-bytes-2
 slice-aggregate-put-bytes-2 c = search needs
@@ -27,7 +31,11 @@ same-length-2 : tie.Need-same-length-2
 same-length-2 c = search needs
 
 returns-2 : tie.Need-returns-2
-returns-2 c = put-same (container-struct (c .before .before .before .before .before .before .before .args .kind) (c .before .before .before .before .before .if1 .left)) (c .before .before .put-bytes2 .ensures)
+returns-2 c =
+    let c2 = c .before .before in
+    let c5 = c2 .before .before .before in
+    let c7 = c5 .before .before in
+    put-same (container-struct (c7 .args .kind) (c5 .if1 .left)) (c2 .put-bytes2 .ensures)
 
 pub put-container-spec : {M : Type 1} → statement M
 put-container-spec =

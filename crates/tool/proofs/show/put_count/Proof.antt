@@ -21,7 +21,13 @@ same-length : tie.Need-same-length
 same-length c = search needs
 
 returns : tie.Need-returns
-returns c = put-same (count-one (c .before .before .before .before .before .before .before .before .before .before .before .before .before .before .before .before .args .n) (c .before .before .before .before .before .before .before .before .before .before .before .before .before .before .before .before .args .unit .now) (c .if1 .taken)) (put-append _ _ (c .before .before .before .before .before .before .before .before .before .before .before .before .put-number .ensures) (put-append _ _ (c .before .before .before .before .before .before .before .put-bytes .ensures) (c .before .before .before .put-bytes2 .ensures)))
+returns c =
+    let c3 = c .before .before .before in
+    let c7 = c3 .before .before .before .before in
+    let c12 = c7 .before .before .before .before .before in
+    let c16 = c12 .before .before .before .before in
+    put-same (count-one (c16 .args .n) (c16 .args .unit .now) (c .if1 .taken))
+    (put-append _ _ (c12 .put-number .ensures) (put-append _ _ (c7 .put-bytes .ensures) (c3 .put-bytes2 .ensures)))
 
 slice-aggregate-put-bytes-2 : tie.Need-slice-aggregate-put-bytes-2
 slice-aggregate-put-bytes-2 c = search needs
@@ -33,7 +39,16 @@ same-length-2 : tie.Need-same-length-2
 same-length-2 c = search needs
 
 returns-2 : tie.Need-returns-2
-returns-2 c = put-same (count-more (c .before .before .before .before .before .before .before .before .before .before .before .before .before .before .before .before .before .before .before .before .before .args .n) (c .before .before .before .before .before .before .before .before .before .before .before .before .before .before .before .before .before .before .before .before .before .args .unit .now) (c .before .before .before .before .before .if1 .left)) (put-append _ _ (c .before .before .before .before .before .before .before .before .before .before .before .before .before .before .before .before .before .put-number .ensures) (put-append _ _ (c .before .before .before .before .before .before .before .before .before .before .before .before .put-bytes .ensures) (put-append _ _ (c .before .before .before .before .before .before .before .before .put-bytes2 .ensures) (c .before .before .put-bytes3 .ensures))))
+returns-2 c =
+    let c2 = c .before .before in
+    let c5 = c2 .before .before .before in
+    let c8 = c5 .before .before .before in
+    let c12 = c8 .before .before .before .before in
+    let c17 = c12 .before .before .before .before .before in
+    let c21 = c17 .before .before .before .before in
+    put-same (count-more (c21 .args .n) (c21 .args .unit .now) (c5 .if1 .left))
+    (put-append _ _ (c17 .put-number .ensures) (put-append _ _ (c12 .put-bytes .ensures)
+    (put-append _ _ (c8 .put-bytes2 .ensures) (c2 .put-bytes3 .ensures))))
 
 pub put-count-spec : {M : Type 1} → statement M
 put-count-spec =

@@ -16,7 +16,10 @@ same-length c = search needs
 
 returns : tie.Need-returns
 unfolding kindNames
-returns c = put-same (c .before .before .before .line-of .ensures) (c .before .before .put-bytes .ensures)
+returns c =
+    let c2 = c .before .before in
+    let c3 = c2 .before in
+    put-same (c3 .line-of .ensures) (c2 .put-bytes .ensures)
 
 pub put-kind-spec : {M : Type 1} → statement M
 put-kind-spec = tie.close (tie.spec line-of-requires put-bytes-requires same-length returns)

@@ -6,7 +6,9 @@ use Rattle.tool.proofs.show.put_mark.Statement.{statement}
 use Rattle.tool.proofs.show.put_mark.Tie as tie
 
 returns : tie.Need-returns
-returns c = put-same (mark-none (c .before .before .args .number) (c .before .before .args .place) (c .if1 .taken)) (put-none _ _)
+returns c =
+    let c2 = c .before .before in
+    put-same (mark-none (c2 .args .number) (c2 .args .place) (c .if1 .taken)) (put-none _ _)
 
 slice-aggregate-put-bytes : tie.Need-slice-aggregate-put-bytes
 slice-aggregate-put-bytes c = search needs
@@ -30,7 +32,14 @@ same-length : tie.Need-same-length
 same-length c = search needs
 
 returns-2 : tie.Need-returns-2
-returns-2 c = put-same (mark-under (c .before .before .before .before .before .before .before .before .before .before .before .before .before .before .before .before .before .args .number) (c .before .before .before .before .before .before .before .before .before .before .before .before .before .before .before .before .before .args .place) (c .before .before .before .before .before .before .before .before .before .before .before .before .before .before .before .if1 .left)) (put-append _ _ (c .before .before .before .before .before .before .before .before .before .before .before .before .put-bytes .ensures) (put-append _ _ (c .before .before .before .before .before .before .before .put-times .ensures) (c .before .before .put-bytes2 .ensures)))
+returns-2 c =
+    let c2 = c .before .before in
+    let c7 = c2 .before .before .before .before .before in
+    let c12 = c7 .before .before .before .before .before in
+    let c15 = c12 .before .before .before in
+    let c17 = c15 .before .before in
+    put-same (mark-under (c17 .args .number) (c17 .args .place) (c15 .if1 .left))
+    (put-append _ _ (c12 .put-bytes .ensures) (put-append _ _ (c7 .put-times .ensures) (c2 .put-bytes2 .ensures)))
 
 pub put-mark-spec : {M : Type 1} → statement M
 put-mark-spec =

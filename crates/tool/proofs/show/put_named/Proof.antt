@@ -16,22 +16,37 @@ same-length : tie.Need-same-length
 same-length c = search needs
 
 returns : tie.Need-returns
-returns c = put-same (named-byte (c .before .before .before .before .before .before .before .args .number) (c .before .before .before .before .before .before .before .args .byte) (c .before .before .before .before .before .before .before .args .container) (omega arith) (omega arith)) (c .before .before .put-byte .ensures)
+returns c =
+    let c2 = c .before .before in
+    let c7 = c2 .before .before .before .before .before in
+    put-same (named-byte (c7 .args .number) (c7 .args .byte) (c7 .args .container) (omega arith) (omega arith)) (c2 .put-byte .ensures)
 
 same-length-2 : tie.Need-same-length-2
 same-length-2 c = search needs
 
 returns-2 : tie.Need-returns-2
-returns-2 c = put-same (named-container (c .before .before .before .before .before .before .before .before .before .args .number) (c .before .before .before .before .before .before .before .before .before .args .byte) (c .before .before .before .before .before .before .before .before .before .args .container) (omega arith) (omega arith)) (c .before .before .put-container .ensures)
+returns-2 c =
+    let c2 = c .before .before in
+    let c9 = c2 .before .before .before .before .before .before .before in
+    put-same (named-container (c9 .args .number) (c9 .args .byte) (c9 .args .container) (omega arith) (omega arith)) (c2 .put-container .ensures)
 
 returns-3 : tie.Need-returns-3
-returns-3 c = put-same (named-none (c .before .before .args .number) (c .before .before .args .byte) (c .before .before .args .container) (λ e. absurd (omega (arith, e))) (λ e. absurd (omega (arith, e))) (λ e. absurd (omega (arith, e))) (λ e. absurd (omega (arith, e)))) (put-none _ _)
+returns-3 c =
+    let c2 = c .before .before in
+    put-same (named-none (c2 .args .number) (c2 .args .byte) (c2 .args .container) (λ e. absurd (omega (arith, e))) (λ e. absurd (omega (arith, e)))
+    (λ e. absurd (omega (arith, e))) (λ e. absurd (omega (arith, e)))) (put-none _ _)
 
 returns-4 : tie.Need-returns-4
-returns-4 c = put-same (named-none (c .before .before .before .before .args .number) (c .before .before .before .before .args .byte) (c .before .before .before .before .args .container) (λ e. absurd (omega (arith, e))) (λ e. absurd (omega (arith, e))) (λ e. absurd (omega (arith, e))) (λ e. absurd (omega (arith, e)))) (put-none _ _)
+returns-4 c =
+    let c4 = c .before .before .before .before in
+    put-same (named-none (c4 .args .number) (c4 .args .byte) (c4 .args .container) (λ e. absurd (omega (arith, e))) (λ e. absurd (omega (arith, e)))
+    (λ e. absurd (omega (arith, e))) (λ e. absurd (omega (arith, e)))) (put-none _ _)
 
 returns-5 : tie.Need-returns-5
-returns-5 c = put-same (named-none (c .before .before .before .before .before .args .number) (c .before .before .before .before .before .args .byte) (c .before .before .before .before .before .args .container) (λ e. absurd (omega (arith, e))) (λ e. absurd (omega (arith, e))) (λ e. absurd (omega (arith, e))) (λ e. absurd (omega (arith, e)))) (put-none _ _)
+returns-5 c =
+    let c5 = c .before .before .before .before .before in
+    put-same (named-none (c5 .args .number) (c5 .args .byte) (c5 .args .container) (λ e. absurd (omega (arith, e))) (λ e. absurd (omega (arith, e)))
+    (λ e. absurd (omega (arith, e))) (λ e. absurd (omega (arith, e)))) (put-none _ _)
 
 pub put-named-spec : {M : Type 1} → statement M
 put-named-spec =

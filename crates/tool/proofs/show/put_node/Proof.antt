@@ -54,7 +54,21 @@ same-length : tie.Need-same-length
 same-length c = search needs
 
 returns : tie.Need-returns
-returns c = put-same (node-is (c .before .before .before .before .before .before .before .before .before .before .before .before .before .before .before .before .before .before .before .before .before .before .before .before .before .before .before .before .before .args .words .now) (c .before .before .before .before .before .before .before .before .before .before .before .before .before .before .before .before .before .before .before .before .before .before .before .before .before .before .before .before .before .args .names .now) (c .before .before .before .before .before .before .before .before .before .before .before .before .before .before .before .before .before .before .before .before .before .before .before .before .before .before .before .before .before .args .i) (c .before .before .before .before .before .before .before .before .before .before .before .before .before .before .before .before .before .before .before .before .before .before .before .before .before .before .before .before .before .args .last) (c .before .before .before .before .before .before .before .before .before .before .before .before .before .before .depth .result) (c .before .before .before .before .before .before .before .before .before .before .word-at .result) (c .before .before .before .before .before .before .before .before .before .word-at2 .result) (c .before .before .before .before .before .before .before .before .word-at3 .result) (c .before .before .before .before .before .before .before .before .before .before .before .before .before .before .depth .ensures) (c .before .before .before .before .before .before .before .before .before .before .word-at .ensures) (c .before .before .before .before .before .before .before .before .before .word-at2 .ensures) (c .before .before .before .before .before .before .before .before .word-at3 .ensures)) (put-append _ _ (c .before .before .before .before .before .before .before .before .before .before .before .before .before .before .before .before .before .before .before .before .before .before .before .before .put-right .ensures) (put-append _ _ (c .before .before .before .before .before .before .before .before .before .before .before .before .before .before .before .before .before .before .before .put-bytes .ensures) (put-append _ _ (c .before .before .before .before .before .before .before .before .before .before .before .before .before .put-times .ensures) (put-append _ _ (c .before .before .before .before .before .before .put-kind .ensures) (c .before .before .put-values .ensures)))))
+returns c =
+    let c2 = c .before .before in
+    let c6 = c2 .before .before .before .before in
+    let c8 = c6 .before .before in
+    let c9 = c8 .before in
+    let c10 = c9 .before in
+    let c13 = c10 .before .before .before in
+    let c14 = c13 .before in
+    let c19 = c14 .before .before .before .before .before in
+    let c24 = c19 .before .before .before .before .before in
+    let c29 = c24 .before .before .before .before .before in
+    put-same (node-is (c29 .args .nodes .now) (c29 .args .names .now) (c29 .args .i) (c29 .args .last) (c14 .depth .result) (c10 .word-at .result)
+    (c9 .word-at2 .result) (c8 .word-at3 .result) (c14 .depth .ensures) (c10 .word-at .ensures) (c9 .word-at2 .ensures) (c8 .word-at3 .ensures))
+    (put-append _ _ (c24 .put-right .ensures) (put-append _ _ (c19 .put-bytes .ensures)
+    (put-append _ _ (c13 .put-times .ensures) (put-append _ _ (c6 .put-kind .ensures) (c2 .put-values .ensures)))))
 
 pub put-node-spec : {M : Type 1} → statement M
 put-node-spec =

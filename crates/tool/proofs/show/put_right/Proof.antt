@@ -27,7 +27,14 @@ same-length : tie.Need-same-length
 same-length c = search needs
 
 returns : tie.Need-returns
-returns c = put-same (right-short (c .before .before .before .before .before .before .before .before .before .before .before .before .before .args .n) (c .before .before .before .before .before .before .before .before .before .before .before .before .before .args .widest) (c .before .before .before .before .before .before .before .before .before .before .static-int-str-len2 .result) (c .before .before .before .before .before .before .before .before .before .before .before .static-int-str-len .result) (c .before .before .before .before .before .before .before .before .before .before .static-int-str-len2 .ensures) (c .before .before .before .before .before .before .before .before .before .before .before .static-int-str-len .ensures)) (put-append _ _ (c .before .before .before .before .before .before .put-times .ensures) (c .before .before .put-number .ensures))
+returns c =
+    let c2 = c .before .before in
+    let c6 = c2 .before .before .before .before in
+    let c10 = c6 .before .before .before .before in
+    let c11 = c10 .before in
+    let c13 = c11 .before .before in
+    put-same (right-short (c13 .args .n) (c13 .args .widest) (c10 .static-int-str-len2 .result) (c11 .static-int-str-len .result)
+    (c10 .static-int-str-len2 .ensures) (c11 .static-int-str-len .ensures)) (put-append _ _ (c6 .put-times .ensures) (c2 .put-number .ensures))
 
 put-number-requires-2 : tie.Need-put-number-requires-2
 put-number-requires-2 c κs = search needs
@@ -36,7 +43,14 @@ same-length-2 : tie.Need-same-length-2
 same-length-2 c = search needs
 
 returns-2 : tie.Need-returns-2
-returns-2 c = put-same (right-wide (c .before .before .before .before .before .before .before .before .args .n) (c .before .before .before .before .before .before .before .before .args .widest) (c .before .before .before .before .before .static-int-str-len2 .result) (c .before .before .before .before .before .before .static-int-str-len .result) (c .before .before .before .before .before .static-int-str-len2 .ensures) (c .before .before .before .before .before .before .static-int-str-len .ensures) (c .before .before .before .before .if1 .left)) (c .before .before .put-number2 .ensures)
+returns-2 c =
+    let c2 = c .before .before in
+    let c4 = c2 .before .before in
+    let c5 = c4 .before in
+    let c6 = c5 .before in
+    let c8 = c6 .before .before in
+    put-same (right-wide (c8 .args .n) (c8 .args .widest) (c5 .static-int-str-len2 .result) (c6 .static-int-str-len .result) (c5 .static-int-str-len2 .ensures)
+    (c6 .static-int-str-len .ensures) (c4 .if1 .left)) (c2 .put-number2 .ensures)
 
 pub put-right-spec : {M : Type 1} → statement M
 put-right-spec =

@@ -39,13 +39,25 @@ loop-less : tie.Need-loop-less Inv-loop μ-loop
 loop-less c = omega arith
 
 loop-again : tie.Need-loop-again Inv-loop μ-loop
-loop-again c = (then-put (shownByte (getD (c .before .before .before .before .before .before .before .before .before .before .before .args .s .now) (c .before .before .before .before .before .before .before .before .loop .i) 0)) (each shownByte (drop (c .before .before .before .before .before .before .before .before .loop .i + 1) (c .before .before .before .before .before .before .before .before .before .before .before .args .s .now))) (each-more shownByte (c .before .before .before .before .before .before .before .before .before .before .before .args .s .now) (c .before .before .before .before .before .before .before .before .loop .i) (c .before .before .before .before .before .before .before .loop-test .taken)) (c .before .before .before .before .before .before .before .before .loop .inv .0) (put-same (c .before .before .before .before .glyph .ensures) (c .before .before .put-bytes .ensures)), c .before .before .put-bytes .kept .0 ∙ c .before .before .before .before .before .before .before .before .loop .inv .1, omega arith)
+loop-again c =
+    let c2 = c .before .before in
+    let c4 = c2 .before .before in
+    let c7 = c4 .before .before .before in
+    let c8 = c7 .before in
+    let c11 = c8 .before .before .before in (
+      then-put (shownByte (getD (c11 .args .s .now) (c8 .loop .i) 0)) (each shownByte (drop (c8 .loop .i + 1) (c11 .args .s .now)))
+          (each-more shownByte (c11 .args .s .now) (c8 .loop .i) (c7 .loop-test .taken)) (c8 .loop .inv .0) (put-same (c4 .glyph .ensures) (c2 .put-bytes .ensures)),
+      c2 .put-bytes .kept .0 ∙ c8 .loop .inv .1,
+      omega arith,
+    )
 
 same-length : tie.Need-same-length Inv-loop μ-loop
 same-length c = c .before .loop .inv .1
 
 returns : tie.Need-returns Inv-loop μ-loop
-returns c = all-put (each-end shownByte (c .before .before .before .before .args .s .now) (c .before .loop .i) (c .loop-test .left)) (c .before .loop .inv .0)
+returns c =
+    let c4 = c .before .before .before .before in
+    all-put (each-end shownByte (c4 .args .s .now) (c .before .loop .i) (c .loop-test .left)) (c .before .loop .inv .0)
 
 pub put-shown-spec : {M : Type 1} → statement M
 put-shown-spec =

@@ -2,6 +2,7 @@
 use Rattle.lines.proofs.PutLaws.{put-same, put-append}
 use Rattle.tool.proofs.ShowLaws.{text-whole, text-cut}
 use borrow.Author.Needs.{needs}
+use Rattle.lines.proofs.FieldLaws.{front-bytes}
 use Rattle.tool.proofs.show.put_text.Statement.{statement}
 use Rattle.tool.proofs.show.put_text.Tie as tie
 
@@ -12,7 +13,11 @@ same-length : tie.Need-same-length
 same-length c = search needs
 
 returns : tie.Need-returns
-returns c = put-same (text-whole (c .before .before .before .before .before .before .before .args .text .now) (c .before .before .before .before .if1 .taken)) (c .before .before .put-shown .ensures)
+returns c =
+    let c2 = c .before .before in
+    let c4 = c2 .before .before in
+    let c7 = c4 .before .before .before in
+    put-same (text-whole (c7 .args .text .now) (c4 .if1 .taken)) (c2 .put-shown .ensures)
 
 front-requires : tie.Need-front-requires
 front-requires c κs = search needs
@@ -30,7 +35,14 @@ same-length-2 : tie.Need-same-length-2
 same-length-2 c = search needs
 
 returns-2 : tie.Need-returns-2
-returns-2 c = put-same (text-cut (c .before .before .before .before .before .before .before .before .before .before .before .before .before .args .text .now) _ (c .before .before .before .before .before .before .before .before .front .ensures) (c .before .before .before .before .before .before .before .before .before .before .if1 .left)) (put-append _ _ (c .before .before .before .before .before .before .before .put-shown2 .ensures) (c .before .before .put-bytes .ensures))
+returns-2 c =
+    let c2 = c .before .before in
+    let c7 = c2 .before .before .before .before .before in
+    let c8 = c7 .before in
+    let c10 = c8 .before .before in
+    let c13 = c10 .before .before .before in
+    put-same (text-cut (c13 .args .text .now) _ (front-bytes _ _ (c8 .front .ensures)) (c10 .if1 .left))
+    (put-append _ _ (c7 .put-shown2 .ensures) (c2 .put-bytes .ensures))
 
 pub put-text-spec : {M : Type 1} → statement M
 put-text-spec =

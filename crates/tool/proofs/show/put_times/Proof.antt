@@ -29,13 +29,23 @@ loop-less : tie.Need-loop-less Inv-loop μ-loop
 loop-less c = omega arith
 
 loop-again : tie.Need-loop-again Inv-loop μ-loop
-loop-again c = (then-put (c .before .before .before .before .before .before .before .before .args .s .now) (times (c .before .before .before .before .before .loop .left - 1) (c .before .before .before .before .before .before .before .before .args .s .now)) (times-more (c .before .before .before .before .before .loop .left) (c .before .before .before .before .before .before .before .before .args .s .now) (c .before .before .before .before .loop-test .taken)) (c .before .before .before .before .before .loop .inv .0) (c .before .before .put-bytes .ensures), c .before .before .put-bytes .kept .0 ∙ c .before .before .before .before .before .loop .inv .1)
+loop-again c =
+    let c2 = c .before .before in
+    let c4 = c2 .before .before in
+    let c5 = c4 .before in
+    let c8 = c5 .before .before .before in (
+      then-put (c8 .args .s .now) (times (c5 .loop .left - 1) (c8 .args .s .now)) (times-more (c5 .loop .left) (c8 .args .s .now) (c4 .loop-test .taken))
+          (c5 .loop .inv .0) (c2 .put-bytes .ensures),
+      c2 .put-bytes .kept .0 ∙ c5 .loop .inv .1,
+    )
 
 same-length : tie.Need-same-length Inv-loop μ-loop
 same-length c = c .before .loop .inv .1
 
 returns : tie.Need-returns Inv-loop μ-loop
-returns c = all-put (times-none (c .before .loop .left) (c .before .before .before .before .args .s .now) (c .loop-test .left)) (c .before .loop .inv .0)
+returns c =
+    let c4 = c .before .before .before .before in
+    all-put (times-none (c .before .loop .left) (c4 .args .s .now) (c .loop-test .left)) (c .before .loop .inv .0)
 
 pub put-times-spec : {M : Type 1} → statement M
 put-times-spec =

@@ -1,0 +1,58 @@
+-- The answers as numbers: 0 where the input is accepted, else 01's number of the refusal; and what stands in the lent answer, 0 throughout on a refusal.
+use Prim.Native.Nat.{ℕ, _-_}
+use mathlib.Core.Bool.{Bool, true, false}
+use mathlib.Core.List.{List, [], _∷_}
+use lib.ListN.{length}
+use Rattle.kinds.specs.Refusal.{number, values}
+use Rattle.kinds.specs.declared.Compared.{Compared}
+use Rattle.kinds.specs.declared.Compared.the-variants as C
+use Rattle.helper.specs.declared.Sized.{Sized}
+use Rattle.helper.specs.declared.Sized.the-variants as S
+use Rattle.parse.specs.Answer.{fromStartAnswer, fromStartRest}
+use Rattle.parse.specs.declared.Reading.{Reading}
+use Rattle.parse.specs.declared.Reading.the-variants as G
+use Rattle.static_str.specs.declared.Printed.{Printed}
+use Rattle.static_str.specs.declared.Printed.the-variants as P
+
+abbrev pub sizeNumber : Sized → ℕ
+sizeNumber (S.Refused r) = number r
+sizeNumber S.Nothing = 0
+sizeNumber (S.Bytes n) = 0
+
+-- 1 and the bytes, or 0 and 0 for no size.
+abbrev pub sizeValues : Sized → List ℕ
+sizeValues (S.Refused r) = 0 ∷ 0 ∷ []
+sizeValues S.Nothing = 0 ∷ 0 ∷ []
+sizeValues (S.Bytes n) = 1 ∷ n ∷ []
+
+abbrev pub compareNumber : Compared → ℕ
+compareNumber (C.Refused r) = number r
+compareNumber (C.Decided y) = 0
+
+-- 1 for yes, 0 for no.
+abbrev pub compareValues : Compared → List ℕ
+compareValues (C.Refused r) = 0 ∷ []
+compareValues (C.Decided true) = 1 ∷ []
+compareValues (C.Decided false) = 0 ∷ []
+
+abbrev pub printNumber : Printed → ℕ
+printNumber (P.Refused r) = number r
+printNumber (P.Bytes n) = 0
+
+-- The count of bytes.
+abbrev pub printValues : Printed → List ℕ
+printValues (P.Refused r) = 0 ∷ []
+printValues (P.Bytes n) = n ∷ []
+
+abbrev pub readNumber : Reading → ℕ
+readNumber G.Tree = 0
+readNumber (G.Refused r) = number r
+
+-- The refusal's place, byte and container; `place` and zeros for a tree.
+abbrev pub readValues : ℕ → Reading → List ℕ
+readValues place G.Tree = place ∷ 0 ∷ 0 ∷ []
+readValues place (G.Refused r) = values r
+
+-- The place where the rest begins.
+abbrev pub restPlace : List ℕ → List ℕ → List ℕ → ℕ
+restPlace text words names = length text - length (fromStartRest text words names)

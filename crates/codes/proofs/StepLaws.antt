@@ -1,0 +1,55 @@
+-- Laws of one step of reading at a place: a byte of fuel, what a byte begins, and the closer of an array.
+use Prim.Native.Nat.{ℕ, zero, suc, _+_, _≤_, _<_}
+use mathlib.Core.Path.{_≡_, refl, sym, ap, _∙_}
+use mathlib.Core.List.{List, []}
+use mathlib.Core.Bool.{Bool, true, false, _&&_}
+use native.Mathlib.Decide.{decLt}
+use native.Mathlib.Omega.{arith}
+use lib.Dec.{ltb, eqb}
+use lib.ListN.{length, drop, getD}
+use borrow.Author.Tests.{lt-ltb, ltb-true, eqb-true, eq-eqb}
+use Rattle.kinds.proofs.ListLaws.{unread, unread-end}
+use Rattle.kinds.proofs.TableLaws.{both}
+use Rattle.kinds.specs.Parse as R
+use Rattle.kinds.specs.Parse.{start, begin, encoding, refused, parseInner, parseItems}
+use Rattle.kinds.specs.Tree.{Label, Trees, end, node, array}
+use Rattle.kinds.specs.declared.ContainerKind.{ContainerKind}
+use Rattle.kinds.specs.declared.ErrorKind.the-variants.{WrongEndArray}
+use Rattle.codes.specs.Answer.{closed}
+
+pub parse-step : (text : List ℕ) (at g : ℕ) → at < length text
+    → parseInner (suc g) (drop at text) ≡ begin (getD text at 0) (start (getD text at 0)) (drop (at + 1) text) (λ t. parseInner g t) (λ k t. parseItems g k t)
+unfolding parseInner
+parse-step text at g h = ap (parseInner (suc g)) (unread text at h)
+
+pub parse-nil : (f : ℕ) → parseInner f [] ≡ R.empty
+unfolding parseInner
+parse-nil zero = refl
+parse-nil (suc f) = refl
+
+module _ (text : List ℕ) (at : ℕ) where
+  pub begins : {S : R.Start} → start (getD text at 0) ≡ S → (inner : List ℕ → R.Parsed) (fields : ContainerKind → List ℕ → R.Items)
+      → begin (getD text at 0) (start (getD text at 0)) (drop (at + 1) text) inner fields ≡ begin (getD text at 0) S (drop (at + 1) text) inner fields
+  begins e inner fields = ap (λ (x : R.Start). begin (getD text at 0) x (drop (at + 1) text) inner fields) e
+
+-- ---- The closer of an array.
+
+pub closed-in : (text : List ℕ) (to : ℕ) → closed text to ≡ true → to < length text
+closed-in text to e = ltb-true to (length text) (both (ltb to (length text)) (eqb (getD text to 0) 93) e .0)
+
+pub closed-is : (text : List ℕ) (to : ℕ) → closed text to ≡ true → getD text to 0 ≡ 93
+closed-is text to e = eqb-true _ _ (both (ltb to (length text)) (eqb (getD text to 0) 93) e .1)
+
+pub not-closed : (text : List ℕ) (to : ℕ) → to < length text → closed text to ≡ false → eqb (getD text to 0) 93 ≡ false
+not-closed text to h e = sym (ap (λ (x : Bool). x && eqb (getD text to 0) 93) (lt-ltb to (length text) h)) ∙ e
+
+pub closes-it : (text : List ℕ) (len : ℕ) (c : Label) (cs : Trees) (to : ℕ) → to < length text → getD text to 0 ≡ 93 → R.closeItem len c cs (drop to text) ≡ encoding (array len) (node c cs end) (drop (to + 1) text)
+unfolding R.closeItem
+closes-it text len c cs to l e = ap (R.closeItem len c cs) (unread text to l) ∙ rw (eq-eqb _ _ e, R.closeItem) refl
+
+pub closes-not : (text : List ℕ) (len : ℕ) (c : Label) (cs : Trees) (to : ℕ) → closed text to ≡ false → R.closeItem len c cs (drop to text) ≡ refused WrongEndArray (drop to text)
+unfolding R.closeItem
+closes-not text len c cs to e = elim (decLt to (length text)) [
+  | yes l ↦ ap (R.closeItem len c cs) (unread text to l) ∙ (rw (not-closed text to l e, R.closeItem) refl) ∙ sym (ap (refused WrongEndArray) (unread text to l))
+  | no l ↦ ap (R.closeItem len c cs) (unread-end text to (omega arith)) ∙ sym (ap (refused WrongEndArray) (unread-end text to (omega arith)))
+]

@@ -1,0 +1,44 @@
+use borrow.Author.Needs.{needs}
+use mathlib.Core.Path.{sym, ap, _∙_}
+use Rattle.codes.specs.Answer.{tokenOf}
+use native.Mathlib.Omega.{arith}
+use Rattle.codes.proofs.TokenLaws.{object-end, object-block, object-quoted, object-bare, answer-primitive}
+use Rattle.codes.proofs.parse_object.Statement.{statement}
+use Rattle.codes.proofs.parse_object.Tie as tie
+
+returns : tie.Need-returns
+returns c = answer-primitive _ _ (search needs) _ _ (object-end _ _ (c .if1 .taken))
+
+shared-slice-read-b : tie.Need-shared-slice-read-b
+shared-slice-read-b c = search needs
+
+add-t9 : tie.Need-add-t9
+add-t9 c = search needs
+
+add-quoted : tie.Need-add-parse-quoted
+add-quoted c = search needs
+
+parse-quoted-requires : tie.Need-parse-quoted-requires
+parse-quoted-requires c κs = search needs
+
+returns-2 : tie.Need-returns-2
+returns-2 c = answer-primitive _ _ (omega arith) _ _ (object-block _ _ (c .before .before .if1 .left) (c .match .keys1))
+
+returns-3 : tie.Need-returns-3
+returns-3 c = c .parse-quoted .ensures ∙ ap (tokenOf _) (sym (object-quoted _ _ (c .before .before .before .if1 .left) (c .before .match .keys2)))
+
+returns-4 : tie.Need-returns-4
+returns-4 c = answer-primitive _ _ (omega arith) _ _ (object-bare _ _ (c .before .before .if1 .left) (c .match .rest .0 .1) (c .match .rest .1))
+
+pub parse-object-spec : {M : Type 1} → statement M
+parse-object-spec =
+    tie.close
+    (tie.spec
+    returns
+    shared-slice-read-b
+    add-t9
+    add-quoted
+    parse-quoted-requires
+    returns-2
+    returns-3
+    returns-4)

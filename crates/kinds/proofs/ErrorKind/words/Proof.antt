@@ -1,0 +1,96 @@
+use borrow.Author.Needs.{needs}
+use Rattle.kinds.proofs.ErrorKind.words.Statement.{statement}
+use Rattle.kinds.proofs.ErrorKind.words.Tie as tie
+
+enum-told : tie.Need-enum-told
+enum-told c = search needs
+
+enum-known-self : tie.Need-enum-known-self
+enum-known-self c = search needs
+
+wide-requires : tie.Need-wide-requires
+wide-requires c κs = search needs
+
+enum-known-self-2 : tie.Need-enum-known-self-2
+enum-known-self-2 c = search needs
+
+wide-requires-2 : tie.Need-wide-requires-2
+wide-requires-2 c κs = search needs
+
+enum-told-2 : tie.Need-enum-told-2
+enum-told-2 c = search needs
+
+enum-told-3 : tie.Need-enum-told-3
+enum-told-3 c = search needs
+
+enum-told-4 : tie.Need-enum-told-4
+enum-told-4 c = search needs
+
+enum-known-self-3 : tie.Need-enum-known-self-3
+enum-known-self-3 c = search needs
+
+kind-requires : tie.Need-kind-requires
+kind-requires c κs = search needs
+
+enum-known-self-4 : tie.Need-enum-known-self-4
+enum-known-self-4 c = search needs
+
+kind-requires-2 : tie.Need-kind-requires-2
+kind-requires-2 c κs = search needs
+
+enum-told-5 : tie.Need-enum-told-5
+enum-told-5 c = search needs
+
+returns : tie.Need-returns
+returns c = rw (c .enum-told .given .1)
+
+returns-2 : tie.Need-returns-2
+returns-2 c = rw (c .before .before .self .given .1, c .wide .ensures)
+
+returns-3 : tie.Need-returns-3
+returns-3 c = rw (c .before .before .self2 .given .1, c .wide2 .ensures)
+
+returns-4 : tie.Need-returns-4
+returns-4 c = rw (c .enum-told2 .given .1)
+
+returns-5 : tie.Need-returns-5
+returns-5 c = rw (c .enum-told3 .given .1)
+
+returns-6 : tie.Need-returns-6
+returns-6 c = rw (c .enum-told4 .given .1)
+
+returns-7 : tie.Need-returns-7
+returns-7 c = rw (c .before .before .self3 .given .1, c .kind .ensures)
+
+returns-8 : tie.Need-returns-8
+returns-8 c = rw (c .before .before .self4 .given .1, c .kind2 .ensures)
+
+returns-9 : tie.Need-returns-9
+returns-9 c = rw (c .enum-told5 .given .1)
+
+pub words-spec : {M : Type 1} → statement M
+words-spec =
+    tie.close
+    (tie.spec
+    enum-told
+    enum-known-self
+    wide-requires
+    enum-known-self-2
+    wide-requires-2
+    enum-told-2
+    enum-told-3
+    enum-told-4
+    enum-known-self-3
+    kind-requires
+    enum-known-self-4
+    kind-requires-2
+    enum-told-5
+    returns
+    returns-2
+    returns-3
+    returns-4
+    returns-5
+    returns-6
+    returns-7
+    returns-8
+    returns-9)

@@ -1,0 +1,87 @@
+-- What a kind word says of a node is what the node's label says.
+use Prim.Native.Nat.{ℕ, _≤_, _<_}
+use native.Mathlib.Omega.{arith}
+use mathlib.Core.Path.{_≡_, refl}
+use mathlib.Core.Bool.{Bool, true, false, cond}
+use mathlib.Core.List.{List}
+use borrow.Author.Tests.{leb-true, leb-false, ne-eqb, eqb-true, eqb-false}
+use lib.Dec.{leb, eqb}
+use Rattle.kinds.specs.Kind.{insideKind, childrenLevel}
+use Rattle.kinds.specs.Level.{showsFields, containerIncludeFields}
+use Rattle.kinds.specs.Sheet.{label, isContainerKind}
+use Rattle.kinds.specs.Tree.{inside, shows}
+use Rattle.kinds.specs.declared.Fields.the-variants.{Included, Dropped}
+use Rattle.kinds.specs.declared.NestingLevel.{NestingLevel}
+use Rattle.kinds.specs.declared.NestingLevel.the-variants.{Top, Within, Bottom}
+use Rattle.kinds.proofs.NodeLaws.{by-kind, label-primitive, label-none}
+
+-- every kind word is a primitive's, one from 24 to 31, or beyond
+pub every-kind : (P : ℕ → Type 0) → ((k : ℕ) → k < 24 → P k) → P 24 → P 25 → P 26 → P 27 → P 28 → P 29 → P 30 → P 31 → ((k : ℕ) → 31 < k → P k) → (k : ℕ) → P k
+every-kind P low a b c d e f g h high k = go (leb k 23) refl (leb k 31) refl
+  where
+    le-lt : k ≤ 23 → k < 24
+    le-lt h = omega arith
+
+    go : (t : Bool) → leb k 23 ≡ t → (u : Bool) → leb k 31 ≡ u → P k
+    go true p u q = low k (le-lt (leb-true k 23 p))
+    go false p true q = by-kind P a b c d e f g h k (leb-false k 23 p) (leb-true k 31 q)
+    go false p false q = high k (leb-false k 31 q)
+
+-- a kind that is neither a container's nor an indirection's
+module _ (k : ℕ) (v : NestingLevel) (a : k ≡ 26 → ⊥) (b : k ≡ 27 → ⊥) (c : k ≡ 29 → ⊥) (d : k ≡ 30 → ⊥) where
+  plain-inside : v ≡ insideKind k v
+  unfolding insideKind
+  plain-inside = rw (ne-eqb k 26 a, ne-eqb k 27 b, ne-eqb k 29 c, ne-eqb k 30 d)
+
+  plain-children : Included v ≡ childrenLevel k v
+  unfolding insideKind childrenLevel
+  plain-children = rw (ne-eqb k 26 a, ne-eqb k 27 b, ne-eqb k 29 c, ne-eqb k 30 d)
+
+-- The level of the children of a node of kind `k`.
+pub inside-kind : (s : List ℕ) (k a b : ℕ) (v : NestingLevel) → inside (label s k a b) v ≡ insideKind k v
+unfolding label insideKind
+inside-kind s k a b v = every-kind (λ (j : ℕ). inside (label s j a b) v ≡ insideKind j v) low refl refl refl refl refl refl refl refl high k
+  where
+    low : (j : ℕ) → j < 24 → inside (label s j a b) v ≡ insideKind j v
+    low j p = rw (label-primitive s j a b p) (plain-inside j v (λ e. omega arith) (λ e. omega arith) (λ e. omega arith) (λ e. omega arith))
+
+    high : (j : ℕ) → 31 < j → inside (label s j a b) v ≡ insideKind j v
+    high j p = rw (label-none s j a b (omega arith)) (plain-inside j v (λ e. omega arith) (λ e. omega arith) (λ e. omega arith) (λ e. omega arith))
+
+-- The same, or that they are not shown.
+pub children-kind : (s : List ℕ) (k a b : ℕ) (v : NestingLevel) → cond (shows (label s k a b) v) (Included (inside (label s k a b) v)) Dropped ≡ childrenLevel k v
+unfolding label insideKind childrenLevel
+children-kind s k a b v = every-kind (λ (j : ℕ). cond (shows (label s j a b) v) (Included (inside (label s j a b) v)) Dropped ≡ childrenLevel j v) low refl refl refl refl refl (fields v) (fields v) refl high k
+  where
+    fields : (u : NestingLevel) → cond (showsFields u) (Included Within) Dropped ≡ containerIncludeFields u
+    fields Top = refl
+    fields Within = refl
+    fields Bottom = refl
+
+    low : (j : ℕ) → j < 24 → cond (shows (label s j a b) v) (Included (inside (label s j a b) v)) Dropped ≡ childrenLevel j v
+    low j p = rw (label-primitive s j a b p) (plain-children j v (λ e. omega arith) (λ e. omega arith) (λ e. omega arith) (λ e. omega arith))
+
+    high : (j : ℕ) → 31 < j → cond (shows (label s j a b) v) (Included (inside (label s j a b) v)) Dropped ≡ childrenLevel j v
+    high j p = rw (label-none s j a b (omega arith)) (plain-children j v (λ e. omega arith) (λ e. omega arith) (λ e. omega arith) (λ e. omega arith))
+
+-- Kinds 29 and 30.
+pub container-kind : (k : ℕ) → 29 ≤ k → k ≤ 30 → isContainerKind k ≡ true
+container-kind k p q = go (eqb k 29) refl
+  where
+    other : (k ≡ 29 → ⊥) → k ≡ 30
+    other r = omega arith
+
+    go : (t : Bool) → eqb k 29 ≡ t → isContainerKind k ≡ true
+    go true e = rw (eqb-true k 29 e)
+    go false e = rw (other (eqb-false k 29 e))
+
+-- Whether a container shows its fields, and at which level.
+pub dropped : (v : NestingLevel) → containerIncludeFields v ≡ Dropped → showsFields v ≡ false
+dropped Top h = absurd (let z : _≡_ {A = ℕ} 0 1 = cc in omega arith)
+dropped Within h = absurd (let z : _≡_ {A = ℕ} 0 1 = cc in omega arith)
+dropped Bottom h = refl
+
+pub included : (v u : NestingLevel) → containerIncludeFields v ≡ Included u → (showsFields v ≡ true) × (u ≡ Within)
+included Top u h = (refl, cc)
+included Within u h = (refl, cc)
+included Bottom u h = absurd (let z : _≡_ {A = ℕ} 0 1 = cc in omega arith)

@@ -1,0 +1,150 @@
+-- Laws of the digits at a place of a text, and where a number ends.
+use Prim.Native.Nat.{ℕ, _+_, _*_, _-_, _≤_, _<_}
+use mathlib.Core.Path.{_≡_, refl, sym, ap, _∙_}
+use mathlib.Core.List.{List, [], _∷_}
+use mathlib.Core.Bool.{Bool, true, false}
+use native.Mathlib.Omega.{arith}
+use lib.ListN.{length, drop, getD}
+use lib.Dec.{leb}
+use borrow.Author.Tests.{lt-leb, le-leb, leb-true}
+use Rattle.kinds.proofs.ListLaws.{unread, unread-end}
+use Rattle.kinds.proofs.TableLaws.{both}
+use Rattle.kinds.specs.Byte.{isDigit}
+use Rattle.kinds.specs.Parse as R
+use Rattle.kinds.specs.Parse.{value, noNumber, moreDigits, bounded, parseNumber}
+use Rattle.kinds.specs.declared.ErrorKind.{ErrorKind}
+use Rattle.kinds.specs.declared.ErrorKind.the-variants.{UnexpectedEnd, ExpectedInteger, IntegerTooLarge}
+use Rattle.parser.specs.Place.{placeOf}
+use Rattle.parser.proofs.RestLaws.{RestOf, rest-all, rest-later, Unread, unread-at, place-of-drop}
+use Rattle.numbers.specs.Answer.{numberAt}
+use Rattle.parser.specs.Run.{after}
+use Rattle.numbers.specs.declared.Number.{Number}
+use Rattle.numbers.specs.declared.Number.the-variants.{Value, Refused}
+
+pub digits-more : (n b : ℕ) (s : List ℕ) → isDigit b ≡ true → moreDigits n (b ∷ s) ≡ moreDigits (n * 10 + (b - 48)) s
+unfolding moreDigits
+digits-more n b s e = rw (e, moreDigits)
+
+pub digits-stop : (n b : ℕ) (s : List ℕ) → isDigit b ≡ false → moreDigits n (b ∷ s) ≡ value n (b ∷ s)
+unfolding moreDigits
+digits-stop n b s e = rw (e, moreDigits)
+
+pub digits-end : (n : ℕ) → moreDigits n [] ≡ value n []
+unfolding moreDigits
+digits-end n = refl
+
+pub fits-limit : (limit n : ℕ) (s : List ℕ) → n ≤ limit → bounded limit (value n s) ≡ value n s
+unfolding bounded
+fits-limit limit n s h = rw (le-leb n limit h, bounded)
+
+-- Past the limit the digits are passed, and the number is too large.
+pub too-large : (limit : ℕ) (s : List ℕ) (n : ℕ) → limit < n → bounded limit (moreDigits n s) ≡ noNumber IntegerTooLarge (after isDigit s)
+unfolding bounded moreDigits after
+too-large limit [] n h = rw (lt-leb n limit h, bounded)
+too-large limit (b ∷ s) n h = go (too-large limit s (n * 10 + (b - 48)) (omega arith)) (isDigit b)
+  where
+    go : bounded limit (moreDigits (n * 10 + (b - 48)) s) ≡ noNumber IntegerTooLarge (after isDigit s)
+        → (d : Bool) → bounded limit (elim d [ true ↦ moreDigits (n * 10 + (b - 48)) s | false ↦ value n (b ∷ s) ]) ≡ noNumber IntegerTooLarge (elim d [ true ↦ after isDigit s | false ↦ b ∷ s ])
+    go more true = more
+    go more false = rw (lt-leb n limit h, bounded)
+
+pub number-starts : (limit b : ℕ) (s : List ℕ) → isDigit b ≡ true → parseNumber limit (b ∷ s) ≡ bounded limit (moreDigits 0 (b ∷ s))
+unfolding parseNumber
+number-starts limit b s e = rw (e, parseNumber)
+
+pub number-none : (limit b : ℕ) (s : List ℕ) → isDigit b ≡ false → parseNumber limit (b ∷ s) ≡ noNumber ExpectedInteger (b ∷ s)
+unfolding parseNumber
+number-none limit b s e = rw (e, parseNumber)
+
+pub number-end : (limit : ℕ) → parseNumber limit [] ≡ noNumber UnexpectedEnd []
+unfolding parseNumber
+number-end limit = refl
+
+-- The same at a place.
+pub digits-more-at : (n : ℕ) (s : List ℕ) (i : ℕ) → i < length s → isDigit (getD s i 0) ≡ true → moreDigits n (drop i s) ≡ moreDigits (n * 10 + (getD s i 0 - 48)) (drop (i + 1) s)
+digits-more-at n s i h e = ap (moreDigits n) (unread s i h) ∙ digits-more n _ _ e
+
+pub digits-stop-at : (n : ℕ) (s : List ℕ) (i : ℕ) → i < length s → isDigit (getD s i 0) ≡ false → moreDigits n (drop i s) ≡ value n (drop i s)
+digits-stop-at n s i h e = ap (moreDigits n) (unread s i h) ∙ digits-stop n _ _ e ∙ sym (ap (value n) (unread s i h))
+
+pub digits-end-at : (n : ℕ) (s : List ℕ) (i : ℕ) → length s ≤ i → moreDigits n (drop i s) ≡ value n (drop i s)
+digits-end-at n s i h = ap (moreDigits n) (unread-end s i h) ∙ digits-end n ∙ sym (ap (value n) (unread-end s i h))
+
+pub number-starts-at : (limit : ℕ) (s : List ℕ) (i : ℕ) → i < length s → isDigit (getD s i 0) ≡ true → parseNumber limit (drop i s) ≡ bounded limit (moreDigits 0 (drop i s))
+number-starts-at limit s i h e = ap (parseNumber limit) (unread s i h) ∙ number-starts limit _ _ e ∙ sym (ap (λ (t : List ℕ). bounded limit (moreDigits 0 t)) (unread s i h))
+
+pub number-none-at : (limit : ℕ) (s : List ℕ) (i : ℕ) → i < length s → isDigit (getD s i 0) ≡ false → parseNumber limit (drop i s) ≡ noNumber ExpectedInteger (drop i s)
+number-none-at limit s i h e = ap (parseNumber limit) (unread s i h) ∙ number-none limit _ _ e ∙ sym (ap (noNumber ExpectedInteger) (unread s i h))
+
+pub number-end-at : (limit : ℕ) (s : List ℕ) (i : ℕ) → length s ≤ i → parseNumber limit (drop i s) ≡ noNumber UnexpectedEnd (drop i s)
+number-end-at limit s i h = ap (parseNumber limit) (unread-end s i h) ∙ number-end limit ∙ sym (ap (noNumber UnexpectedEnd) (unread-end s i h))
+
+pub digit-range : (b : ℕ) → isDigit b ≡ true → (48 ≤ b) × (b ≤ 57)
+unfolding isDigit
+digit-range b e =
+    let p = both (leb 48 b) (leb b 57) e in
+    (leb-true _ _ (p .0), leb-true _ _ (p .1))
+
+-- ---- The answer, and what it says of the text.
+
+pub answer-value : (text : List ℕ) (q : R.Number) (n to : ℕ) → to ≤ length text → q ≡ value n (drop to text) → Value n to ≡ numberAt text q
+unfolding numberAt
+answer-value text q n to l e = ap (Value n) (sym (place-of-drop text to l)) ∙ ap (numberAt text) (sym e)
+
+pub answer-refused : (text : List ℕ) (q : R.Number) (why : ErrorKind) (to : ℕ) → to ≤ length text → q ≡ noNumber why (drop to text) → Refused why to ≡ numberAt text q
+unfolding numberAt
+answer-refused text q why to l e = ap (Refused why) (sym (place-of-drop text to l)) ∙ ap (numberAt text) (sym e)
+
+pub answer-ended : (text : List ℕ) (limit at : ℕ) → length text ≤ at → Refused UnexpectedEnd (length text) ≡ numberAt text (parseNumber limit (drop at text))
+answer-ended text limit at l =
+    let none : drop (length text) text ≡ drop at text = unread-end text (length text) (omega arith) ∙ sym (unread-end text at l) in
+    answer-refused _ _ _ _ (omega arith) (number-end-at limit text at l ∙ ap (noNumber UnexpectedEnd) (sym none))
+
+-- What is left after a number is the end of the text before it.
+abbrev pub LeftOf : List ℕ → R.Number → Type 0
+LeftOf s (value n t) = RestOf s t
+LeftOf s (noNumber e t) = RestOf s t
+
+left-later : (b : ℕ) (s : List ℕ) (q : R.Number) → LeftOf s q → LeftOf (b ∷ s) q
+left-later b s (value n t) r = rest-later r
+left-later b s (noNumber e t) r = rest-later r
+
+left-digits : (n : ℕ) (s : List ℕ) → LeftOf s (moreDigits n s)
+unfolding moreDigits
+left-digits n [] = rest-all
+left-digits n (b ∷ s) = go (isDigit b) (left-later b s (moreDigits (n * 10 + (b - 48)) s) (left-digits (n * 10 + (b - 48)) s))
+  where
+    go : (d : Bool) → LeftOf (b ∷ s) (moreDigits (n * 10 + (b - 48)) s) → LeftOf (b ∷ s) (elim d [ true ↦ moreDigits (n * 10 + (b - 48)) s | false ↦ value n (b ∷ s) ])
+    go true h = h
+    go false h = rest-all
+
+left-bounded : (limit : ℕ) (s : List ℕ) (q : R.Number) → LeftOf s q → LeftOf s (bounded limit q)
+unfolding bounded
+left-bounded limit s (value n t) r = go (leb n limit)
+  where
+    go : (d : Bool) → LeftOf s (elim d [ true ↦ value n t | false ↦ noNumber IntegerTooLarge t ])
+    go true = r
+    go false = r
+left-bounded limit s (noNumber e t) r = r
+
+pub left-number : (limit : ℕ) (s : List ℕ) → LeftOf s (parseNumber limit s)
+unfolding parseNumber
+left-number limit [] = rest-all
+left-number limit (b ∷ s) = go (isDigit b) (left-bounded limit (b ∷ s) (moreDigits 0 (b ∷ s)) (left-digits 0 (b ∷ s)))
+  where
+    go : (d : Bool) → LeftOf (b ∷ s) (bounded limit (moreDigits 0 (b ∷ s))) → LeftOf (b ∷ s) (elim d [ true ↦ bounded limit (moreDigits 0 (b ∷ s)) | false ↦ noNumber ExpectedInteger (b ∷ s) ])
+    go true h = h
+    go false h = rest-all
+
+-- Of an answer: what was read, what is unread after it, and that its place is at or after `at`, within the text.
+abbrev pub NumberIs : List ℕ → ℕ → Number → R.Number → Type 0
+NumberIs text at (Value v to) q = (q ≡ value v (drop to text)) × ((at ≤ to) × (to ≤ length text))
+NumberIs text at (Refused why to) q = (q ≡ noNumber why (drop to text)) × ((at ≤ to) × (to ≤ length text))
+
+answered : (text : List ℕ) (at : ℕ) → at ≤ length text → (q : R.Number) → LeftOf (drop at text) q → NumberIs text at (numberAt text q) q
+unfolding numberAt
+answered text at l (value n t) r = let u = unread-at l r in (ap (value n) (u .is), (u .onward, u .within))
+answered text at l (noNumber e t) r = let u = unread-at l r in (ap (noNumber e) (u .is), (u .onward, u .within))
+
+pub number-is : (text : List ℕ) (limit at : ℕ) (r : Number) → at ≤ length text → r ≡ numberAt text (parseNumber limit (drop at text)) → NumberIs text at r (parseNumber limit (drop at text))
+number-is text limit at r l e = rw e (answered text at l (parseNumber limit (drop at text)) (left-number limit (drop at text)))

@@ -1,0 +1,128 @@
+use Prim.Native.Nat.{_≤_, _-_}
+use mathlib.Core.Path.{_≡_, refl, sym, ap, _∙_}
+use native.Mathlib.Omega.{arith}
+use lib.ListN.{length, drop}
+use borrow.Author.Needs.{needs}
+use borrow.Author.Tests.{not-true, not-false}
+use Rattle.kinds.specs.Parse.{bounded, moreDigits, parseNumber, noNumber}
+use Rattle.kinds.specs.declared.ErrorKind.the-variants.{IntegerTooLarge}
+use Rattle.kinds.specs.Byte.{isDigit}
+use Rattle.parser.proofs.RunLaws.{run-to}
+use Rattle.numbers.proofs.NumberLaws.{digit-range, digits-more-at, digits-stop-at, digits-end-at, number-starts-at, number-none-at, number-end-at, fits-limit, too-large, answer-value, answer-refused, answer-ended}
+use Rattle.numbers.proofs.parse_number.Statement.{statement}
+use Rattle.numbers.proofs.parse_number.Tie as tie
+
+abbrev Inv-loop : tie.InvT-loop
+Inv-loop text at limit acc₀ i₀ acc i = (parseNumber limit (drop at text) ≡ bounded limit (moreDigits acc (drop i text))) × ((at ≤ i) × (i ≤ length text) × (acc ≤ limit))
+
+abbrev μ-loop : tie.MeasureT-loop
+μ-loop text at limit acc₀ i₀ acc i = length text - i
+
+returns : tie.Need-returns Inv-loop μ-loop
+returns c = answer-ended _ _ _ (c .if1 .taken)
+
+shared-slice-read-is-digit : tie.Need-shared-slice-read-is-digit Inv-loop μ-loop
+shared-slice-read-is-digit c = search needs
+
+is-digit-requires : tie.Need-is-digit-requires Inv-loop μ-loop
+is-digit-requires c κs = search needs
+
+returns-2 : tie.Need-returns-2 Inv-loop μ-loop
+returns-2 c =
+    let h = c .before .before .before .if1 .left in
+    answer-refused _ _ _ _ (omega arith) (number-none-at _ _ _ h (sym (c .before .is-digit .ensures) ∙ not-true _ (c .if2 .taken)))
+
+loop-holds : tie.Need-loop-holds Inv-loop μ-loop
+loop-holds c =
+    let h = c .before .before .before .if1 .left in
+    (number-starts-at _ _ _ h (sym (c .before .is-digit .ensures) ∙ not-false _ (c .if2 .left)), omega arith)
+
+shared-slice-read-b : tie.Need-shared-slice-read-b Inv-loop μ-loop
+shared-slice-read-b c = search needs
+
+is-digit-requires-2 : tie.Need-is-digit-requires-2 Inv-loop μ-loop
+is-digit-requires-2 c κs = search needs
+
+returns-3 : tie.Need-returns-3 Inv-loop μ-loop
+returns-3 c =
+    let l = c .before .before .before .before .loop in
+    let h = c .before .before .before .loop-test .taken in
+    let stop = digits-stop-at _ _ _ h (sym (c .before .is-digit2 .ensures) ∙ not-true _ (c .if3 .taken)) in
+    answer-value _ _ _ _ (omega arith) (l .inv .0 ∙ ap (bounded _) stop ∙ fits-limit _ _ _ (l .inv .1 .2))
+
+sub-wide : tie.Need-sub-wide Inv-loop μ-loop
+sub-wide c = omega (arith, digit-range _ (sym (c .before .is-digit2 .ensures) ∙ not-false _ (c .if3 .left)))
+
+wide-requires : tie.Need-wide-requires Inv-loop μ-loop
+wide-requires c κs = search needs
+
+sub-if4 : tie.Need-sub-if4 Inv-loop μ-loop
+sub-if4 c = omega (arith, digit-range _ (sym (c .before .before .is-digit2 .ensures) ∙ not-false _ (c .before .if3 .left)))
+
+add-chomp-digits : tie.Need-add-chomp-digits Inv-loop μ-loop
+add-chomp-digits c = search needs
+
+chomp-digits-requires : tie.Need-chomp-digits-requires Inv-loop μ-loop
+chomp-digits-requires c κs = search needs
+
+returns-4 : tie.Need-returns-4 Inv-loop μ-loop
+returns-4 c =
+    let l = c .before .before .before .before .before .before .before .loop in
+    let w = c .before .before .wide .ensures in
+    let digit = sym (c .before .before .before .before .is-digit2 .ensures) ∙ not-false _ (c .before .before .before .if3 .left) in
+    let range = digit-range _ digit in
+    let more = digits-more-at _ _ _ (c .before .before .before .before .before .before .loop-test .taken) digit in
+    let end = run-to isDigit _ _ _ (omega arith) (c .chomp-digits .ensures) in
+    answer-refused _ _ _ _ (end .within) (l .inv .0 ∙ ap (bounded _) more ∙ too-large _ _ _ (omega arith) ∙ ap (noNumber IntegerTooLarge) (end .left))
+
+mul-acc : tie.Need-mul-acc Inv-loop μ-loop
+mul-acc c = search needs
+
+add-acc : tie.Need-add-acc Inv-loop μ-loop
+add-acc c = search needs
+
+add-i : tie.Need-add-i Inv-loop μ-loop
+add-i c = search needs
+
+loop-less : tie.Need-loop-less Inv-loop μ-loop
+loop-less c = search needs
+
+loop-again : tie.Need-loop-again Inv-loop μ-loop
+loop-again c =
+    let l = c .before .before .before .before .before .before .loop in
+    let w = c .before .wide .ensures in
+    let digit = sym (c .before .before .before .is-digit2 .ensures) ∙ not-false _ (c .before .before .if3 .left) in
+    let range = digit-range _ digit in
+    (l .inv .0 ∙ ap (bounded _) (digits-more-at _ _ _ (c .before .before .before .before .before .loop-test .taken) digit) ∙ rw w refl, omega arith)
+
+returns-5 : tie.Need-returns-5 Inv-loop μ-loop
+returns-5 c =
+    let l = c .before .loop in
+    answer-value _ _ _ _ (omega arith) (l .inv .0 ∙ ap (bounded _) (digits-end-at _ _ _ (c .loop-test .left)) ∙ fits-limit _ _ _ (l .inv .1 .2))
+
+pub parse-number-spec : {M : Type 1} → statement M
+parse-number-spec =
+    tie.close
+    (tie.spec
+    Inv-loop
+    μ-loop
+    returns
+    shared-slice-read-is-digit
+    is-digit-requires
+    returns-2
+    loop-holds
+    shared-slice-read-b
+    is-digit-requires-2
+    returns-3
+    sub-wide
+    wide-requires
+    sub-if4
+    add-chomp-digits
+    chomp-digits-requires
+    returns-4
+    mul-acc
+    add-acc
+    add-i
+    loop-less
+    loop-again
+    returns-5)

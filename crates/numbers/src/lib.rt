@@ -1,0 +1,83 @@
+// Numbers in text (parse.rs, `parse_u64`, `parse_u8`, `chomp_digits`): read at a place of the text; a place past the end is taken as the end.
+ghost use mathlib.Core.Path.{_≡_};
+ghost use Prim.Native.Nat.{_≤_};
+ghost use lib.ListN.{drop};
+ghost use Rattle.kinds.specs.Byte.{isDigit};
+ghost use Rattle.kinds.specs.Parse.{maxU64, maxU8, parseNumber};
+ghost use Rattle.parser.specs.Run.{runEnd};
+ghost use Rattle.numbers.specs.Answer.{numberAt};
+use kinds::ErrorKind;
+
+// A number and the place after it, or why there is none and where.
+pub enum Number {
+    Value(u64, usize),
+    Refused(ErrorKind, usize),
+}
+
+fn wide(b: u8) -> u64
+    ensures { λ r. ⌜ r ≡ b ⌝ }
+{
+    b as u64
+}
+
+pub fn is_digit(b: u8) -> bool
+    ensures { λ r. ⌜ r ≡ isDigit b ⌝ }
+{
+    48 <= b && b <= 57
+}
+
+// The place after the digits from `at` on.
+fn chomp_digits(text: &[u8], at: usize) -> usize
+    ensures { λ r. ⌜ r ≡ runEnd isDigit (now (text .entry)) at ⌝ }
+{
+    let mut i = at;
+    while i < text.len() {
+        if !is_digit(text[i]) {
+            return i;
+        }
+        i += 1;
+    }
+    i
+}
+
+// Every number is read here: `parse_u64` and `parse_u8` by their limits.
+fn parse_number(text: &[u8], at: usize, limit: u64) -> Number
+    requires { ⌜ 9 ≤ limit ⌝ }
+    ensures { λ r. ⌜ r ≡ numberAt (now (text .entry)) (parseNumber limit (drop at (now (text .entry)))) ⌝ }
+{
+    if text.len() <= at {
+        return Number::Refused(ErrorKind::UnexpectedEnd, text.len());
+    }
+    if !is_digit(text[at]) {
+        return Number::Refused(ErrorKind::ExpectedInteger, at);
+    }
+    let mut acc: u64 = 0;
+    let mut i = at;
+    while i < text.len() {
+        let b = text[i];
+        if !is_digit(b) {
+            return Number::Value(acc, i);
+        }
+        let d = wide(b - 48);
+        if (limit - d) / 10 < acc {
+            return Number::Refused(ErrorKind::IntegerTooLarge, chomp_digits(text, i + 1));
+        }
+        acc = acc * 10 + d;
+        i += 1;
+    }
+    Number::Value(acc, i)
+}
+
+// A number of 64 bits.
+pub fn parse_u64(text: &[u8], at: usize) -> Number
+    ensures { λ r. ⌜ r ≡ numberAt (now (text .entry)) (parseNumber maxU64 (drop at (now (text .entry)))) ⌝ }
+{
+    parse_number(text, at, 18446744073709551615)
+}
+
+// A number of 8 bits.
+pub fn parse_u8(text: &[u8], at: usize) -> Number
+    ensures { λ r. ⌜ r ≡ numberAt (now (text .entry)) (parseNumber maxU8 (drop at (now (text .entry)))) ⌝ }
+{
+    parse_number(text, at, 255)
+}

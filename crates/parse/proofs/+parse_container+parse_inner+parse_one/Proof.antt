@@ -1,0 +1,628 @@
+use Prim.Native.Nat.{ℕ, _+_, _*_, _-_, _≤_, _<_}
+use mathlib.Core.Path.{_≡_, refl, ap, _∙_}
+use mathlib.Core.List.{List, [], _∷_}
+use native.Mathlib.Omega.{arith}
+use borrow.Author.Needs.{needs}
+use denote.Enum.Declared.{tagOf}
+use types.Run.{OneOf, miss}
+use lib.ListN.{length}
+use Rattle.kinds.proofs.ListLaws.{whole}
+use Rattle.kinds.specs.Parse.{start, inSingles, singles, inOthers, others}
+use Rattle.parser.proofs.RunLaws.{run-to}
+use Rattle.numbers.proofs.NumberLaws.{number-is}
+use Rattle.codes.specs.Answer.{isIndirection}
+use Rattle.codes.proofs.CodeLaws.{starts, without-parts, not-indirection}
+use Rattle.parse.specs.Agree.{lists, Lists, Ready, ItemsReads}
+use Rattle.parse.specs.Room.{closes}
+use Rattle.parse.specs.declared.Items.{Items}
+use Rattle.parse.specs.declared.Parsed.{Parsed}
+use Rattle.parse.specs.declared.Parsed.the-variants.{Empty, Encoding, ContainerEnd, ArrayEnd, Refused}
+use Rattle.parse.proofs.Parsed.{the-type}
+use Rattle.parse.proofs.Sheets.{slack-some}
+use Rattle.parse.proofs.Cycle.{reads-end, reads-simple, reads-item, reads-no-number, reads-no-name, reads-contained, items-end, items-more, NotFound}
+use Rattle.parse.proofs.Cycle.{ready-part, room-two, after-parsed, after-items, ready-fields, ready-more, opens-closes}
+use Rattle.parse.proofs.Runs.{ready-codes, ready-run, run-room, after-bound}
+use borrow.Fn.Kinds.{In}
+use borrow.Fn.PlainCycle.{Measures, is, falls, and}
+use Rattle.parse.proofs.parse_container.Reads as parse-container
+use Rattle.parse.proofs.parse_container.Kinds as parse-container-kinds
+use Rattle.parse.proofs.+parse_container+parse_inner+parse_one.Lts-parse_container as parse-container-lts
+use Rattle.parse.proofs.parse_inner.Reads as parse-inner
+use Rattle.parse.proofs.parse_inner.Kinds as parse-inner-kinds
+use Rattle.parse.proofs.+parse_container+parse_inner+parse_one.Lts-parse_inner as parse-inner-lts
+use Rattle.parse.proofs.parse_one.Reads as parse-one
+use Rattle.parse.proofs.parse_one.Kinds as parse-one-kinds
+use Rattle.parse.proofs.+parse_container+parse_inner+parse_one.Lts-parse_one as parse-one-lts
+use Rattle.codes.proofs.indirections_end.Reads as indirections-end-reads
+use Rattle.numbers.proofs.parse_u64.Reads as parse-u64-reads
+use Rattle.parse.proofs.end_items.Reads as end-items-reads
+use Rattle.parse.proofs.parse_simple.Reads as parse-simple-reads
+use Rattle.parse.proofs.put_array.Reads as put-array-reads
+use Rattle.parse.proofs.put_codes.Reads as put-codes-reads
+use Rattle.parse.proofs.put_container.Reads as put-container-reads
+use Rattle.parse.proofs.put_indirections.Reads as put-indirections-reads
+use Rattle.parse.proofs.put_name.Reads as put-name-reads
+use Rattle.parse.proofs.+parse_container+parse_inner+parse_one.{statement}
+use Rattle.parse.proofs.+parse_container+parse_inner+parse_one.Tie.{close}
+
+-- An outcome whose tag is not that of `Encoding`.
+not-found : (p : Parsed) → OneOf (0 ∷ 2 ∷ 3 ∷ 4 ∷ []) (tagOf the-type p) → NotFound p
+not-found Empty h = tt
+not-found (Encoding to k j) h = miss (0 ∷ 2 ∷ 3 ∷ 4 ∷ []) 1 tt h
+not-found (ContainerEnd k to) h = tt
+not-found (ArrayEnd to) h = tt
+not-found (Refused why to) h = tt
+
+abbrev μ-parse-container : Measures 3 parse-container-kinds.ps ℕ
+μ-parse-container κs a = 3 * (length (a .0 .now) - a .1 .0)
+
+abbrev μ-parse-inner : Measures 3 parse-inner-kinds.ps ℕ
+μ-parse-inner κs a = 3 * (length (a .0 .now) - a .1 .0) + 2
+
+abbrev μ-parse-one : Measures 3 parse-one-kinds.ps ℕ
+μ-parse-one κs a = 3 * (length (a .0 .now) - a .1 .0) + 1
+
+abbrev parse-container-at : ℕ → In 3 parse-container-kinds.ps
+parse-container-at t =
+    and
+    3
+    parse-container-kinds.ps
+    (is 3 parse-container-kinds.ps μ-parse-container t)
+    parse-container.Pre
+
+abbrev parse-container-below : ℕ → In 3 parse-container-kinds.ps
+parse-container-below t =
+    and
+    3
+    parse-container-kinds.ps
+    (falls 3 parse-container-kinds.ps _<_ μ-parse-container t)
+    parse-container.Pre
+
+abbrev parse-inner-at : ℕ → In 3 parse-inner-kinds.ps
+parse-inner-at t =
+    and 3 parse-inner-kinds.ps (is 3 parse-inner-kinds.ps μ-parse-inner t) parse-inner.Pre
+
+abbrev parse-inner-below : ℕ → In 3 parse-inner-kinds.ps
+parse-inner-below t =
+    and 3 parse-inner-kinds.ps (falls 3 parse-inner-kinds.ps _<_ μ-parse-inner t) parse-inner.Pre
+
+abbrev parse-one-at : ℕ → In 3 parse-one-kinds.ps
+parse-one-at t = and 3 parse-one-kinds.ps (is 3 parse-one-kinds.ps μ-parse-one t) parse-one.Pre
+
+abbrev parse-one-below : ℕ → In 3 parse-one-kinds.ps
+parse-one-below t =
+    and 3 parse-one-kinds.ps (falls 3 parse-one-kinds.ps _<_ μ-parse-one t) parse-one.Pre
+
+abbrev parse-container-Inv-loop : parse-container-lts.InvT-loop
+parse-container-Inv-loop text at kind words₀ n names₀ m start named to₀ k₀ l₀ words names to k l =
+    Ready text to k l (lists words names) × ((to₀ ≤ to) × (((length words ≡ length words₀) × (length names ≡ length names₀))
+    × ((z : Lists) (i : Items) → ItemsReads text to kind k l (lists words names) z i → ItemsReads text to₀ kind k₀ l₀ (lists words₀ names₀) z i)))
+
+abbrev parse-container-μ-loop : parse-container-lts.MeasureT-loop
+parse-container-μ-loop text at kind words₀ n names₀ m start named to₀ k₀ l₀ words names to k l = length text - to
+
+abbrev parse-container-claims : ℕ → parse-container-lts.Claims
+parse-container-claims t = (
+  put-name-reads.Asked,
+  put-name-reads.Learnt,
+  put-codes-reads.Asked,
+  put-codes-reads.Learnt,
+  parse-inner-below t,
+  parse-inner.Post,
+  end-items-reads.Asked,
+  end-items-reads.Learnt,
+  put-container-reads.Asked,
+  put-container-reads.Learnt,
+)
+
+abbrev parse-inner-claims : ℕ → parse-inner-lts.Claims
+parse-inner-claims t = (
+  indirections-end-reads.Asked,
+  indirections-end-reads.Learnt,
+  put-indirections-reads.Asked,
+  put-indirections-reads.Learnt,
+  parse-one-below t,
+  parse-one.Post,
+)
+
+abbrev parse-one-claims : ℕ → parse-one-lts.Claims
+parse-one-claims t = (
+  parse-u64-reads.Asked,
+  parse-u64-reads.Learnt,
+  parse-inner-below t,
+  parse-inner.Post,
+  put-array-reads.Asked,
+  put-array-reads.Learnt,
+  parse-container-below t,
+  parse-container.Post,
+  parse-simple-reads.Asked,
+  parse-simple-reads.Learnt,
+)
+
+parse-container-add-put-name : (t : ℕ) → parse-container-lts.Need-add-put-name (parse-container-claims t) (parse-container-at t) parse-container.Post parse-container-Inv-loop parse-container-μ-loop
+parse-container-add-put-name t c = omega (arith, c .before .before .before .pre .1 .at-byte)
+
+parse-container-put-name-requires : (t : ℕ) → parse-container-lts.Need-put-name-requires (parse-container-claims t) (parse-container-at t) parse-container.Post parse-container-Inv-loop parse-container-μ-loop
+parse-container-put-name-requires t c κs =
+    let p = c .before .before .before .before .pre .1 in
+    omega (arith, p .at-byte, p .ready .names-room)
+
+parse-container-enum-known-why : (t : ℕ) → parse-container-lts.Need-enum-known-why (parse-container-claims t) (parse-container-at t) parse-container.Post parse-container-Inv-loop parse-container-μ-loop
+parse-container-enum-known-why t c = search needs
+
+parse-container-enum-known-start : (t : ℕ) → parse-container-lts.Need-enum-known-start (parse-container-claims t) (parse-container-at t) parse-container.Post parse-container-Inv-loop parse-container-μ-loop
+parse-container-enum-known-start t c = search needs
+
+parse-container-add-k : (t : ℕ) → parse-container-lts.Need-add-k (parse-container-claims t) (parse-container-at t) parse-container.Post parse-container-Inv-loop parse-container-μ-loop
+parse-container-add-k t c = omega (arith, c .before .before .before .before .before .before .before .before .before .before .pre .1 .ready .words-room)
+
+parse-container-loop-holds : (t : ℕ) → parse-container-lts.Need-loop-holds (parse-container-claims t) (parse-container-at t) parse-container.Post parse-container-Inv-loop parse-container-μ-loop
+parse-container-loop-holds t c =
+    let n = c .before .before .before .before .before in
+    let s = n .before .before .before .before .before in
+    let a = s .args in
+    let p = s .pre .1 in
+    let b : Lists = lists (a .words .now) (a .names .now) in
+    let q = rw (c .before .start .given .1) at (n .put-name .ensures) in
+    let names : List ℕ = n .put-name .last .1 .1 .1 .0 in
+    let ready = ready-fields (a .text .now) (a .at) (a .n) (a .m) b names _ _ _ (p .ready) (p .at-byte) (opens-closes _ _ (p .opens)) (n .put-name .kept .1 .1 .1 .0) q in
+    (ready, (search needs, ((refl, refl), λ z i r. r)))
+
+parse-container-put-codes-requires : (t : ℕ) → parse-container-lts.Need-put-codes-requires (parse-container-claims t) (parse-container-at t) parse-container.Post parse-container-Inv-loop parse-container-μ-loop
+parse-container-put-codes-requires t c κs = (c .before .loop .inv .0 .at-place, c .before .loop .inv .0 .words-room)
+
+parse-container-sub-k : (t : ℕ) → parse-container-lts.Need-sub-k (parse-container-claims t) (parse-container-at t) parse-container.Post parse-container-Inv-loop parse-container-μ-loop
+parse-container-sub-k t c = omega (arith, c .before .before .put-codes .ensures .onward)
+
+parse-container-add-k-2 : (t : ℕ) → parse-container-lts.Need-add-k-2 (parse-container-claims t) (parse-container-at t) parse-container.Post parse-container-Inv-loop parse-container-μ-loop
+parse-container-add-k-2 t c =
+    let v = c .before .before .before .before .loop .inv in
+    omega (arith, v .0 .words-room, c .before .before .put-codes .ensures .room, v .1 .1 .0 .0)
+
+parse-container-sub-parse-inner : (t : ℕ) → parse-container-lts.Need-sub-parse-inner (parse-container-claims t) (parse-container-at t) parse-container.Post parse-container-Inv-loop parse-container-μ-loop
+parse-container-sub-parse-inner t c = search needs
+
+parse-container-part-parse-inner-start : (t : ℕ) → parse-container-lts.Need-part-parse-inner-start (parse-container-claims t) (parse-container-at t) parse-container.Post parse-container-Inv-loop parse-container-μ-loop
+parse-container-part-parse-inner-start t c = search needs
+
+parse-container-part-parse-inner-end : (t : ℕ) → parse-container-lts.Need-part-parse-inner-end (parse-container-claims t) (parse-container-at t) parse-container.Post parse-container-Inv-loop parse-container-μ-loop
+parse-container-part-parse-inner-end t c = search needs
+
+parse-container-parse-inner-requires : (t : ℕ) → parse-container-lts.Need-parse-inner-requires (parse-container-claims t) (parse-container-at t) parse-container.Post parse-container-Inv-loop parse-container-μ-loop
+parse-container-parse-inner-requires t c κs =
+    let w = c .before .before .before .before .before in
+    let x = w .put-codes in
+    let l = w .before .before .loop in
+    let n = w .before .before .before .before .before .before .before .before in
+    let s = n .before .before .before .before .before in
+    let q = rw (w .before .before .before .before .start .given .1) at (n .put-name .ensures) in
+    let ready = ready-codes (s .args .text .now) (l .to) (l .k) (l .l) (x .result) (l .words) (x .last .1 .1 .0) (l .names) (l .inv .0) (x .ensures) (x .kept .1 .1 .0) in
+    rw (whole (s .args .text .now)) (omega (arith, s .pre .0, l .inv .1 .0, x .ensures .onward, x .ensures .within, q .onward), ready)
+
+parse-container-enum-known-p : (t : ℕ) → parse-container-lts.Need-enum-known-p (parse-container-claims t) (parse-container-at t) parse-container.Post parse-container-Inv-loop parse-container-μ-loop
+parse-container-enum-known-p t c = search needs
+
+parse-container-loop-less : (t : ℕ) → parse-container-lts.Need-loop-less (parse-container-claims t) (parse-container-at t) parse-container.Post parse-container-Inv-loop parse-container-μ-loop
+parse-container-loop-less t c =
+    let i = c .before .before .before .before .before .before .before in
+    let w = i .before .before .before .before .before .before in
+    let r = rw (whole (w .before .before .before .before .before .before .before .before .before .before .before .before .before .args .text .now)) at (rw (c .before .p .given .1) at (i .parse-inner .ensures)) in
+    omega (arith, w .put-codes .ensures .onward, r .bound .onward, r .bound .within)
+
+parse-container-loop-again : (t : ℕ) → parse-container-lts.Need-loop-again (parse-container-claims t) (parse-container-at t) parse-container.Post parse-container-Inv-loop parse-container-μ-loop
+parse-container-loop-again t c =
+    let j = c .before .before .before .before .before .before .before in
+    let i = j .parse-inner in
+    let w = j .before .before .before .before .before .before in
+    let x = w .put-codes in
+    let l = w .before .before .loop in
+    let s = w .before .before .before .before .before .before .before .before .before .before .before .before .before in
+    let a = s .args in
+    let k : ℕ = l .k + (x .result - l .to) in
+    let b : Lists = lists (x .last .1 .1 .0) (l .names) in
+    let z : Lists = lists (i .last .1 .1 .0) (i .last .1 .1 .1 .1 .0) in
+    let r = rw (whole (a .text .now)) at (rw (c .before .p .given .1) at (i .ensures)) in
+    let ready = ready-codes (a .text .now) (l .to) (l .k) (l .l) (x .result) (l .words) (x .last .1 .1 .0) (l .names) (l .inv .0) (x .ensures) (x .kept .1 .1 .0) in (
+      ready-more (a .text .now) (x .result) k (l .l) b z _ _ _ ready (i .kept .1 .1 .0) (i .kept .1 .1 .1 .1 .0) (r .bound),
+      (
+        omega (arith, l .inv .1 .0, x .ensures .onward, r .bound .onward),
+        (
+          (i .kept .1 .1 .0 ∙ x .kept .1 .1 .0 ∙ l .inv .1 .1 .0 .0, i .kept .1 .1 .1 .1 .0 ∙ l .inv .1 .1 .0 .1),
+          λ y f q. l .inv .1 .1 .1 y f (x .ensures .reads (a .kind) (l .l) (l .names) y f (items-more (a .text .now) (x .result) (a .kind) k (l .l) b z _ _ _ y f r q)),
+        ),
+      ),
+    )
+
+parse-container-end-items-requires : (t : ℕ) → parse-container-lts.Need-end-items-requires (parse-container-claims t) (parse-container-at t) parse-container.Post parse-container-Inv-loop parse-container-μ-loop
+parse-container-end-items-requires t c κs = search needs
+
+parse-container-put-container-requires : (t : ℕ) → parse-container-lts.Need-put-container-requires (parse-container-claims t) (parse-container-at t) parse-container.Post parse-container-Inv-loop parse-container-μ-loop
+parse-container-put-container-requires t c κs =
+    let j = c .before .before .before .before .before .before .before in
+    let i = j .parse-inner in
+    let w = j .before .before .before .before .before .before in
+    let x = w .put-codes in
+    let l = w .before .before .loop in
+    let s = w .before .before .before .before .before .before .before .before .before .before .before .before .before in
+    let a = s .args in
+    let k : ℕ = l .k + (x .result - l .to) in
+    let b : Lists = lists (x .last .1 .1 .0) (l .names) in
+    let z : Lists = lists (i .last .1 .1 .0) (i .last .1 .1 .1 .1 .0) in
+    let o : Items = c .before .end-items .result in
+    let none = not-found (i .result) (c .before .before .match2 .keys2) in
+    let ends : ItemsReads (a .text .now) (x .result) (a .kind) k (l .l) b z o =
+    rw (c .before .end-items .ensures) (items-end (a .text .now) (x .result) (a .kind) k (l .l) b z (i .result) none (rw (whole (a .text .now)) at (i .ensures))) in
+    let f = l .inv .1 .1 .1 z o (x .ensures .reads (a .kind) (l .l) (l .names) z o ends) in
+    let n = w .before .before .before .before .before .before .before .before in
+    let q = rw (w .before .before .before .before .start .given .1) at (n .put-name .ensures) in
+    let p = s .pre .1 in
+    let two = room-two (a .text .now) (a .at) (a .n) (a .m) (lists (a .words .now) (a .names .now)) (p .ready) (p .at-byte) (opens-closes _ _ (p .opens)) in
+    ((omega (arith, two, i .kept .1 .1 .0, x .kept .1 .1 .0, l .inv .1 .1 .0 .0), omega (arith, q .names-is)), after-items _ _ _ _ _ _ o (f .bound))
+
+parse-container-same-length : (t : ℕ) → parse-container-lts.Need-same-length (parse-container-claims t) (parse-container-at t) parse-container.Post parse-container-Inv-loop parse-container-μ-loop
+parse-container-same-length t c = search needs
+
+parse-container-same-length-2 : (t : ℕ) → parse-container-lts.Need-same-length-2 (parse-container-claims t) (parse-container-at t) parse-container.Post parse-container-Inv-loop parse-container-μ-loop
+parse-container-same-length-2 t c = search needs
+
+parse-container-returns : (t : ℕ) → parse-container-lts.Need-returns (parse-container-claims t) (parse-container-at t) parse-container.Post parse-container-Inv-loop parse-container-μ-loop
+parse-container-returns t c =
+    let j = c .before .before .before .before .before .before .before .before .before .before in
+    let i = j .parse-inner in
+    let w = j .before .before .before .before .before .before in
+    let x = w .put-codes in
+    let l = w .before .before .loop in
+    let s = w .before .before .before .before .before .before .before .before .before .before .before .before .before in
+    let a = s .args in
+    let k : ℕ = l .k + (x .result - l .to) in
+    let b : Lists = lists (x .last .1 .1 .0) (l .names) in
+    let z : Lists = lists (i .last .1 .1 .0) (i .last .1 .1 .1 .1 .0) in
+    let o : Items = c .before .before .before .before .end-items .result in
+    let none = not-found (i .result) (c .before .before .before .before .before .match2 .keys2) in
+    let ends : ItemsReads (a .text .now) (x .result) (a .kind) k (l .l) b z o =
+    rw (c .before .before .before .before .end-items .ensures) (items-end (a .text .now) (x .result) (a .kind) k (l .l) b z (i .result) none (rw (whole (a .text .now)) at (i .ensures))) in
+    let f = l .inv .1 .1 .1 z o (x .ensures .reads (a .kind) (l .l) (l .names) z o ends) in
+    let n = w .before .before .before .before .before .before .before .before in
+    let q = rw (w .before .before .before .before .start .given .1) at (n .put-name .ensures) in
+    let p = s .pre .1 in
+    let d = c .before .before .put-container .ensures in
+    rw (d .0, d .1) (reads-contained (a .text .now) (a .at) (a .kind) (a .n) (a .m) (p .at-byte) (p .opens) (lists (a .words .now) (a .names .now)) (n .put-name .last .1 .1 .1 .0) _ _ q z o f)
+
+parse-container-same-length-3 : (t : ℕ) → parse-container-lts.Need-same-length-3 (parse-container-claims t) (parse-container-at t) parse-container.Post parse-container-Inv-loop parse-container-μ-loop
+parse-container-same-length-3 t c = search needs
+
+parse-container-returns-2 : (t : ℕ) → parse-container-lts.Need-returns-2 (parse-container-claims t) (parse-container-at t) parse-container.Post parse-container-Inv-loop parse-container-μ-loop
+parse-container-returns-2 t c =
+    let n = c .before .before .before .before .before in
+    let s = n .before .before .before .before .before in
+    let a = s .args in
+    let p = s .pre .1 in
+    let q = rw (c .before .why .given .1) at (n .put-name .ensures) in
+    reads-no-name (a .text .now) (a .at) (a .kind) (a .n) (a .m) (p .at-byte) (p .opens) (lists (a .words .now) (a .names .now)) (n .put-name .last .1 .1 .1 .0) _ _ q
+
+parse-inner-indirections-end-requires : (t : ℕ) → parse-inner-lts.Need-indirections-end-requires (parse-inner-claims t) (parse-inner-at t) parse-inner.Post
+parse-inner-indirections-end-requires t c κs = search needs
+
+parse-inner-put-indirections-requires : (t : ℕ) → parse-inner-lts.Need-put-indirections-requires (parse-inner-claims t) (parse-inner-at t) parse-inner.Post
+parse-inner-put-indirections-requires t c κs =
+    let e = c .before .before in
+    let s = e .before .before .before .before in
+    let a = s .args in
+    let p = s .pre .1 in
+    let b : Lists = lists (a .words .now) (a .names .now) in
+    let r = run-to isIndirection _ _ _ (p .at-place) (e .indirections-end .ensures) in
+    let room = run-room (a .text .now) (a .at) (a .n) (a .m) _ b p r in
+    record { at-place = p .at-place; ends = e .indirections-end .ensures; room = room; after = tt }
+
+parse-inner-same-length : (t : ℕ) → parse-inner-lts.Need-same-length (parse-inner-claims t) (parse-inner-at t) parse-inner.Post
+parse-inner-same-length t c = search needs
+
+parse-inner-returns : (t : ℕ) → parse-inner-lts.Need-returns (parse-inner-claims t) (parse-inner-at t) parse-inner.Post
+parse-inner-returns t c =
+    let e = c .before .before .before .before .before in
+    let s = e .before .before .before .before in
+    let a = s .args in
+    let p = s .pre .1 in
+    let b : Lists = lists (a .words .now) (a .names .now) in
+    let r = run-to isIndirection _ _ _ (p .at-place) (e .indirections-end .ensures) in
+    let ends = reads-end (a .text .now) (e .indirections-end .result) _ _ _ (omega (arith, c .before .before .before .before .if1 .taken, r .within)) in
+    c .before .before .put-indirections .ensures b (a .names .now) ends
+
+parse-inner-sub-parse-one : (t : ℕ) → parse-inner-lts.Need-sub-parse-one (parse-inner-claims t) (parse-inner-at t) parse-inner.Post
+parse-inner-sub-parse-one t c = search needs
+
+parse-inner-part-parse-one-start : (t : ℕ) → parse-inner-lts.Need-part-parse-one-start (parse-inner-claims t) (parse-inner-at t) parse-inner.Post
+parse-inner-part-parse-one-start t c = search needs
+
+parse-inner-part-parse-one-end : (t : ℕ) → parse-inner-lts.Need-part-parse-one-end (parse-inner-claims t) (parse-inner-at t) parse-inner.Post
+parse-inner-part-parse-one-end t c = search needs
+
+parse-inner-sub-parse-one-2 : (t : ℕ) → parse-inner-lts.Need-sub-parse-one-2 (parse-inner-claims t) (parse-inner-at t) parse-inner.Post
+parse-inner-sub-parse-one-2 t c =
+    let e = c .before .before .before in
+    let s = e .before .before .before .before in
+    let a = s .args in
+    let p = s .pre .1 in
+    let b : Lists = lists (a .words .now) (a .names .now) in
+    let r = run-to isIndirection _ _ _ (p .at-place) (e .indirections-end .ensures) in
+    r .onward
+
+parse-inner-add-parse-one : (t : ℕ) → parse-inner-lts.Need-add-parse-one (parse-inner-claims t) (parse-inner-at t) parse-inner.Post
+parse-inner-add-parse-one t c =
+    let e = c .before .before .before in
+    let s = e .before .before .before .before in
+    let a = s .args in
+    let p = s .pre .1 in
+    let b : Lists = lists (a .words .now) (a .names .now) in
+    let r = run-to isIndirection _ _ _ (p .at-place) (e .indirections-end .ensures) in
+    omega (arith, ready-run (a .text .now) (a .at) (a .n) (a .m) _ b p r .words-room, r .onward)
+
+parse-inner-parse-one-requires : (t : ℕ) → parse-inner-lts.Need-parse-one-requires (parse-inner-claims t) (parse-inner-at t) parse-inner.Post
+parse-inner-parse-one-requires t c κs =
+    let e = c .before .before .before .before in
+    let s = e .before .before .before .before in
+    let a = s .args in
+    let p = s .pre .1 in
+    let b : Lists = lists (a .words .now) (a .names .now) in
+    let r = run-to isIndirection _ _ _ (p .at-place) (e .indirections-end .ensures) in
+    let h = c .before .before .before .if1 .left in
+    let ready = ready-run (a .text .now) (a .at) (a .n) (a .m) _ b p r in
+    rw (whole (a .text .now)) (omega (arith, s .pre .0, r .onward), record { ready = ready; at-byte = h; direct = r .stopped h })
+
+parse-inner-put-indirections-requires-2 :
+    (t : ℕ) → parse-inner-lts.Need-put-indirections-requires-2 (parse-inner-claims t) (parse-inner-at t) parse-inner.Post
+parse-inner-put-indirections-requires-2 t c κs =
+    let e = c .before .before .before .before .before .before .before .before .before .before in
+    let s = e .before .before .before .before in
+    let a = s .args in
+    let p = s .pre .1 in
+    let b : Lists = lists (a .words .now) (a .names .now) in
+    let r = run-to isIndirection _ _ _ (p .at-place) (e .indirections-end .ensures) in
+    let i = c .before .before .before .before .before .parse-one in
+    let q = rw (whole (a .text .now)) at (i .ensures) in
+    record {
+      at-place = p .at-place;
+      ends = e .indirections-end .ensures;
+      room = λ l. omega (arith, i .kept .1 .1 .0, run-room (a .text .now) (a .at) (a .n) (a .m) _ b p r l);
+      after = after-bound _ _ _ _ _ _ (i .result) (q .bound);
+    }
+
+parse-inner-same-length-2 : (t : ℕ) → parse-inner-lts.Need-same-length-2 (parse-inner-claims t) (parse-inner-at t) parse-inner.Post
+parse-inner-same-length-2 t c = c .before .before .put-indirections2 .kept .1 .1 .1 .1 .0 ∙ c .before .before .before .before .before .before .before .before .parse-one .kept .1 .1 .0
+
+parse-inner-same-length-3 : (t : ℕ) → parse-inner-lts.Need-same-length-3 (parse-inner-claims t) (parse-inner-at t) parse-inner.Post
+parse-inner-same-length-3 t c = c .before .before .before .before .before .before .before .before .parse-one .kept .1 .1 .1 .1 .0
+
+parse-inner-returns-2 : (t : ℕ) → parse-inner-lts.Need-returns-2 (parse-inner-claims t) (parse-inner-at t) parse-inner.Post
+parse-inner-returns-2 t c =
+    let i = c .before .before .before .before .before .before .before .before .parse-one in
+    let a = c .before .before .before .before .before .before .before .before .before .before .before .before .before .before .before .before .before .args in
+    c .before .before .put-indirections2 .ensures (lists (a .words .now) (a .names .now)) (i .last .1 .1 .1 .1 .0) (rw (whole (a .text .now)) at (i .ensures))
+
+parse-one-shared-slice-read-b : (t : ℕ) → parse-one-lts.Need-shared-slice-read-b (parse-one-claims t) (parse-one-at t) parse-one.Post
+parse-one-shared-slice-read-b t c = c .before .before .before .before .pre .1 .at-byte
+
+parse-one-add-parse-u64 : (t : ℕ) → parse-one-lts.Need-add-parse-u64 (parse-one-claims t) (parse-one-at t) parse-one.Post
+parse-one-add-parse-u64 t c = omega (arith, c .before .before .before .before .before .pre .1 .at-byte, c .before .before .before .before .before .good .0)
+
+parse-one-parse-u64-requires : (t : ℕ) → parse-one-lts.Need-parse-u64-requires (parse-one-claims t) (parse-one-at t) parse-one.Post
+parse-one-parse-u64-requires t c κs = search needs
+
+parse-one-enum-known-why : (t : ℕ) → parse-one-lts.Need-enum-known-why (parse-one-claims t) (parse-one-at t) parse-one.Post
+parse-one-enum-known-why t c = search needs
+
+parse-one-enum-known-len : (t : ℕ) → parse-one-lts.Need-enum-known-len (parse-one-claims t) (parse-one-at t) parse-one.Post
+parse-one-enum-known-len t c = search needs
+
+parse-one-sub-parse-inner : (t : ℕ) → parse-one-lts.Need-sub-parse-inner (parse-one-claims t) (parse-one-at t) parse-one.Post
+parse-one-sub-parse-inner t c = search needs
+
+parse-one-part-parse-inner-start : (t : ℕ) → parse-one-lts.Need-part-parse-inner-start (parse-one-claims t) (parse-one-at t) parse-one.Post
+parse-one-part-parse-inner-start t c = search needs
+
+parse-one-part-parse-inner-end : (t : ℕ) → parse-one-lts.Need-part-parse-inner-end (parse-one-claims t) (parse-one-at t) parse-one.Post
+parse-one-part-parse-inner-end t c = search needs
+
+parse-one-add-parse-inner : (t : ℕ) → parse-one-lts.Need-add-parse-inner (parse-one-claims t) (parse-one-at t) parse-one.Post
+parse-one-add-parse-inner t c =
+    let s = c .before .before .before .before .before .before .before .before .before .before .before in
+    omega (arith, s .pre .1 .ready .words-room, slack-some (s .args .text .now) (s .args .at) (s .pre .1 .at-byte))
+
+parse-one-parse-inner-requires : (t : ℕ) → parse-one-lts.Need-parse-inner-requires (parse-one-claims t) (parse-one-at t) parse-one.Post
+unfolding start inSingles singles inOthers others closes
+parse-one-parse-inner-requires t c κs =
+    let u = c .before .before .before .before .before .before in
+    let s = u .before .before .before .before .before .before in
+    let a = s .args in
+    let h = s .pre .1 .at-byte in
+    let b : Lists = lists (a .words .now) (a .names .now) in
+    let st = starts _ 91 (u .before .match .keys1) refl in
+    let q = rw (c .before .before .before .before .len .given .1) at (number-is (a .text .now) _ (a .at + 1) _ (omega arith) (u .parse-u64 .ensures)) in
+    let ready = ready-part (a .text .now) (a .at) (a .n) (a .m) b _ (s .pre .1 .ready) h (ap closes st) (q .1 .0) (q .1 .1) in
+    rw (whole (a .text .now)) (omega (arith, s .pre .0, q .1), ready)
+
+parse-one-put-array-requires : (t : ℕ) → parse-one-lts.Need-put-array-requires (parse-one-claims t) (parse-one-at t) parse-one.Post
+unfolding start inSingles singles inOthers others closes
+parse-one-put-array-requires t c κs =
+    let i = c .before .before .before .before .before .parse-inner in
+    let m = c .before .before .before .before .before .before .before .before .before .before .before .before .before in
+    let s = m .before .before .before .before .before in
+    let a = s .args in
+    let st = starts _ 91 (m .match .keys1) refl in
+    let two = room-two (a .text .now) (a .at) (a .n) (a .m) (lists (a .words .now) (a .names .now)) (s .pre .1 .ready) (s .pre .1 .at-byte) (ap closes st) in
+    (omega (arith, two, i .kept .1 .1 .0), after-parsed _ _ _ _ _ _ (i .result) (i .ensures .bound))
+
+parse-one-sub-parse-container : (t : ℕ) → parse-one-lts.Need-sub-parse-container (parse-one-claims t) (parse-one-at t) parse-one.Post
+parse-one-sub-parse-container t c = search needs
+
+parse-one-part-parse-container-start : (t : ℕ) → parse-one-lts.Need-part-parse-container-start (parse-one-claims t) (parse-one-at t) parse-one.Post
+parse-one-part-parse-container-start t c = search needs
+
+parse-one-part-parse-container-end : (t : ℕ) → parse-one-lts.Need-part-parse-container-end (parse-one-claims t) (parse-one-at t) parse-one.Post
+parse-one-part-parse-container-end t c = search needs
+
+parse-one-parse-container-requires : (t : ℕ) → parse-one-lts.Need-parse-container-requires (parse-one-claims t) (parse-one-at t) parse-one.Post
+unfolding start inSingles singles inOthers others closes
+parse-one-parse-container-requires t c κs =
+    let m = c .before .before .before in
+    let s = m .before .before .before .before .before in
+    let p = s .pre .1 in
+    rw (whole (s .args .text .now)) (omega (arith, s .pre .0), record { ready = p .ready; at-byte = p .at-byte; opens = starts _ 123 (m .match .keys2) refl })
+
+parse-one-sub-parse-container-2 : (t : ℕ) → parse-one-lts.Need-sub-parse-container-2 (parse-one-claims t) (parse-one-at t) parse-one.Post
+parse-one-sub-parse-container-2 t c = search needs
+
+parse-one-part-parse-container-start-2 : (t : ℕ) → parse-one-lts.Need-part-parse-container-start-2 (parse-one-claims t) (parse-one-at t) parse-one.Post
+parse-one-part-parse-container-start-2 t c = search needs
+
+parse-one-part-parse-container-end-2 : (t : ℕ) → parse-one-lts.Need-part-parse-container-end-2 (parse-one-claims t) (parse-one-at t) parse-one.Post
+parse-one-part-parse-container-end-2 t c = search needs
+
+parse-one-parse-container-requires-2 : (t : ℕ) → parse-one-lts.Need-parse-container-requires-2 (parse-one-claims t) (parse-one-at t) parse-one.Post
+unfolding start inSingles singles inOthers others closes
+parse-one-parse-container-requires-2 t c κs =
+    let m = c .before .before .before in
+    let s = m .before .before .before .before .before in
+    let p = s .pre .1 in
+    rw (whole (s .args .text .now)) (omega (arith, s .pre .0), record { ready = p .ready; at-byte = p .at-byte; opens = starts _ 40 (m .match .keys3) refl })
+
+parse-one-parse-simple-requires : (t : ℕ) → parse-one-lts.Need-parse-simple-requires (parse-one-claims t) (parse-one-at t) parse-one.Post
+parse-one-parse-simple-requires t c κs =
+    let p = c .before .before .before .before .before .before .pre .1 in
+    let r = c .before .match .rest in
+    let d = not-indirection _ (p .direct) in
+    record { at-place = p .at-byte; words-room = p .ready .words-room; plain = without-parts _ (((d, r .0 .0 .1), r .0 .1), r .1) }
+
+parse-one-returns : (t : ℕ) → parse-one-lts.Need-returns (parse-one-claims t) (parse-one-at t) parse-one.Post
+unfolding start inSingles singles inOthers others closes
+parse-one-returns t c =
+    let u = c .before .before .before in
+    let s = u .before .before .before .before .before .before in
+    let a = s .args in
+    let h = s .pre .1 .at-byte in
+    let b : Lists = lists (a .words .now) (a .names .now) in
+    let st = starts _ 91 (u .before .match .keys1) refl in
+    let q = rw (c .before .why .given .1) at (number-is (a .text .now) _ (a .at + 1) _ (omega arith) (u .parse-u64 .ensures)) in
+    reads-no-number (a .text .now) _ (a .n) (a .m) b _ _ h st (q .0) (q .1 .1)
+
+parse-one-same-length : (t : ℕ) → parse-one-lts.Need-same-length (parse-one-claims t) (parse-one-at t) parse-one.Post
+parse-one-same-length t c = c .before .before .put-array .kept .1 .1 .1 .1 .0 ∙ c .before .before .before .before .before .before .before .before .parse-inner .kept .1 .1 .0
+
+parse-one-same-length-2 : (t : ℕ) → parse-one-lts.Need-same-length-2 (parse-one-claims t) (parse-one-at t) parse-one.Post
+parse-one-same-length-2 t c = c .before .before .before .before .before .before .before .before .parse-inner .kept .1 .1 .1 .1 .0
+
+parse-one-returns-2 : (t : ℕ) → parse-one-lts.Need-returns-2 (parse-one-claims t) (parse-one-at t) parse-one.Post
+unfolding start inSingles singles inOthers others closes
+parse-one-returns-2 t c =
+    let u = c .before .before .before .before .before .before .before .before .before .before .before .before .before .before .before in
+    let s = u .before .before .before .before .before .before in
+    let a = s .args in
+    let h = s .pre .1 .at-byte in
+    let b : Lists = lists (a .words .now) (a .names .now) in
+    let st = starts _ 91 (u .before .match .keys1) refl in
+    let q = rw (c .before .before .before .before .before .before .before .before .before .before .before .before .before .len .given .1) at (number-is (a .text .now) _ (a .at + 1) _ (omega arith) (u .parse-u64 .ensures)) in
+    let i = c .before .before .before .before .before .before .before .before .parse-inner in
+    let z : Lists = lists (i .last .1 .1 .0) (i .last .1 .1 .1 .1 .0) in
+    let d = c .before .before .put-array .ensures in
+    rw (d .0, d .1) (reads-item (a .text .now) _ (a .n) (a .m) _ _ h st (q .0) (q .1 .0) (q .1 .1) b z (i .result) (rw (whole (a .text .now)) at (i .ensures)))
+
+parse-one-same-length-3 : (t : ℕ) → parse-one-lts.Need-same-length-3 (parse-one-claims t) (parse-one-at t) parse-one.Post
+parse-one-same-length-3 t c = search needs
+
+parse-one-same-length-4 : (t : ℕ) → parse-one-lts.Need-same-length-4 (parse-one-claims t) (parse-one-at t) parse-one.Post
+parse-one-same-length-4 t c = search needs
+
+parse-one-returns-3 : (t : ℕ) → parse-one-lts.Need-returns-3 (parse-one-claims t) (parse-one-at t) parse-one.Post
+parse-one-returns-3 t c = rw (whole (c .before .before .before .before .before .before .before .before .before .before .before .before .before .args .text .now)) at (c .before .before .before .before .parse-container .ensures)
+
+parse-one-same-length-5 : (t : ℕ) → parse-one-lts.Need-same-length-5 (parse-one-claims t) (parse-one-at t) parse-one.Post
+parse-one-same-length-5 t c = search needs
+
+parse-one-same-length-6 : (t : ℕ) → parse-one-lts.Need-same-length-6 (parse-one-claims t) (parse-one-at t) parse-one.Post
+parse-one-same-length-6 t c = search needs
+
+parse-one-returns-4 : (t : ℕ) → parse-one-lts.Need-returns-4 (parse-one-claims t) (parse-one-at t) parse-one.Post
+parse-one-returns-4 t c = rw (whole (c .before .before .before .before .before .before .before .before .before .before .before .before .before .args .text .now)) at (c .before .before .before .before .parse-container2 .ensures)
+
+parse-one-same-length-7 : (t : ℕ) → parse-one-lts.Need-same-length-7 (parse-one-claims t) (parse-one-at t) parse-one.Post
+parse-one-same-length-7 t c = search needs
+
+parse-one-returns-5 : (t : ℕ) → parse-one-lts.Need-returns-5 (parse-one-claims t) (parse-one-at t) parse-one.Post
+parse-one-returns-5 t c = reads-simple _ _ _ _ _ _ _ _ (c .before .before .before .before .before .before .before .before .before .pre .1 .at-byte) (c .before .before .parse-simple .ensures)
+
+pub +parse-container+parse-inner+parse-one-spec : {M : Type 1} → statement M
++parse-container+parse-inner+parse-one-spec =
+    close μ-parse-container μ-parse-inner μ-parse-one (λ t. parse-container-lts.spec (parse-container-claims t) (parse-container-at t) parse-container.Post
+    parse-container-Inv-loop
+    parse-container-μ-loop
+    (parse-container-add-put-name t)
+    (parse-container-put-name-requires t)
+    (parse-container-enum-known-why t)
+    (parse-container-enum-known-start t)
+    (parse-container-add-k t)
+    (parse-container-loop-holds t)
+    (parse-container-put-codes-requires t)
+    (parse-container-sub-k t)
+    (parse-container-add-k-2 t)
+    (parse-container-sub-parse-inner t)
+    (parse-container-part-parse-inner-start t)
+    (parse-container-part-parse-inner-end t)
+    (parse-container-parse-inner-requires t)
+    (parse-container-enum-known-p t)
+    (parse-container-loop-less t)
+    (parse-container-loop-again t)
+    (parse-container-end-items-requires t)
+    (parse-container-put-container-requires t)
+    (parse-container-same-length t)
+    (parse-container-same-length-2 t)
+    (parse-container-returns t)
+    (parse-container-same-length-3 t)
+    (parse-container-returns-2 t))
+    (λ t. parse-inner-lts.spec (parse-inner-claims t) (parse-inner-at t) parse-inner.Post
+    (parse-inner-indirections-end-requires t)
+    (parse-inner-put-indirections-requires t)
+    (parse-inner-same-length t)
+    (parse-inner-returns t)
+    (parse-inner-sub-parse-one t)
+    (parse-inner-part-parse-one-start t)
+    (parse-inner-part-parse-one-end t)
+    (parse-inner-sub-parse-one-2 t)
+    (parse-inner-add-parse-one t)
+    (parse-inner-parse-one-requires t)
+    (parse-inner-put-indirections-requires-2 t)
+    (parse-inner-same-length-2 t)
+    (parse-inner-same-length-3 t)
+    (parse-inner-returns-2 t))
+    λ t. parse-one-lts.spec (parse-one-claims t) (parse-one-at t) parse-one.Post
+    (parse-one-shared-slice-read-b t)
+    (parse-one-add-parse-u64 t)
+    (parse-one-parse-u64-requires t)
+    (parse-one-enum-known-why t)
+    (parse-one-enum-known-len t)
+    (parse-one-sub-parse-inner t)
+    (parse-one-part-parse-inner-start t)
+    (parse-one-part-parse-inner-end t)
+    (parse-one-add-parse-inner t)
+    (parse-one-parse-inner-requires t)
+    (parse-one-put-array-requires t)
+    (parse-one-sub-parse-container t)
+    (parse-one-part-parse-container-start t)
+    (parse-one-part-parse-container-end t)
+    (parse-one-parse-container-requires t)
+    (parse-one-sub-parse-container-2 t)
+    (parse-one-part-parse-container-start-2 t)
+    (parse-one-part-parse-container-end-2 t)
+    (parse-one-parse-container-requires-2 t)
+    (parse-one-parse-simple-requires t)
+    (parse-one-returns t)
+    (parse-one-same-length t)
+    (parse-one-same-length-2 t)
+    (parse-one-returns-2 t)
+    (parse-one-same-length-3 t)
+    (parse-one-same-length-4 t)
+    (parse-one-returns-3 t)
+    (parse-one-same-length-5 t)
+    (parse-one-same-length-6 t)
+    (parse-one-returns-4 t)
+    (parse-one-same-length-7 t)
+    (parse-one-returns-5 t)

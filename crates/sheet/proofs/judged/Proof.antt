@@ -1,0 +1,90 @@
+use native.Mathlib.Omega.{arith}
+use mathlib.Core.Path.{sym, _∙_}
+use Rattle.kinds.proofs.ListLaws.{part-rest, whole}
+use Rattle.kinds.proofs.SheetLaws.{header-says}
+use Rattle.sheet.proofs.TestLaws.{passed, failed}
+use Rattle.sheet.proofs.AnswerLaws.{verdict-header, verdict-count, part-room, verdict-pass}
+use borrow.Author.Needs.{needs}
+use Rattle.sheet.proofs.judged.Statement.{statement}
+use Rattle.sheet.proofs.judged.Tie as tie
+
+header-ok-requires : tie.Need-header-ok-requires
+header-ok-requires c κs = search needs
+
+returns : tie.Need-returns
+returns c = sym (verdict-header _ _ (failed (c .before .header-ok .ensures) (c .if1 .taken)))
+
+shared-slice-read-nodes : tie.Need-shared-slice-read-nodes
+shared-slice-read-nodes c = let h = header-says _ _ (passed (c .before .before .header-ok .ensures) (c .before .if1 .left)) in omega arith
+
+add-if2 : tie.Need-add-if2
+add-if2 c = search needs
+
+mul-if2 : tie.Need-mul-if2
+mul-if2 c = search needs
+
+shared-slice-read-if2 : tie.Need-shared-slice-read-if2
+shared-slice-read-if2 c = let h = header-says _ _ (passed (c .before .before .before .header-ok .ensures) (c .before .before .if1 .left)) in omega arith
+
+returns-2 : tie.Need-returns-2
+returns-2 c = sym (verdict-count _ _ (passed (c .before .before .before .before .header-ok .ensures) (c .before .before .before .if1 .left)) (c .if2 .taken))
+
+shared-slice-read-end : tie.Need-shared-slice-read-end
+shared-slice-read-end c = let h = header-says _ _ (passed (c .before .before .before .before .before .header-ok .ensures) (c .before .before .before .before .if1 .left)) in omega arith
+
+sub-check-nodes : tie.Need-sub-check-nodes
+sub-check-nodes c = let h = header-says _ _ (passed (c .before .before .before .before .before .header-ok .ensures) (c .before .before .before .before .if1 .left)) in omega arith
+
+part-check-nodes-start : tie.Need-part-check-nodes-start
+part-check-nodes-start c = let h = header-says _ _ (passed (c .before .before .before .before .before .header-ok .ensures) (c .before .before .before .before .if1 .left)) in omega arith
+
+part-check-nodes-end : tie.Need-part-check-nodes-end
+part-check-nodes-end c = search needs
+
+sub-check-nodes-2 : tie.Need-sub-check-nodes-2
+sub-check-nodes-2 c = search needs
+
+part-check-nodes-start-2 : tie.Need-part-check-nodes-start-2
+part-check-nodes-start-2 c = search needs
+
+part-check-nodes-end-2 : tie.Need-part-check-nodes-end-2
+part-check-nodes-end-2 c = search needs
+
+check-nodes-requires : tie.Need-check-nodes-requires
+check-nodes-requires c κs =
+    let a = c .before .before .before .before .before .before .before .before .before .before .args in
+    let p = passed (c .before .before .before .before .before .before .before .header-ok .ensures) (c .before .before .before .before .before .before .if1 .left) in
+    let h = header-says _ _ p in
+    (part-room _ (a .names .now) p _ (part-rest (a .words .now) 4), omega arith, rw whole (h .bytes))
+
+answer-of-requires : tie.Need-answer-of-requires
+answer-of-requires c κs = search needs
+
+returns-3 : tie.Need-returns-3
+returns-3 c =
+    let p = passed (c .before .before .before .before .before .before .before .before .before .header-ok .ensures) (c .before .before .before .before .before .before .before .before .if1 .left) in
+    c .answer-of .ensures
+    ∙ verdict-pass _ _ p _ (part-rest (c .before .before .before .before .before .before .before .before .before .before .before .before .args .words .now) 4)
+    (c .before .before .before .before .before .if2 .left) _ (rw whole at (c .before .check-nodes .ensures))
+
+pub judged-spec : {M : Type 1} → statement M
+judged-spec =
+    tie.close
+    (tie.spec
+    header-ok-requires
+    returns
+    shared-slice-read-nodes
+    add-if2
+    mul-if2
+    shared-slice-read-if2
+    returns-2
+    shared-slice-read-end
+    sub-check-nodes
+    part-check-nodes-start
+    part-check-nodes-end
+    sub-check-nodes-2
+    part-check-nodes-start-2
+    part-check-nodes-end-2
+    check-nodes-requires
+    answer-of-requires
+    returns-3)

@@ -1,0 +1,57 @@
+use mathlib.Core.Path.{refl, sym, _∙_}
+use borrow.Author.Needs.{needs}
+use Rattle.skip.proofs.end_skipped.Statement.{statement}
+use Rattle.skip.proofs.end_skipped.Tie as tie
+
+enum-told : tie.Need-enum-told
+enum-told c = search needs
+
+enum-told-2 : tie.Need-enum-told-2
+enum-told-2 c = search needs
+
+enum-known-s : tie.Need-enum-known-s
+enum-known-s c = search needs
+
+same-container-requires : tie.Need-same-container-requires
+same-container-requires c κs = search needs
+
+enum-told-3 : tie.Need-enum-told-3
+enum-told-3 c = search needs
+
+enum-told-4 : tie.Need-enum-told-4
+enum-told-4 c = search needs
+
+returns : tie.Need-returns
+returns c = search needs
+
+returns-2 : tie.Need-returns-2
+returns-2 c = search needs
+
+returns-3 : tie.Need-returns-3
+returns-3 c = rw (c .before .before .before .s .given .1, sym (c .before .same-container .ensures) ∙ c .if1 .taken) refl
+
+returns-4 : tie.Need-returns-4
+returns-4 c = rw (c .before .before .before .s .given .1, sym (c .before .same-container .ensures) ∙ c .if1 .left) refl
+
+returns-5 : tie.Need-returns-5
+returns-5 c = search needs
+
+returns-6 : tie.Need-returns-6
+returns-6 c = search needs
+
+pub end-skipped-spec : {M : Type 1} → statement M
+end-skipped-spec =
+    tie.close
+    (tie.spec
+    enum-told
+    enum-told-2
+    enum-known-s
+    same-container-requires
+    enum-told-3
+    enum-told-4
+    returns
+    returns-2
+    returns-3
+    returns-4
+    returns-5
+    returns-6)

@@ -1,0 +1,54 @@
+use mathlib.Core.Path.{refl}
+use borrow.Author.Tests.{eq-eqb, ne-eqb}
+use borrow.Author.Needs.{needs}
+use Rattle.skip.proofs.skip_held.Statement.{statement}
+use Rattle.skip.proofs.skip_held.Tie as tie
+
+returns : tie.Need-returns
+returns c = simp (eq-eqb _ _ (c .if1 .taken))
+
+enum-told : tie.Need-enum-told
+enum-told c = search needs
+
+enum-known-s : tie.Need-enum-known-s
+enum-known-s c = search needs
+
+enum-told-2 : tie.Need-enum-told-2
+enum-told-2 c = search needs
+
+enum-told-3 : tie.Need-enum-told-3
+enum-told-3 c = search needs
+
+enum-told-4 : tie.Need-enum-told-4
+enum-told-4 c = search needs
+
+returns-2 : tie.Need-returns-2
+returns-2 c = rw (c .enum-told .given .1, ne-eqb _ _ (c .before .before .if1 .left)) refl
+
+returns-3 : tie.Need-returns-3
+returns-3 c = rw (c .before .s .given .1, ne-eqb _ _ (c .before .before .before .if1 .left)) refl
+
+returns-4 : tie.Need-returns-4
+returns-4 c = rw (c .enum-told2 .given .1, ne-eqb _ _ (c .before .before .if1 .left)) refl
+
+returns-5 : tie.Need-returns-5
+returns-5 c = rw (c .enum-told3 .given .1, ne-eqb _ _ (c .before .before .if1 .left)) refl
+
+returns-6 : tie.Need-returns-6
+returns-6 c = rw (c .enum-told4 .given .1, ne-eqb _ _ (c .before .before .if1 .left)) refl
+
+pub skip-held-spec : {M : Type 1} → statement M
+skip-held-spec =
+    tie.close
+    (tie.spec
+    returns
+    enum-told
+    enum-known-s
+    enum-told-2
+    enum-told-3
+    enum-told-4
+    returns-2
+    returns-3
+    returns-4
+    returns-5
+    returns-6)

@@ -1,0 +1,65 @@
+use mathlib.Core.Path.{refl, sym, _∙_}
+use native.Mathlib.Omega.{arith}
+use Rattle.codes.proofs.StepLaws.{closed-in}
+use borrow.Author.Needs.{needs}
+use Rattle.skip.proofs.skip_item.Statement.{statement}
+use Rattle.skip.proofs.skip_item.Tie as tie
+
+enum-told : tie.Need-enum-told
+enum-told c = search needs
+
+enum-known-s : tie.Need-enum-known-s
+enum-known-s c = search needs
+
+closes-item-requires : tie.Need-closes-item-requires
+closes-item-requires c κs = search needs
+
+add-t8 : tie.Need-add-t8
+add-t8 c =
+    let p = c .before .before .before in
+    omega (arith, closed-in (p .before .before .before .args .text .now) (p .s .given .0 .0) (sym (c .before .closes-item .ensures) ∙ c .if1 .taken))
+
+enum-told-2 : tie.Need-enum-told-2
+enum-told-2 c = search needs
+
+enum-known-s-2 : tie.Need-enum-known-s-2
+enum-known-s-2 c = search needs
+
+enum-told-3 : tie.Need-enum-told-3
+enum-told-3 c = search needs
+
+returns : tie.Need-returns
+returns c = search needs
+
+returns-2 : tie.Need-returns-2
+returns-2 c = rw (c .before .before .before .s .given .1, sym (c .before .closes-item .ensures) ∙ c .if1 .taken) refl
+
+returns-3 : tie.Need-returns-3
+returns-3 c = rw (c .before .before .before .s .given .1, sym (c .before .closes-item .ensures) ∙ c .if1 .left) refl
+
+returns-4 : tie.Need-returns-4
+returns-4 c = search needs
+
+returns-5 : tie.Need-returns-5
+returns-5 c = rw (c .before .s2 .given .1) refl
+
+returns-6 : tie.Need-returns-6
+returns-6 c = search needs
+
+pub skip-item-spec : {M : Type 1} → statement M
+skip-item-spec =
+    tie.close
+    (tie.spec
+    enum-told
+    enum-known-s
+    closes-item-requires
+    add-t8
+    enum-told-2
+    enum-known-s-2
+    enum-told-3
+    returns
+    returns-2
+    returns-3
+    returns-4
+    returns-5
+    returns-6)

@@ -1,0 +1,73 @@
+use mathlib.Core.Path.{refl}
+use borrow.Author.Needs.{needs}
+use Rattle.skip.proofs.skip_token.Statement.{statement}
+use Rattle.skip.proofs.skip_token.Tie as tie
+
+enum-known-t : tie.Need-enum-known-t
+enum-known-t c = search needs
+
+enum-known-t-2 : tie.Need-enum-known-t-2
+enum-known-t-2 c = search needs
+
+enum-known-t-3 : tie.Need-enum-known-t-3
+enum-known-t-3 c = search needs
+
+enum-known-t-4 : tie.Need-enum-known-t-4
+enum-known-t-4 c = search needs
+
+enum-known-t-5 : tie.Need-enum-known-t-5
+enum-known-t-5 c = search needs
+
+enum-told : tie.Need-enum-told
+enum-told c = search needs
+
+enum-told-2 : tie.Need-enum-told-2
+enum-told-2 c = search needs
+
+enum-told-3 : tie.Need-enum-told-3
+enum-told-3 c = search needs
+
+returns : tie.Need-returns
+returns c = rw (c .before .t .given .1) refl
+
+returns-2 : tie.Need-returns-2
+returns-2 c = rw (c .before .t2 .given .1) refl
+
+returns-3 : tie.Need-returns-3
+returns-3 c = rw (c .before .t3 .given .1) refl
+
+returns-4 : tie.Need-returns-4
+returns-4 c = rw (c .before .t4 .given .1) refl
+
+returns-5 : tie.Need-returns-5
+returns-5 c = rw (c .before .t5 .given .1) refl
+
+returns-6 : tie.Need-returns-6
+returns-6 c = search needs
+
+returns-7 : tie.Need-returns-7
+returns-7 c = search needs
+
+returns-8 : tie.Need-returns-8
+returns-8 c = search needs
+
+pub skip-token-spec : {M : Type 1} → statement M
+skip-token-spec =
+    tie.close
+    (tie.spec
+    enum-known-t
+    enum-known-t-2
+    enum-known-t-3
+    enum-known-t-4
+    enum-known-t-5
+    enum-told
+    enum-told-2
+    enum-told-3
+    returns
+    returns-2
+    returns-3
+    returns-4
+    returns-5
+    returns-6
+    returns-7
+    returns-8)
