@@ -4,7 +4,7 @@ use mathlib.Core.Path.{_≡_}
 use mathlib.Core.List.{List}
 use Rattle.kinds.specs.Sheet.{namesOf, sheetOf}
 use Rattle.kinds.specs.declared.Refusal.the-variants.{OutputTooShort}
-use Rattle.static_str.specs.Outcome.{encodingLen, encodingArray}
+use Rattle.static_str.specs.Answer.{encodingLen, encodingArray}
 use Rattle.static_str.specs.declared.Printed.the-variants.{Refused, Bytes}
 use Rattle.bounds.specs.Limits.{maxPrint}
 use Rattle.bounds.specs.Extremes.{longest}

@@ -6,7 +6,7 @@ use mathlib.Core.List.{List}
 use lib.ListN.{length, getD}
 use Rattle.kinds.specs.Parse.{fromStr, fromStartOfStr}
 use Rattle.kinds.specs.declared.Refusal.the-variants.{TextTooLong, ListTooShort}
-use Rattle.parse.specs.EncodingBox.{wholeReading, startReading, fromStrAnswer, fromStrWords, fromStartAnswer}
+use Rattle.parse.specs.Answer.{wholeReading, startReading, fromStrAnswer, fromStrWords, fromStartAnswer}
 use Rattle.parse.specs.declared.Reading.the-variants.{Tree, Refused}
 use Rattle.bounds.specs.Extremes.{pointers}
 use Rattle.bounds.specs.Limits.{maxText, wordsFor, namesFor}

@@ -11,11 +11,11 @@ use lib.ListN.{length, getD, replicate, length-replicate}
 use Rattle.kinds.specs.Byte.{byte, among}
 use Rattle.kinds.specs.Parse as P
 use Rattle.kinds.specs.Parse.{Parsed, empty, encoding, Whole, start, begin, held, parseInner, parse, isQualifier, qualifiers, stripLeadingQualifiers, encodingOrNone, parseEncodingOrNone, whole, fromStr, fromStartOfStr}
-use Rattle.kinds.specs.Sheet.{sheetOf, headerOf}
+use Rattle.kinds.specs.Sheet.{maxText, sheetOf, headerOf}
 use Rattle.kinds.specs.Tree as T
 use Rattle.kinds.specs.Tree.{Trees, end, node, pointer, count}
 use Rattle.kinds.specs.declared.Refusal.the-variants.{TextTooLong, ListTooShort}
-use Rattle.parse.specs.EncodingBox.{maxText, used, hasRoom, turnedAway, padded, filled, sheetWords, unlessAway, wordsAfter, wholeTree, wholeReading, startReading, answerOr, fromStrAnswer, fromStrWords, fromStartAnswer}
+use Rattle.parse.specs.Answer.{used, hasRoom, turnedAway, padded, filled, sheetWords, unlessAway, wordsAfter, wholeTree, wholeReading, startReading, answerOr, fromStrAnswer, fromStrWords, fromStartAnswer}
 use Rattle.parse.specs.declared.Reading.the-variants.{Tree, Refused}
 use Rattle.bounds.specs.Extremes.{pointers}
 use Rattle.bounds.specs.Limits.{wordsFor, namesFor}
