@@ -21,7 +21,8 @@ use Rattle.kinds.specs.declared.ErrorKind.the-variants.{ExpectedInteger}
 use Rattle.kinds.specs.declared.NestingLevel.{NestingLevel}
 use Rattle.kinds.proofs.TableLaws.{both}
 use Rattle.agreement.proofs.ByteLaws.{not-false, Each, each, apart, every, passes, _also_}
-use Rattle.agreement.proofs.DigitLaws.{startsDigit, read-decimal, within-limit, beyond-limit}
+use Rattle.kinds.proofs.ParseLaws.{within-limit, beyond-limit}
+use Rattle.agreement.proofs.DigitLaws.{startsDigit, read-decimal}
 use Rattle.agreement.proofs.FitLaws.{fitLabel, fit, fit-parts}
 use Rattle.agreement.proofs.FollowLaws.{mayFollow}
 use Rattle.agreement.proofs.RoundTrip.{integrals, isEnd-end, isNone-none, integral-label, ClearTree, clear-parts, print-one}

@@ -5,11 +5,10 @@ use mathlib.Core.List.{List, [], _∷_, _++_}
 use mathlib.Core.Bool.{Bool, true, false, false≢true}
 use native.Mathlib.Omega.{arith}
 use lib.Dec.{ltb}
-use borrow.Author.Tests.{ltb-true, ltb-false, lt-ltb, le-ltb, le-leb, lt-leb}
+use borrow.Author.Tests.{ltb-true, ltb-false, lt-ltb, le-ltb, le-leb}
 use Rattle.kinds.specs.Byte.{byte, isDigit}
-use Rattle.kinds.specs.Parse.{value, noNumber, moreDigits, bounded, parseNumber}
+use Rattle.kinds.specs.Parse.{value, moreDigits, bounded, parseNumber}
 use Rattle.kinds.specs.Print.{digits, decimal}
-use Rattle.kinds.specs.declared.ErrorKind.the-variants.{IntegerTooLarge}
 
 digit-byte : (n : ℕ) → n < 10 → isDigit (byte "0" + n) ≡ true
 unfolding isDigit
@@ -67,11 +66,3 @@ number-start limit (b ∷ s) h = rw (h, parseNumber)
 pub read-decimal : (limit n : ℕ) (r : List ℕ) → startsDigit r ≡ false → parseNumber limit (decimal n ++ r) ≡ bounded limit (value n r)
 unfolding decimal
 read-decimal limit n r h = number-start limit (decimal n ++ r) (decimal-start n r) ∙ ap (bounded limit) (read-digits (suc n) n [] r (omega arith) ∙ digits-stop n r h)
-
-pub within-limit : (limit n : ℕ) (r : List ℕ) → n ≤ limit → bounded limit (value n r) ≡ value n r
-unfolding bounded
-within-limit limit n r h = rw (le-leb n limit h, bounded)
-
-pub beyond-limit : (limit n : ℕ) (r : List ℕ) → limit < n → bounded limit (value n r) ≡ noNumber IntegerTooLarge r
-unfolding bounded
-beyond-limit limit n r h = rw (lt-leb n limit h, bounded)

@@ -1,12 +1,12 @@
 -- A tree that is read is valid, has good names, and no more nodes and name bytes than the text has room for.
 use Prim.Native.Nat.{ℕ, zero, suc, _+_, _*_, _-_, _≤_, _<_}
 use native.Mathlib.Omega.{arith}
-use mathlib.Core.Path.{_≡_, refl, sym, ap, subst, _∙_}
-use mathlib.Core.List.{List, [], _∷_, _++_, append-nil}
+use mathlib.Core.Path.{_≡_, refl, ap, subst}
+use mathlib.Core.List.{List, [], _∷_, _++_}
 use mathlib.Core.Bool.{Bool, true, false, _&&_, false≢true}
 use lib.Dec.{leb, ltb, eqb}
 use lib.ListN.{length, length-append}
-use Rattle.kinds.specs.Byte.{byte, among, isDigit}
+use Rattle.kinds.specs.Byte.{byte, isDigit}
 use Rattle.kinds.specs.Container.{endByte, sameContainer}
 use Rattle.kinds.specs.Name.{verifyName}
 use Rattle.kinds.specs.Parse as P
@@ -18,10 +18,9 @@ use Rattle.kinds.specs.Parse.{stripLeadingQualifiers, Encoded, encoded, notEnco
 use Rattle.kinds.specs.Parse.{unknownDigit, fromStart, fromStartOfStr}
 use Rattle.kinds.specs.Sheet.{namesOf}
 use Rattle.kinds.specs.Sound.{validLabel, validCount, valid, goodName, goodNames}
-use Rattle.kinds.specs.Tree.{Label, Trees, end, node, primitive, bitField, typedBitField, pointer, atomic, array, struct, union, none, isEnd, isOne, count, name}
+use Rattle.kinds.specs.Tree.{Label, Trees, end, node, primitive, bitField, pointer, atomic, array, none, isEnd, isOne, count, name}
 use Rattle.kinds.specs.declared.ContainerKind.{ContainerKind}
 use Rattle.kinds.specs.declared.ContainerKind.the-variants.{Struct, Union}
-use Rattle.kinds.specs.declared.ErrorKind.{ErrorKind}
 use Rattle.agreement.specs.Readable.{Readable}
 
 -- ---- What a byte begins.

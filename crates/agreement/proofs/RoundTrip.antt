@@ -25,7 +25,8 @@ use Rattle.kinds.specs.declared.NestingLevel.{NestingLevel}
 use Rattle.kinds.specs.declared.NestingLevel.the-variants.{Top, Within, Bottom}
 use Rattle.kinds.proofs.TableLaws.{both}
 use Rattle.agreement.proofs.ByteLaws.{not-false, below, each, lacks, name-lacks, _also_, _next_}
-use Rattle.agreement.proofs.DigitLaws.{startsDigit, decimal-start, read-decimal, within-limit}
+use Rattle.kinds.proofs.ParseLaws.{within-limit}
+use Rattle.agreement.proofs.DigitLaws.{startsDigit, decimal-start, read-decimal}
 use Rattle.agreement.proofs.FitLaws.{fitLabel, fit, fit-parts}
 use Rattle.agreement.proofs.FollowLaws.{mayFollow, no-digit, startsTyped, no-typed, startsQuote, no-quote, closer-follows, bracket-follows, trees-follow}
 

@@ -1,9 +1,9 @@
 -- The tree that prints the most bytes: it is one that a sheet can hold, and the length of its print.
-use Prim.Native.Nat.{ℕ, zero, suc, _+_, _*_, _≤_, _<_}
+use Prim.Native.Nat.{ℕ, zero, suc, _+_, _*_}
 use native.Mathlib.Omega.{arith}
-use mathlib.Core.Path.{_≡_, refl, sym, ap, _∙_}
-use mathlib.Core.List.{List, [], _∷_, _++_, append-nil}
-use mathlib.Core.Bool.{Bool, true, false, _&&_}
+use mathlib.Core.Path.{_≡_, refl, ap, _∙_}
+use mathlib.Core.List.{[], _∷_, _++_, append-nil}
+use mathlib.Core.Bool.{true}
 use lib.ListN.{length, length-append, length-replicate, replicate}
 use Rattle.kinds.specs.Byte.{byte, bytes, isDigit}
 use Rattle.kinds.specs.Name.{isNameByte, allNameBytes, verifyName}
@@ -11,9 +11,9 @@ use Rattle.kinds.specs.Parse.{maxU64, maxU8}
 use Rattle.kinds.specs.Print.{digits, decimal, fields, printNode, print}
 use Rattle.kinds.specs.Sheet.{namesOf}
 use Rattle.kinds.specs.Sound.{validLabel, validCount, valid, goodName, goodNames}
-use Rattle.kinds.specs.Tree.{Label, Trees, end, node, primitive, bitField, typedBitField, pointer, atomic, array, struct, union, none, inside, isEnd, isOne, count, name}
+use Rattle.kinds.specs.Tree.{Trees, end, node, struct, isEnd, isOne, count, name}
 use Rattle.kinds.specs.declared.NestingLevel.{NestingLevel}
-use Rattle.kinds.specs.declared.NestingLevel.the-variants.{Top, Within, Bottom}
+use Rattle.kinds.specs.declared.NestingLevel.the-variants.{Top}
 use Rattle.bounds.specs.Extremes.{bitFields, named}
 
 -- What a bitfield with type adds.

@@ -1,7 +1,7 @@
 -- How long the print of valid trees can be, by their nodes and name bytes.
-use Prim.Native.Nat.{ℕ, zero, suc, _+_, _-_, _*_, _/_, _^_, _≤_, _<_}
+use Prim.Native.Nat.{ℕ, suc, _+_, _*_, _/_, _≤_, _<_}
 use native.Mathlib.Omega.{arith}
-use mathlib.Core.Path.{_≡_, refl, sym, ap, _∙_}
+use mathlib.Core.Path.{_≡_, refl, sym}
 use mathlib.Core.List.{List, [], _∷_, _++_}
 use mathlib.Core.Bool.{Bool, true, false, _&&_, false≢true}
 use borrow.Author.Tests.{ltb-true, ltb-false, leb-true}
@@ -71,7 +71,7 @@ abbrev ShortNode : Label → NestingLevel → Trees → Type 0
 ShortNode l v cs = (k : ℕ) → k ≤ 1 → k ≤ length (name l) + length (namesOf cs)
     → length (printNode l v (print (inside l v) cs)) + 20 + k ≤ 24 * suc (count cs) + length (name l) + length (namesOf cs)
 
-one-some : (t : Trees) → isOne t ≡ true → isEnd t ≡ false
+pub one-some : (t : Trees) → isOne t ≡ true → isEnd t ≡ false
 unfolding isOne isEnd
 one-some end h = absurd (false≢true h)
 one-some (node l cs ts) h = refl

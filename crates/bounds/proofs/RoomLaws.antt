@@ -1,30 +1,37 @@
 -- When reading has room, and what a text of pointers gives.
-use Prim.Native.Nat.{ℕ, zero, suc, _+_, _*_, _-_, _≤_, _<_}
+use Prim.Native.Nat.{ℕ, zero, suc, _+_, _*_, _≤_, _<_}
 use native.Mathlib.Omega.{arith}
-use mathlib.Core.Path.{_≡_, refl, sym, ap, ap₂, _∙_}
-use mathlib.Core.List.{List, [], _∷_, _++_}
-use mathlib.Core.Bool.{Bool, true, false, cond, _&&_}
-use mathlib.Core.Option.{Option, some, none}
-use borrow.Author.Tests.{le-ltb, le-leb, lt-leb}
+use mathlib.Core.Path.{_≡_, refl, ap, _∙_}
+use mathlib.Core.List.{List, []}
+use mathlib.Core.Bool.{and-false}
+use mathlib.Core.Option.{some, none}
+use borrow.Author.Tests.{lt-ltb, le-ltb, le-leb, lt-leb}
 use lib.Dec.{leb}
 use lib.ListN.{length, getD, replicate, length-replicate}
 use Rattle.kinds.specs.Byte.{byte, among}
 use Rattle.kinds.specs.Parse as P
-use Rattle.kinds.specs.Parse.{Parsed, empty, encoding, Whole, tree, start, begin, held, parseInner, parse, isQualifier, qualifiers, stripLeadingQualifiers, encodingOrNone, parseEncodingOrNone, whole, fromStr, fromStartOfStr}
-use Rattle.kinds.specs.Sheet.{sheetOf, headerOf}
+use Rattle.kinds.specs.Parse.{Parsed, empty, encoding, Whole, start, begin, held, parseInner, parse, isQualifier, qualifiers, stripLeadingQualifiers, encodingOrNone, parseEncodingOrNone, whole, fromStr, fromStartOfStr}
+use Rattle.kinds.specs.Sheet.{maxText, sheetOf, headerOf}
 use Rattle.kinds.specs.Tree as T
-use Rattle.kinds.specs.Tree.{Label, Trees, end, node, pointer, count}
-use Rattle.kinds.specs.declared.Refusal.{Refusal}
-use Rattle.kinds.specs.declared.Refusal.the-variants.{ListTooShort}
-use Rattle.parse.specs.EncodingBox.{maxText, used, hasRoom, turnedAway, padded, filled, sheetWords, unlessAway, wordsAfter, wholeTree, wholeReading, startReading, answerOr, fromStrAnswer, fromStrWords, fromStartAnswer}
-use Rattle.parse.specs.declared.Reading.{Reading}
+use Rattle.kinds.specs.Tree.{Trees, end, node, pointer, count}
+use Rattle.kinds.specs.declared.Refusal.the-variants.{TextTooLong, ListTooShort}
+use Rattle.parse.specs.Answer.{used, hasRoom, turnedAway, padded, filled, sheetWords, unlessAway, wordsAfter, wholeTree, wholeReading, startReading, answerOr, fromStrAnswer, fromStrWords, fromStartAnswer}
 use Rattle.parse.specs.declared.Reading.the-variants.{Tree, Refused}
 use Rattle.bounds.specs.Extremes.{pointers}
 use Rattle.bounds.specs.Limits.{wordsFor, namesFor}
 
-and-false : (a : Bool) → (a && false) ≡ false
-and-false true = refl
-and-false false = refl
+module _ (text words names : List ℕ) (h : maxText < length text) where
+  long : turnedAway text words names ≡ some TextTooLong
+  unfolding turnedAway
+  long = rw (lt-ltb maxText (length text) h)
+
+  pub whole-long : fromStrAnswer text words names ≡ Refused TextTooLong
+  unfolding fromStrAnswer answerOr
+  whole-long = rw long
+
+  pub start-long : fromStartAnswer text words names ≡ Refused TextTooLong
+  unfolding fromStartAnswer answerOr
+  start-long = rw long
 
 module _ (text words names : List ℕ) (l : length text ≤ maxText) where
   pub has-room : wordsFor (length text) ≤ length words → namesFor (length text) ≤ length names → turnedAway text words names ≡ none

@@ -1,13 +1,15 @@
 -- The rows of the differences hold, each by computation.
 use mathlib.Core.Path.{refl}
 use Rattle.kinds.specs.Byte.{among, isDigit}
+use Rattle.kinds.specs.Compare.{lengthOrOffset, bits, compareLabels, compareChildren, compareEncodings, equivalentTo}
 use Rattle.kinds.specs.Name.{isNameByte, allNameBytes, verifyName}
 use Rattle.kinds.specs.Parse.{moreDigits, bounded, parseNumber, singles, others, inOthers, inSingles, start, leaf, parseComplex, parseQuoted, parseObject, integral, singleKind}
 use Rattle.kinds.specs.Parse.{typed, untyped, parseBitField, parseBits, checkName, parseName, held, closeItem, item, contained, addItem, begin, nextItem, parseInner, parseItems}
 use Rattle.kinds.specs.Parse.{parse, qualifiers, isQualifier, stripLeadingQualifiers, encodingOrNone, parseEncodingOrNone, whole, fromStr}
-use Rattle.kinds.specs.Primitive.{codes, code, primitiveSizes, positive, primitiveSize}
+use Rattle.kinds.specs.Primitive.{isObject, equivalent, codes, code, primitiveSize}
 use Rattle.kinds.specs.Print.{digits, decimal, fields, printNode, print}
 use Rattle.kinds.specs.Size.{only, nodeSize, sizes, size}
+use Rattle.kinds.specs.Tree.{kind}
 use Rattle.agreement.specs.ReadTree as A
 use Rattle.agreement.specs.ReadTree.{readTree}
 use Rattle.agreement.proofs.ByteLaws.{_also_}
@@ -21,7 +23,7 @@ pub guide-rows : AllHold guideDifferences
 unfolding guideDifferences refusedWith A.trees readTree T.trees among isDigit isNameByte allNameBytes verifyName moreDigits bounded parseNumber singles others inOthers
     inSingles start leaf parseComplex parseQuoted parseObject integral singleKind typed untyped parseBitField parseBits checkName parseName held closeItem item contained
     addItem begin nextItem parseInner parseItems parse qualifiers isQualifier stripLeadingQualifiers encodingOrNone parseEncodingOrNone whole fromStr codes code
-    primitiveSizes positive primitiveSize digits decimal fields printNode print only nodeSize sizes size G.code G.table G.begins G.letter G.letters G.fields G.encode G.isNone
+    primitiveSize digits decimal fields printNode print only nodeSize sizes size G.code G.table G.begins G.letter G.letters G.fields G.encode G.isNone
     G.isOne G.isLetter G.isWord G.isName G.withoutRecord G.defined G.isType D.digits D.decimal
 guide-rows =
     (refl, refl, refl) also (refl, refl, refl) also (refl, refl, refl) also (refl, refl, refl) also (refl, refl, refl)
@@ -30,15 +32,15 @@ guide-rows =
     also (refl, refl)
     also (refl, refl, refl) also (refl, refl, refl) also (refl, refl, refl) also (refl, refl, refl)
     also (refl, refl, refl) also (refl, refl, refl) also (refl, refl, refl) also (refl, refl, refl)
-    also (refl, refl, refl) also (refl, refl, refl) also (refl, refl)
+    also refl also (refl, refl, refl) also (refl, refl, refl) also (refl, refl)
     also tt
 
 pub gcc-rows : AllHold gccDifferences
 unfolding gccDifferences refusedWith among isDigit isNameByte allNameBytes verifyName moreDigits bounded parseNumber singles others inOthers inSingles start leaf
     parseComplex parseQuoted parseObject integral singleKind typed untyped parseBitField parseBits checkName parseName held closeItem item contained addItem begin nextItem
     parseInner parseItems parse qualifiers isQualifier stripLeadingQualifiers encodingOrNone parseEncodingOrNone whole fromStr C.vector C.wideCode C.wideBitField C.complex
-    C.code C.bitField D.digits D.decimal
-gcc-rows = (refl, refl) also (refl, refl) also (refl, refl) also (refl, refl) also (refl, refl) also (refl, refl) also (refl, refl) also tt
+    C.code C.bitField C.olderBitField D.digits D.decimal A.trees readTree lengthOrOffset bits compareLabels compareChildren compareEncodings equivalentTo isObject equivalent kind
+gcc-rows = (refl, refl) also (refl, refl) also (refl, refl) also (refl, refl) also (refl, refl) also (refl, refl) also (refl, refl) also (refl, refl) also tt
 
 pub clang-rows : AllRefused clangDifferences
 unfolding clangDifferences refusedWith among isDigit isNameByte allNameBytes verifyName moreDigits bounded parseNumber singles others inOthers inSingles start leaf

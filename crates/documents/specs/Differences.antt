@@ -5,14 +5,16 @@ use mathlib.Core.Bool.{true, false}
 use mathlib.Core.List.{List, [], _∷_, _++_}
 use mathlib.Core.Option.{Option, some, none}
 use Rattle.kinds.specs.Byte.{byte, bytes}
+use Rattle.kinds.specs.Compare.{equivalentTo}
 use Rattle.kinds.specs.Parse.{Whole, tree, refusal, fromStr}
 use Rattle.kinds.specs.Print.{print}
-use Rattle.kinds.specs.Refusal.{errorNumber}
+use Rattle.kinds.specs.Refusal.{number}
 use Rattle.kinds.specs.Size.{size}
 use Rattle.kinds.specs.Tree as T
 use Rattle.kinds.specs.Tree.{Label, Trees, end, node}
 use Rattle.kinds.specs.declared.NestingLevel.the-variants.{Top}
 use Rattle.kinds.specs.declared.Primitive.the-variants as P
+use Rattle.kinds.specs.declared.Refusal.the-variants.{Parse}
 use Rattle.agreement.specs.ReadTree.{readTree}
 use Rattle.documents.specs.Gcc as C
 use Rattle.documents.specs.Guide as G
@@ -38,12 +40,14 @@ pub data Row : Type 0 where
   refusesType : Types → List ℕ → ℕ → ℕ → Row
   -- What the document's definitions give is the text, which the crate refuses.
   refuses : List ℕ → List ℕ → ℕ → ℕ → Row
+  -- What the document's definitions give are two texts for one thing, whose trees never match.
+  differ : List ℕ → List ℕ → Row
   -- The crate reads the text as the tree.
   reads : List ℕ → Trees → Row
 
 unfoldable pub refusedWith : Whole → Option (ℕ × ℕ)
 refusedWith (tree l cs) = none
-refusedWith (refusal e place) = some (errorNumber e, place)
+refusedWith (refusal e place) = some (number (Parse e place), place)
 
 -- The crate refuses the text.
 abbrev pub Refuses : List ℕ → ℕ → ℕ → Type 0
@@ -60,6 +64,7 @@ Holds (noCode b s u p) = (begins b ≡ false) × (readTree (b ∷ s) ≡ u) × (
 Holds (longIs bits n) = (G.longBits ≡ bits) × (size (readTree (encode zero (only G.long))) ≡ some n)
 Holds (refusesType t s n place) = (isType t ≡ true) × (encode zero t ≡ s) × Refuses s n place
 Holds (refuses d s n place) = (d ≡ s) × Refuses s n place
+Holds (differ s t) = (equivalentTo (readTree s) (readTree t) ≡ false) × (equivalentTo (readTree t) (readTree s) ≡ false)
 Holds (reads s t) = readTree s ≡ t
 
 abbrev pub AllHold : List Row → Type 0
@@ -105,13 +110,15 @@ guideDifferences =
     ∷ noType G.none (bytes "") (leaf T.none)
     ∷ noType (pointerTo G.none) (bytes "^") (holding T.pointer (leaf T.none))
     ∷ noType (G.array 0 G.none G.none) (bytes "[0]") (holding (T.array 0) (leaf T.none))
+    -- Qualifiers and no type.
+    ∷ reads (letters (G.const ∷ []) ++ encode zero G.none) (leaf T.none)
     -- Refused: a bit field of more than 255 bits, an array of 2^64 items, a qualifier that is not at the start.
     ∷ refusesType (G.bitField 256 G.none) (bytes "b256") 11 4
     ∷ refusesType (G.array (2 ^ 64) (only G.char) G.none) (bytes "[18446744073709551616c]") 11 21
     ∷ refuses (byte "^" ∷ (letters (G.const ∷ []) ++ encode zero (only G.char))) (bytes "^rc") 8 2
     ∷ []
 
--- Against GCC's manual: vectors, 128-bit integers, also as types of bit-fields, complex integers, large bit-fields.
+-- Against GCC's manual: vectors, 128-bit integers, also as types of bit-fields, complex integers, large bit-fields; a bit-field in both forms.
 unfoldable pub gccDifferences : List Row
 gccDifferences =
     refuses (C.vector ∷ []) (bytes "!") 8 1
@@ -121,6 +128,7 @@ gccDifferences =
     ∷ refuses (C.wideBitField 0 C.unsignedInt128 1) (bytes "b0T1") 15 2
     ∷ refuses (C.complex (C.code C.int ∷ [])) (bytes "ji") 9 1
     ∷ refuses (C.bitField 0 C.int 256) (bytes "b0i256") 11 6
+    ∷ differ (C.bitField 0 C.int 1) (C.olderBitField 1)
     ∷ []
 
 -- Against clang's texts, for which there is no document: quoted field names, names of C++ templates, the space that stands for a half float.

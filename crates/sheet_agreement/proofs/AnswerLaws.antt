@@ -1,139 +1,117 @@
--- What the calls answer for good sheets, from the trees that they hold.
+-- What the calls answer for lists that hold a tree.
 use Prim.Native.Nat.{ℕ, _≤_}
 use native.Mathlib.Omega.{arith}
-use mathlib.Core.Bool.{Bool, true, false, cond, _&&_}
+use mathlib.Core.Bool.{Bool, false, cond}
 use mathlib.Core.List.{List}
 use mathlib.Core.Path.{_≡_, refl, sym, ap, _∙_}
+use borrow.Author.Tests.{le-ltb}
 use lib.Dec.{ltb}
 use lib.ListN.{length}
-use borrow.Author.Tests.{le-ltb}
 use Rattle.kinds.specs.Compare.{compareEncodings, equivalentTo}
 use Rattle.kinds.specs.Expect.{equivalentToStr}
 use Rattle.kinds.specs.Print.{print}
-use Rattle.kinds.specs.Sheet.{isSheet, treeOf}
+use Rattle.kinds.specs.Sheet.{maxText}
 use Rattle.kinds.specs.Size.{size}
-use Rattle.kinds.specs.Sound.{valid, goodNames}
-use Rattle.agreement.specs.Sound.{sound, clear}
-use Rattle.kinds.specs.Tree.{Trees, isOne}
-use Rattle.kinds.specs.declared.NestingLevel.the-variants.{Top}
-use Rattle.kinds.specs.declared.Refusal.the-variants as R
-use Rattle.kinds.proofs.HoldsLaws.{test-holds}
-use Rattle.kinds.proofs.TableLaws.{both}
-use Rattle.sheet.specs.Check.{checked}
-use Rattle.sheet.specs.declared.Checked.the-variants.{Good}
-use Rattle.sheet.proofs.CheckLaws.{is-good}
-use Rattle.expect.specs.Encoding.{maxText, comparedSheet, compared}
-use Rattle.helper.specs.Answer.{sized, sizeAnswer, compareAnswer}
+use Rattle.kinds.specs.Tree.{Trees, shown}
 use Rattle.kinds.specs.declared.Compared.{Compared}
 use Rattle.kinds.specs.declared.Compared.the-variants as C
-use Rattle.static_str.specs.Outcome.{fitted, placed, textOf, orRefused, orKept, encodingLen, encodingArray, encodingOutput}
+use Rattle.kinds.specs.declared.NestingLevel.the-variants.{Top}
+use Rattle.kinds.specs.declared.Refusal.the-variants as R
+use Rattle.sheet.specs.Answer.{Held, refused, holding, held, ofHeld, ofSheet, paired, heldBoth, ofHeldBoth, ofSheets}
+use Rattle.expect.specs.Answer.{compared}
+use Rattle.helper.specs.Answer.{sized, sizeAnswer, compareAnswer}
+use Rattle.static_str.specs.Answer.{fitted, placed, encodingLen, encodingArray, encodingOutput}
 use Rattle.static_str.specs.declared.Printed.the-variants.{Bytes}
 use Rattle.agreement.specs.ShownAlike.{ShownAlike}
 use Rattle.agreement.proofs.Agreement.{shown-alike}
-use Rattle.sheet_agreement.specs.Sheets.{GoodSheet, SoundSheet, SheetsAlike, Answered, shownPart}
-
-pub sound-good : (w s : List ℕ) → SoundSheet w s → GoodSheet w s
-unfolding sound
-sound-good w s h =
-    let t = treeOf w s in
-    let a = both (isOne t) _ (h .sound-tree) in
-    let b = both (valid t) _ (a .1) in
-    record { sheet = h .sheet; good-names = both (goodNames t) (clear Top t _) (b .1) .0 }
-
-module _ (w s : List ℕ) (h : GoodSheet w s) where
-  pub good-checked : checked w s ≡ Good
-  good-checked = is-good w s (h .sheet) (h .good-names)
-
-  pub valid-tree : valid (treeOf w s) ≡ true
-  valid-tree = test-holds w s (h .sheet) .valid-tree
-
-  pub length-answer : encodingLen w s ≡ Bytes (length (textOf w s))
-  unfolding encodingLen
-  length-answer = rw good-checked
-
-  pub print-answer : (room : ℕ) → encodingArray w s room ≡ fitted (textOf w s) room
-  unfolding encodingArray
-  print-answer room = rw good-checked
-
-  pub print-output : (out : List ℕ) → encodingOutput w s out ≡ placed (textOf w s) out
-  unfolding encodingOutput
-  print-output out = rw good-checked
-
-  pub size-answer : sizeAnswer w s ≡ sized (size (treeOf w s))
-  unfolding sizeAnswer
-  size-answer = rw (h .sheet, h .good-names)
+use Rattle.bounds.proofs.HeldLaws.{held-holds}
+use Rattle.sheet_agreement.specs.Sheets.{SheetOf, Answered, SheetsAlike}
 
 -- The answer for a text, from that of the tree.
-unfoldable pub againstText : List ℕ → (List ℕ → Bool) → Compared
-againstText text answer = cond (ltb maxText (length text)) (C.Refused R.TextTooLong) (C.Decided (answer text))
+unfoldable againstText : List ℕ → Bool → Compared
+againstText text answer = cond (ltb maxText (length text)) (C.Refused R.TextTooLong) (C.Decided answer)
 
-module _ (w s : List ℕ) (h : GoodSheet w s) where
-  pub text-answer : (text : List ℕ) → compared w s text ≡ againstText text (equivalentToStr (treeOf w s))
-  unfolding compared againstText
-  text-answer text = rw (good-checked w s h)
+-- The answer of a comparison with what other lists hold, from that of the trees.
+abbrev against : (Trees → Bool) → Held → Compared
+against answer h = ofHeld C.Refused (λ u. C.Decided (answer u)) h
 
-  pub text-decided : (text : List ℕ) → length text ≤ maxText → compared w s text ≡ C.Decided (equivalentToStr (treeOf w s) text)
+module _ {w s : List ℕ} {t : Trees} (h : SheetOf w s t) where
+  length-answer : encodingLen w s ≡ Bytes (length (print Top t))
+  unfolding encodingLen ofSheet
+  length-answer = rw (h .holds)
+
+  pub print-answer : (room : ℕ) → encodingArray w s room ≡ fitted (print Top t) room
+  unfolding encodingArray ofSheet
+  print-answer room = rw (h .holds)
+
+  pub print-output : (out : List ℕ) → encodingOutput w s out ≡ placed (print Top t) out
+  unfolding encodingOutput ofSheet
+  print-output out = rw (h .holds)
+
+  size-answer : sizeAnswer w s ≡ sized (size t)
+  unfolding sizeAnswer ofSheet
+  size-answer = rw (h .holds)
+
+  text-answer : (text : List ℕ) → compared w s text ≡ againstText text (equivalentToStr t text)
+  unfolding compared ofSheet againstText
+  text-answer text = rw (h .holds)
+
+  pub text-decided : (text : List ℕ) → length text ≤ maxText → compared w s text ≡ C.Decided (equivalentToStr t text)
   unfolding againstText
   text-decided text q = text-answer text ∙ rw (le-ltb maxText (length text) q)
 
-same-text : (text : List ℕ) (f g : List ℕ → Bool) → f text ≡ g text → againstText text f ≡ againstText text g
-unfolding againstText
-same-text text f g e = ap (λ (b : Bool). cond (ltb maxText (length text)) (C.Refused R.TextTooLong) (C.Decided b)) e
+  module _ (all : Bool) (cw cn : List ℕ) where
+    compare-first : compareAnswer all w s cw cn ≡ against (compareEncodings all Top t) (held cw cn)
+    unfolding compareAnswer ofSheets heldBoth
+    compare-first = rw (h .holds) (go (held cw cn))
+      where
+        go : (x : Held) → ofHeldBoth C.Refused (λ a b. C.Decided (compareEncodings all Top a b)) (paired (holding t) x) ≡ against (compareEncodings all Top t) x
+        go (refused r) = refl
+        go (holding u) = refl
 
--- The answer of a comparison with other lists, from that of the trees.
-unfoldable pub againstOther : Bool → Bool → Bool → Compared
-againstOther sheet good answer = cond sheet (cond good (C.Decided answer) (C.Refused R.BadName)) (C.Refused R.NotASheet)
+    compare-second : compareAnswer all cw cn w s ≡ against (λ u. compareEncodings all Top u t) (held cw cn)
+    unfolding compareAnswer ofSheets heldBoth
+    compare-second = rw (h .holds) (go (held cw cn))
+      where
+        go : (x : Held) → ofHeldBoth C.Refused (λ a b. C.Decided (compareEncodings all Top a b)) (paired x (holding t)) ≡ against (λ u. compareEncodings all Top u t) x
+        go (refused r) = refl
+        go (holding u) = refl
 
-right-true : (x : Bool) → (x && true) ≡ x
-right-true true = refl
-right-true false = refl
+  pub answers : Answered w s t
+  answers = record {
+    lengths = length-answer;
+    prints = print-answer;
+    outputs = print-output;
+    sizes = size-answer;
+    trees = λ all cw cn u g. (
+      compare-first all cw cn ∙ ap (against (compareEncodings all Top t)) (g .holds),
+      compare-second all cw cn ∙ ap (against (λ c. compareEncodings all Top c t)) (g .holds),
+    );
+    texts = λ text l. text-decided text (omega arith);
+  }
 
-module _ (w s : List ℕ) (h : GoodSheet w s) (cw cn : List ℕ) where
-  pub compare-first : compareAnswer false w s cw cn ≡ againstOther (isSheet cw cn) (goodNames (treeOf cw cn)) (equivalentTo (treeOf w s) (treeOf cw cn))
-  unfolding compareAnswer againstOther equivalentTo
-  compare-first = rw (h .sheet, h .good-names)
+-- What is held decides, and where no tree is held the trees do not matter.
+same-against : (f g : Trees → Bool) (h : Held) → ((u : Trees) → h ≡ holding u → f u ≡ g u) → against f h ≡ against g h
+same-against f g (refused r) e = refl
+same-against f g (holding u) e = ap C.Decided (e u refl)
 
-  pub compare-second : compareAnswer false cw cn w s ≡ againstOther (isSheet cw cn) (goodNames (treeOf cw cn)) (equivalentTo (treeOf cw cn) (treeOf w s))
-  unfolding compareAnswer againstOther equivalentTo
-  compare-second = rw (h .sheet, h .good-names, right-true (isSheet cw cn), right-true (goodNames (treeOf cw cn)))
-
--- With another good sheet, by levels and with all fields.
-pub compare-both : (all : Bool) (aw an bw bn : List ℕ) → GoodSheet aw an → GoodSheet bw bn → compareAnswer all aw an bw bn ≡ C.Decided (compareEncodings all Top (treeOf aw an) (treeOf bw bn))
-unfolding compareAnswer
-compare-both all aw an bw bn a b = rw (a .sheet, b .sheet, a .good-names, b .good-names)
-
-pub compare-good : (aw an bw bn : List ℕ) → GoodSheet aw an → GoodSheet bw bn → compareAnswer false aw an bw bn ≡ C.Decided (equivalentTo (treeOf aw an) (treeOf bw bn))
-unfolding equivalentTo
-compare-good = compare-both false
-
-pub good-answers : (w s : List ℕ) → GoodSheet w s → Answered w s
-good-answers w s h = record {
-  lengths = length-answer w s h;
-  prints = print-answer w s h;
-  sizes = size-answer w s h;
-  trees = λ all cw cn g. (compare-both all w s cw cn h g, compare-both all cw cn w s g h);
-  texts = λ text l. text-decided w s h text (omega arith);
-}
-
--- Where the other lists hold no sheet, the trees do not matter.
-where-sheet : (x g y z : Bool) → (x ≡ true → y ≡ z) → againstOther x g y ≡ againstOther x g z
-unfolding againstOther
-where-sheet true g y z e = ap (λ (b : Bool). cond g (C.Decided b) (C.Refused R.BadName)) (e refl)
-where-sheet false g y z e = refl
-
-module _ (aw an bw bn : List ℕ) (a : GoodSheet aw an) (b : GoodSheet bw bn) (e : shownPart aw an ≡ shownPart bw bn) where
-  trees : ShownAlike (treeOf aw an) (treeOf bw bn)
-  trees = shown-alike (treeOf aw an) (treeOf bw bn) e
+module _ {aw an bw bn : List ℕ} {t u : Trees} (a : SheetOf aw an t) (b : SheetOf bw bn u) (e : shown Top t ≡ shown Top u) where
+  alike : ShownAlike t u
+  alike = shown-alike t u e
 
   pub answers-alike : SheetsAlike aw an bw bn
+  unfolding equivalentTo
   answers-alike = record {
-    lengths = length-answer aw an a ∙ ap (λ (t : List ℕ). Bytes (length t)) (trees .prints) ∙ sym (length-answer bw bn b);
-    prints = λ room. print-answer aw an a room ∙ ap (λ (t : List ℕ). fitted t room) (trees .prints) ∙ sym (print-answer bw bn b room);
-    outputs = λ out. print-output aw an a out ∙ ap (λ (t : List ℕ). placed t out) (trees .prints) ∙ sym (print-output bw bn b out);
-    sizes = size-answer aw an a ∙ ap sized (trees .sizes) ∙ sym (size-answer bw bn b);
-    first = λ cw cn. compare-first aw an a cw cn ∙ ap (againstOther (isSheet cw cn) (goodNames (treeOf cw cn))) (trees .first (treeOf cw cn)) ∙ sym (compare-first bw bn b cw cn);
-    second = λ cw cn. compare-second aw an a cw cn
-        ∙ where-sheet (isSheet cw cn) (goodNames (treeOf cw cn)) _ _ (λ q. trees .second (valid-tree aw an a) (valid-tree bw bn b) (treeOf cw cn) (test-holds cw cn q .valid-tree))
-        ∙ sym (compare-second bw bn b cw cn);
-    texts = λ text. text-answer aw an a text ∙ same-text text (equivalentToStr (treeOf aw an)) (equivalentToStr (treeOf bw bn)) (trees .texts text) ∙ sym (text-answer bw bn b text);
+    lengths = length-answer a ∙ ap (λ (x : List ℕ). Bytes (length x)) (alike .prints) ∙ sym (length-answer b);
+    prints = λ room. print-answer a room ∙ ap (λ (x : List ℕ). fitted x room) (alike .prints) ∙ sym (print-answer b room);
+    outputs = λ out. print-output a out ∙ ap (λ (x : List ℕ). placed x out) (alike .prints) ∙ sym (print-output b out);
+    sizes = size-answer a ∙ ap sized (alike .sizes) ∙ sym (size-answer b);
+    first = λ cw cn. compare-first a false cw cn
+        ∙ same-against (compareEncodings false Top t) (compareEncodings false Top u) (held cw cn) (λ c _. alike .first c)
+        ∙ sym (compare-first b false cw cn);
+    second = λ cw cn. compare-second a false cw cn
+        ∙ same-against (λ c. compareEncodings false Top c t) (λ c. compareEncodings false Top c u) (held cw cn)
+        (λ c q. alike .second (held-holds aw an t (a .holds) .valid-tree) (held-holds bw bn u (b .holds) .valid-tree) c (held-holds cw cn c q .valid-tree))
+        ∙ sym (compare-second b false cw cn);
+    texts = λ text. text-answer a text ∙ ap (againstText text) (alike .texts text) ∙ sym (text-answer b text);
   }

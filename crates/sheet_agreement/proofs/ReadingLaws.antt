@@ -2,37 +2,36 @@
 use Prim.Native.Nat.{ℕ, _+_, _*_, _-_, _≤_}
 use native.Mathlib.Omega.{arith}
 use mathlib.Core.Bool.{Bool, true, false, cond, false≢true}
-use mathlib.Core.List.{List, [], _∷_, _++_, append-assoc}
+use mathlib.Core.List.{List, _++_, append-assoc}
 use mathlib.Core.Option.{Option, some, none}
-use mathlib.Core.Path.{_≡_, refl, sym, ap, subst, _∙_}
+use mathlib.Core.Path.{_≡_, refl, sym, ap, _∙_}
 use borrow.Author.Tests.{ltb-false, le-ltb, le-leb, leb-true}
 use lib.Dec.{leb, ltb}
 use lib.ListN.{length, take, drop, replicate}
 use lib.Seq.{take-append-seam, drop-append-seam}
 use Rattle.kinds.specs.Parse as P
 use Rattle.kinds.specs.Parse.{Whole, tree, fromStr, FromStart, treeThen, fromStartOfStr}
-use Rattle.kinds.specs.Sheet.{Holds, headerOf, sheetOf, namesOf, treeOf}
+use Rattle.kinds.specs.Sheet.{Holds, maxText, sheetOf, namesOf}
 use Rattle.kinds.specs.Print.{print}
 use Rattle.agreement.specs.Sound.{sound}
 use Rattle.kinds.specs.Tree.{Label, Trees, end, node, count, isEnd, isOne, shown}
 use Rattle.kinds.specs.declared.NestingLevel.the-variants.{Top}
 use Rattle.kinds.specs.declared.Refusal.{Refusal}
 use Rattle.kinds.specs.declared.Refusal.the-variants.{TextTooLong, ListTooShort, OutputTooShort}
-use Rattle.kinds.proofs.HoldsLaws.{holds-test, holds-tree}
-use Rattle.kinds.proofs.LayoutLaws.{nodes-length}
+use Rattle.kinds.proofs.HoldsLaws.{sheet-length}
 use Rattle.kinds.proofs.TableLaws.{both}
-use Rattle.parse.specs.EncodingBox.{maxText, hasRoom, turnedAway, padded, filled, used, sheetWords, sheetNames, unlessAway, wordsAfter, namesAfter}
-use Rattle.parse.specs.EncodingBox.{wholeTree, wholeReading, answerOr, fromStrAnswer, fromStrWords, fromStrNames, startTree, startReading, fromStartAnswer, fromStartWords, fromStartNames}
-use Rattle.parse.specs.declared.Reading.{Reading}
+use Rattle.parse.specs.Answer.{hasRoom, turnedAway, padded, filled, used, sheetWords, sheetNames, unlessAway, wordsAfter, namesAfter}
+use Rattle.parse.specs.Answer.{wholeTree, wholeReading, answerOr, fromStrAnswer, fromStrWords, fromStrNames, startTree, startReading, fromStartAnswer, fromStartWords, fromStartNames}
 use Rattle.parse.specs.declared.Reading.the-variants.{Tree, Refused}
-use Rattle.static_str.specs.Outcome.{fitted, placed, textOf, encodingArray, encodingOutput}
+use Rattle.static_str.specs.Answer.{fitted, placed, encodingArray, encodingOutput}
 use Rattle.static_str.specs.declared.Printed.the-variants as N
 use Rattle.static_str.specs.declared.Printed.the-variants.{Bytes}
+use Rattle.bounds.proofs.HeldLaws.{holds-held}
 use Rattle.agreement.specs.Readable.{Readable}
 use Rattle.agreement.specs.ReadTree.{trees, readTree}
 use Rattle.agreement.proofs.Agreement.{reads-readable, starts-readable, reads-back}
-use Rattle.sheet_agreement.specs.Sheets.{GoodSheet, SoundSheet, SheetOf, shownPart}
-use Rattle.sheet_agreement.proofs.AnswerLaws.{sound-good, print-answer, print-output}
+use Rattle.sheet_agreement.specs.Sheets.{SheetOf, SoundSheet}
+use Rattle.sheet_agreement.proofs.AnswerLaws.{print-answer, print-output}
 
 -- ---- A list whose front is filled.
 
@@ -42,10 +41,6 @@ front n k xs list e =
     let z : List ℕ = replicate (n - length xs) 0 in
     let d = drop n list in
     append-assoc xs z d ∙ ap (λ (y : List ℕ). xs ++ y) (sym (drop-append-seam xs (z ++ d)) ∙ ap (drop (length xs)) (sym (append-assoc xs z d)) ∙ ap (λ (i : ℕ). drop i ((xs ++ z) ++ d)) e)
-
-layout-length : (t : Trees) → length (sheetOf t) ≡ 4 + 4 * count t
-unfolding sheetOf headerOf
-layout-length t = omega (arith, nodes-length t 0)
 
 short-text : (text words names : List ℕ) → turnedAway text words names ≡ none → length text ≤ maxText
 unfolding turnedAway
@@ -74,17 +69,12 @@ module _ (text words names : List ℕ) (t : Trees) (r : Readable (length text) t
         valid-tree = r .valid-tree;
         few-nodes = omega (arith, r .few-nodes);
         few-names = omega (arith, r .few-names);
-        words-are = rw words-after (front (used (length text)) (4 + 4 * count t) (sheetOf t) words (layout-length t));
+        words-are = rw words-after (front (used (length text)) (4 + 4 * count t) (sheetOf t) words (sheet-length t));
         names-are = rw names-after (front (length text) (length (namesOf t)) (namesOf t) names refl);
       }
 
   left : SheetOf (wordsAfter text words names (some t)) (namesAfter text words names (some t)) t
-  left =
-      let h = holds-tree (wordsAfter text words names (some t)) (namesAfter text words names (some t)) t left-holds in
-      record {
-        good = record { sheet = holds-test (wordsAfter text words names (some t)) (namesAfter text words names (some t)) t left-holds; good-names = rw h (r .good-names) };
-        holds = h;
-      }
+  left = record { holds = holds-held (wordsAfter text words names (some t)) (namesAfter text words names (some t)) t left-holds (r .good-names) }
 
 -- ---- Accepted readings.
 
@@ -147,37 +137,36 @@ not-bytes : {b : ℕ} → N.Refused OutputTooShort ≡ Bytes b → ⊥
 not-bytes e = let z : _≡_ {A = ℕ} 0 1 = cc in omega arith
 
 -- What printing wrote is the text of the tree.
-module _ (words names out : List ℕ) (h : GoodSheet words names) (k : ℕ) where
-  written-fits : encodingArray words names (length out) ≡ Bytes k → (length (textOf words names) ≡ k) × (k ≤ length out)
+module _ (words names out : List ℕ) (t : Trees) (h : SheetOf words names t) (k : ℕ) where
+  written-fits : encodingArray words names (length out) ≡ Bytes k → (length (print Top t) ≡ k) × (k ≤ length out)
   unfolding fitted
-  written-fits e = go (leb (length (textOf words names)) (length out)) refl (sym (print-answer words names h (length out)) ∙ e)
+  written-fits e = go (leb (length (print Top t)) (length out)) refl (sym (print-answer h (length out)) ∙ e)
     where
-      go : (x : Bool) → leb (length (textOf words names)) (length out) ≡ x → cond (leb (length (textOf words names)) (length out)) (Bytes (length (textOf words names))) (N.Refused OutputTooShort) ≡ Bytes k
-          → (length (textOf words names) ≡ k) × (k ≤ length out)
-      go true q g = let z : length (textOf words names) ≡ k = bytes-are (rw q at g) in (z, omega (arith, leb-true (length (textOf words names)) (length out) q))
+      go : (x : Bool) → leb (length (print Top t)) (length out) ≡ x
+          → cond (leb (length (print Top t)) (length out)) (Bytes (length (print Top t))) (N.Refused OutputTooShort) ≡ Bytes k → (length (print Top t) ≡ k) × (k ≤ length out)
+      go true q g = let z : length (print Top t) ≡ k = bytes-are (rw q at g) in (z, omega (arith, leb-true (length (print Top t)) (length out) q))
       go false q g = absurd (not-bytes (rw q at g))
 
-  pub written-text : encodingArray words names (length out) ≡ Bytes k → take k (encodingOutput words names out) ≡ textOf words names
+  pub written-text : encodingArray words names (length out) ≡ Bytes k → take k (encodingOutput words names out) ≡ print Top t
   unfolding placed
   written-text e =
       let f = written-fits e in
-      let t = textOf words names in
-      let o : encodingOutput words names out ≡ t ++ drop (length t) out = print-output words names h out ∙ rw (le-leb (length t) (length out) (omega arith)) in
-      rw (o, ← f .0) (take-append-seam t (drop (length t) out))
+      let s = print Top t in
+      let o : encodingOutput words names out ≡ s ++ drop (length s) out = print-output h out ∙ rw (le-leb (length s) (length out) (omega arith)) in
+      rw (o, ← f .0) (take-append-seam s (drop (length s) out))
 
-pub back : (words names out w n : List ℕ) (k : ℕ) → SoundSheet words names → encodingArray words names (length out) ≡ Bytes k → k ≤ maxText → used k ≤ length w → k ≤ length n
+pub back : (words names out w n : List ℕ) (t : Trees) (k : ℕ) → SoundSheet words names t → encodingArray words names (length out) ≡ Bytes k → k ≤ maxText → used k ≤ length w → k ≤ length n
     → (fromStrAnswer (take k (encodingOutput words names out)) w n ≡ Tree)
-    × SheetOf (fromStrWords (take k (encodingOutput words names out)) w n) (fromStrNames (take k (encodingOutput words names out)) w n) (shownPart words names)
-back words names out w n k h e l a b =
-    let g = sound-good words names h in
-    let q = written-text words names out g k e in
-    let c = written-fits words names out g k e .0 in
-    rw q (of-text (textOf words names) (omega arith) (omega arith) (omega arith) (text-read (treeOf words names) (h .sound-tree)))
+    × SheetOf (fromStrWords (take k (encodingOutput words names out)) w n) (fromStrNames (take k (encodingOutput words names out)) w n) (shown Top t)
+back words names out w n t k h e l a b =
+    let q = written-text words names out t (h .sheet) k e in
+    let c = written-fits words names out t (h .sheet) k e .0 in
+    rw q (of-text (print Top t) (omega arith) (omega arith) (omega arith) (text-read t (h .sound-tree)))
   where
     of-text : (text : List ℕ) → length text ≤ maxText → used (length text) ≤ length w → length text ≤ length n
-        → (wholeTree (fromStr text) ≡ some (shownPart words names)) × (wholeReading (fromStr text) ≡ Tree)
-        → (fromStrAnswer text w n ≡ Tree) × SheetOf (fromStrWords text w n) (fromStrNames text w n) (shownPart words names)
+        → (wholeTree (fromStr text) ≡ some (shown Top t)) × (wholeReading (fromStr text) ≡ Tree)
+        → (fromStrAnswer text w n ≡ Tree) × SheetOf (fromStrWords text w n) (fromStrNames text w n) (shown Top t)
     of-text text i j m r =
-        let t = whole-leaves text w n (answered text w n i j m (r .1)) in
-        let d : t .0 ≡ shownPart words names = same-some (sym (t .1) ∙ r .0) in
-        (answered text w n i j m (r .1), rw d at (t .2))
+        let x = whole-leaves text w n (answered text w n i j m (r .1)) in
+        let d : x .0 ≡ shown Top t = same-some (sym (x .1) ∙ r .0) in
+        (answered text w n i j m (r .1), rw d at (x .2))
