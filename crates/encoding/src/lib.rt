@@ -1,7 +1,7 @@
 // The tree's own operations (encoding.rs, `Encoding`).
 ghost use mathlib.Core.Path.{_≡_};
 ghost use mathlib.Core.Bool.{false};
-ghost use Rattle.expect.specs.Encoding.{compared};
+ghost use Rattle.expect.specs.Answer.{compared};
 ghost use Rattle.helper.specs.Answer.{sizeAnswer, compareAnswer};
 use helper::Sized;
 use helper::compare_encodings;

@@ -2,7 +2,7 @@
 ghost use mathlib.Core.Path.{_≡_};
 ghost use mathlib.Core.Bool.{true};
 ghost use Rattle.helper.specs.Answer.{compareAnswer};
-ghost use Rattle.parse.specs.EncodingBox.{answerWords, fromStrAnswer, fromStrWords, fromStrNames, fromStartAnswer, fromStartWords, fromStartNames, fromStartRest, EndOf};
+ghost use Rattle.parse.specs.Answer.{answerWords, fromStrAnswer, fromStrWords, fromStrNames, fromStartAnswer, fromStartWords, fromStartNames, fromStartRest, EndOf};
 use helper::compare_encodings;
 use kinds::Compared;
 use parse::Reading;
