@@ -121,12 +121,12 @@ pub fn static_int_str_array(n: u64, out: &mut [u8]) -> Printed
     ensures answers { λ r. ⌜ r ≡ fitted (decimal n) (length (now (out .entry))) ⌝ }
     ensures writes { λ _. ⌜ now (out .exit) ≡ placed (decimal n) (now (out .entry)) ⌝ }
 {
-    let len = static_int_str_len(n);
-    if out.len() < len {
+    let digits = static_int_str_len(n);
+    if out.len() < digits {
         return Printed::Refused(Refusal::OutputTooShort);
     }
     put_number(out, 0, n);
-    Printed::Bytes(len)
+    Printed::Bytes(digits)
 }
 
 // The length of a primitive's code; no table is looked up, since this is asked of most nodes.
