@@ -475,7 +475,7 @@ pub fn static_encoding_str_array(words: &[u64], names: &[u8], out: &mut [u8]) ->
     ensures writes { λ _. ⌜ now (out .exit) ≡ encodingOutput (now (words .entry)) (now (names .entry)) (now (out .entry)) ⌝ }
 {
     match check(&words[0..], &names[0..]) {
-        Checked::Refused(why) => Printed::Refused(why),
+        Checked::Refused(refusal) => Printed::Refused(refusal),
         Checked::Code(kind) => print_code(kind, out),
         Checked::Nodes(first, n) => print_tree(&words[first..], &names[0..], n, out),
     }

@@ -27,8 +27,8 @@ part-check-end-2 c = search needs
 check-requires : tie.Need-check-requires
 check-requires c κs = search needs
 
-enum-known-why : tie.Need-enum-known-why
-enum-known-why c = search needs
+enum-known-refusal : tie.Need-enum-known-refusal
+enum-known-refusal c = search needs
 
 enum-known-kind : tie.Need-enum-known-kind
 enum-known-kind c = search needs
@@ -81,7 +81,7 @@ returns c =
     let c3 = c .before .before .before in
     let c9 = c3 .before .before .before .before .before .before in
     print-refused (c9 .args .words .now) (c9 .args .names .now) (c9 .args .out .now)
-    (given-refused _ _ (rw (whole, whole) at (c3 .check .ensures .1)) (c .before .why .given .1))
+    (given-refused _ _ (rw (whole, whole) at (c3 .check .ensures .1)) (c .before .refusal .given .1))
 
 same-length : tie.Need-same-length
 same-length c = search needs
@@ -119,7 +119,7 @@ static-encoding-str-array-spec =
     part-check-start-2
     part-check-end-2
     check-requires
-    enum-known-why
+    enum-known-refusal
     enum-known-kind
     print-code-requires
     enum-known-first
