@@ -418,13 +418,20 @@ module _ {all : Bool} {v : NestingLevel} {s w s' w' : List ℕ} {at n bt m : ℕ
       (subst (λ (y : ℕ). Left all v s w s' w' (at + 4 * i₀) (n - i₀) (bt + 4 * y) (m - y) x r) (sym ej)
       (subst (λ (y : NestingLevel). Left all v s w s' w' (at + 4 * i₀) (n - i₀) (bt + 4 * j₀) (m - j₀) y r) (sym ex) k))
 
-  pub left-end : n ≤ 0 → eqb m 0 ≡ r
-  left-end p = sym (resume-end all here v s w s' w' n m at bt p) ∙ l .rest
+  -- one side is at its end: they match if both are
+  pub left-stop : (eqb n 0 || eqb m 0) ≡ true → eqb n m ≡ r
+  left-stop h = go n refl m refl h
+    where
+      go : (x : ℕ) → n ≡ x → (y : ℕ) → m ≡ y → (eqb x 0 || eqb y 0) ≡ true → eqb n m ≡ r
+      go zero e y f k = rw e (ends m) ∙ sym (resume-end all here v s w s' w' n m at bt (omega arith)) ∙ l .rest
+        where
+          ends : (z : ℕ) → eqb 0 z ≡ eqb z 0
+          ends zero = refl
+          ends (suc z) = ne-eqb 0 (suc z) (λ d. omega arith) ∙ sym (ne-eqb (suc z) 0 (λ d. omega arith))
+      go (suc x) e zero f k = ne-eqb n m (λ d. omega arith) ∙ sym (resume-short all here v s w s' w' n m at bt (omega arith) (omega arith)) ∙ l .rest
+      go (suc x) e (suc y) f k = absurd (false≢true (sym (rw (ne-eqb (suc x) 0 (λ d. omega arith), ne-eqb (suc y) 0 (λ d. omega arith))) ∙ k))
 
   module _ (p : 0 < n) where
-    pub left-short : m ≤ 0 → false ≡ r
-    left-short q = sym (resume-short all here v s w s' w' n m at bt p q) ∙ l .rest
-
     module _ (q : 0 < m) where
       pub left-bounds : Bounds w at n w' bt m
       left-bounds = record {

@@ -414,10 +414,7 @@ fn compare_fields(
         return true;
     }
     let mut here = level;
-    while 0 < left {
-        if more == 0 {
-            return false;
-        }
+    while !either_none(left, more) {
         if !compare_labels(a, an, at, b, bn, bt) {
             return false;
         }
@@ -451,7 +448,7 @@ fn compare_fields(
         more -= d;
         here = level_after(all, kind, level, here);
     }
-    more == 0
+    left == more
 }
 
 // The size of the tree in a sheet.

@@ -406,6 +406,11 @@ pub fn check_both(aw: &[u64], an: &[u8], bw: &[u64], bn: &[u8]) -> CheckedBoth
     ensures answers { λ r. ⌜ r ≡ checkedBoth (now (aw .entry)) (now (an .entry)) (now (bw .entry)) (now (bn .entry)) ⌝ }
     ensures gives { λ r. ⌜ GivesBoth (now (aw .entry)) (now (an .entry)) (now (bw .entry)) (now (bn .entry)) r ⌝ }
 {
+    if lone_code(aw) {
+        if lone_code(bw) {
+            return CheckedBoth::Codes(aw[HEADER], bw[HEADER]);
+        }
+    }
     both_of(check(&aw[0..], &an[0..]), check(&bw[0..], &bn[0..]))
 }
 

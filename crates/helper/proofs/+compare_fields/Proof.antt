@@ -23,7 +23,7 @@ use Rattle.kinds.specs.Sheet.{trees}
 use Rattle.kinds.proofs.ListLaws.{whole}
 use Rattle.kinds.proofs.NodeLaws.{walk-here}
 use Rattle.helper.specs.Measure.{compareFields}
-use Rattle.helper.proofs.CompareLaws.{Left, resume-level, fields-none, fields-some, both-some, left-bounds, left-end, left-short, left-differ, left-fields, left-inner, left-after, left-last, left-next}
+use Rattle.helper.proofs.CompareLaws.{Left, resume-level, fields-none, fields-some, both-some, left-bounds, left-stop, left-differ, left-fields, left-inner, left-after, left-last, left-next}
 
 abbrev μ-compare-fields : Measures 4 compare-fields-kinds.ps ℕ
 μ-compare-fields κs a = a .1 .1 .1 .0
@@ -94,32 +94,36 @@ compare-fields-loop-holds t c =
       },
     )
 
-compare-fields-returns-2 : (t : ℕ) → compare-fields-lts.Need-returns-2 (compare-fields-claims t) (compare-fields-at t) compare-fields.Post compare-fields-Inv-loop compare-fields-μ-loop
-compare-fields-returns-2 t c = left-short (c .before .before .loop .inv .1) (c .before .loop-test .taken) (omega arith)
+compare-fields-either-none-requires-2 : (t : ℕ) → compare-fields-lts.Need-either-none-requires-2 (compare-fields-claims t) (compare-fields-at t) compare-fields.Post compare-fields-Inv-loop compare-fields-μ-loop
+compare-fields-either-none-requires-2 t c κs = search needs
 
 compare-fields-compare-labels-requires : (t : ℕ) → compare-fields-lts.Need-compare-labels-requires (compare-fields-claims t) (compare-fields-at t) compare-fields.Post compare-fields-Inv-loop compare-fields-μ-loop
 compare-fields-compare-labels-requires t c κs =
+    let s = both-some _ _ (sym (c .before .either-none2 .ensures) ∙ not-true _ (c .if2 .taken)) in
     let l = c .before .before .loop in
-    let test = c .before .loop-test in
-    let b = left-bounds (l .inv .1) (test .taken) (omega arith) in
-    ((omega arith, omega arith), (walk-here _ _ _ _ (l .inv .1 .first-walk) (test .taken), walk-here _ _ _ _ (l .inv .1 .second-walk) (omega arith)))
+    let b = left-bounds (l .inv .1) (s .0) (s .1) in
+    ((omega arith, omega arith), (walk-here _ _ _ _ (l .inv .1 .first-walk) (s .0), walk-here _ _ _ _ (l .inv .1 .second-walk) (s .1)))
 
-compare-fields-returns-3 : (t : ℕ) → compare-fields-lts.Need-returns-3 (compare-fields-claims t) (compare-fields-at t) compare-fields.Post compare-fields-Inv-loop compare-fields-μ-loop
-compare-fields-returns-3 t c = left-differ (c .before .before .before .before .loop .inv .1) (c .before .before .before .loop-test .taken) (omega arith) (sym (c .before .compare-labels .ensures) ∙ not-true _ (c .if3 .taken))
+compare-fields-returns-2 : (t : ℕ) → compare-fields-lts.Need-returns-2 (compare-fields-claims t) (compare-fields-at t) compare-fields.Post compare-fields-Inv-loop compare-fields-μ-loop
+compare-fields-returns-2 t c =
+    let s = both-some _ _ (sym (c .before .before .before .either-none2 .ensures) ∙ not-true _ (c .before .before .if2 .taken)) in
+    left-differ (c .before .before .before .before .loop .inv .1) (s .0) (s .1) (sym (c .before .compare-labels .ensures) ∙ not-true _ (c .if3 .taken))
 
 compare-fields-mul-kind : (t : ℕ) → compare-fields-lts.Need-mul-kind (compare-fields-claims t) (compare-fields-at t) compare-fields.Post compare-fields-Inv-loop compare-fields-μ-loop
 compare-fields-mul-kind t c =
+    let s = both-some _ _ (sym (c .before .before .before .either-none2 .ensures) ∙ not-true _ (c .before .before .if2 .taken)) in
     let good = c .before .before .before .before .before .before .before .before .before .before .before .good in
     let l = c .before .before .before .before .loop in
-    let b = left-bounds (l .inv .1) (c .before .before .before .loop-test .taken) (omega arith) in
+    let b = left-bounds (l .inv .1) (s .0) (s .1) in
     let g = good .1 .1 .1 .1 .0 .0 in
     omega arith
 
 compare-fields-shared-slice-read-kind : (t : ℕ) → compare-fields-lts.Need-shared-slice-read-kind (compare-fields-claims t) (compare-fields-at t) compare-fields.Post compare-fields-Inv-loop compare-fields-μ-loop
 compare-fields-shared-slice-read-kind t c =
+    let s = both-some _ _ (sym (c .before .before .before .before .either-none2 .ensures) ∙ not-true _ (c .before .before .before .if2 .taken)) in
     let good = c .before .before .before .before .before .before .before .before .before .before .before .before .good in
     let l = c .before .before .before .before .before .loop in
-    let b = left-bounds (l .inv .1) (c .before .before .before .before .loop-test .taken) (omega arith) in
+    let b = left-bounds (l .inv .1) (s .0) (s .1) in
     let g = good .1 .1 .1 .1 .0 .0 in
     omega arith
 
@@ -128,49 +132,55 @@ compare-fields-is-container-requires t c κs = search needs
 
 compare-fields-add-c : (t : ℕ) → compare-fields-lts.Need-add-c (compare-fields-claims t) (compare-fields-at t) compare-fields.Post compare-fields-Inv-loop compare-fields-μ-loop
 compare-fields-add-c t c =
+    let s = both-some _ _ (sym (c .before .before .before .before .before .before .either-none2 .ensures) ∙ not-true _ (c .before .before .before .before .before .if2 .taken)) in
     let good = c .before .before .before .before .before .before .before .before .before .before .before .before .before .before .good in
     let l = c .before .before .before .before .before .before .before .loop in
-    let b = left-bounds (l .inv .1) (c .before .before .before .before .before .before .loop-test .taken) (omega arith) in
+    let b = left-bounds (l .inv .1) (s .0) (s .1) in
     let g = good .1 .1 .1 .1 .0 .0 in
     omega arith
 
 compare-fields-mul-c : (t : ℕ) → compare-fields-lts.Need-mul-c (compare-fields-claims t) (compare-fields-at t) compare-fields.Post compare-fields-Inv-loop compare-fields-μ-loop
 compare-fields-mul-c t c =
+    let s = both-some _ _ (sym (c .before .before .before .before .before .before .either-none2 .ensures) ∙ not-true _ (c .before .before .before .before .before .if2 .taken)) in
     let good = c .before .before .before .before .before .before .before .before .before .before .before .before .before .before .good in
     let l = c .before .before .before .before .before .before .before .loop in
-    let b = left-bounds (l .inv .1) (c .before .before .before .before .before .before .loop-test .taken) (omega arith) in
+    let b = left-bounds (l .inv .1) (s .0) (s .1) in
     let g = good .1 .1 .1 .1 .0 .0 in
     omega arith
 
 compare-fields-shared-slice-read-c : (t : ℕ) → compare-fields-lts.Need-shared-slice-read-c (compare-fields-claims t) (compare-fields-at t) compare-fields.Post compare-fields-Inv-loop compare-fields-μ-loop
 compare-fields-shared-slice-read-c t c =
+    let s = both-some _ _ (sym (c .before .before .before .before .before .before .before .either-none2 .ensures) ∙ not-true _ (c .before .before .before .before .before .before .if2 .taken)) in
     let good = c .before .before .before .before .before .before .before .before .before .before .before .before .before .before .before .good in
     let l = c .before .before .before .before .before .before .before .before .loop in
-    let b = left-bounds (l .inv .1) (c .before .before .before .before .before .before .before .loop-test .taken) (omega arith) in
+    let b = left-bounds (l .inv .1) (s .0) (s .1) in
     let g = good .1 .1 .1 .1 .0 .0 in
     omega arith
 
 compare-fields-add-d : (t : ℕ) → compare-fields-lts.Need-add-d (compare-fields-claims t) (compare-fields-at t) compare-fields.Post compare-fields-Inv-loop compare-fields-μ-loop
 compare-fields-add-d t c =
+    let s = both-some _ _ (sym (c .before .before .before .before .before .before .before .either-none2 .ensures) ∙ not-true _ (c .before .before .before .before .before .before .if2 .taken)) in
     let good = c .before .before .before .before .before .before .before .before .before .before .before .before .before .before .before .good in
     let l = c .before .before .before .before .before .before .before .before .loop in
-    let b = left-bounds (l .inv .1) (c .before .before .before .before .before .before .before .loop-test .taken) (omega arith) in
+    let b = left-bounds (l .inv .1) (s .0) (s .1) in
     let g = good .1 .1 .1 .1 .0 .0 in
     omega arith
 
 compare-fields-mul-d : (t : ℕ) → compare-fields-lts.Need-mul-d (compare-fields-claims t) (compare-fields-at t) compare-fields.Post compare-fields-Inv-loop compare-fields-μ-loop
 compare-fields-mul-d t c =
+    let s = both-some _ _ (sym (c .before .before .before .before .before .before .before .either-none2 .ensures) ∙ not-true _ (c .before .before .before .before .before .before .if2 .taken)) in
     let good = c .before .before .before .before .before .before .before .before .before .before .before .before .before .before .before .good in
     let l = c .before .before .before .before .before .before .before .before .loop in
-    let b = left-bounds (l .inv .1) (c .before .before .before .before .before .before .before .loop-test .taken) (omega arith) in
+    let b = left-bounds (l .inv .1) (s .0) (s .1) in
     let g = good .1 .1 .1 .1 .0 .0 in
     omega arith
 
 compare-fields-shared-slice-read-d : (t : ℕ) → compare-fields-lts.Need-shared-slice-read-d (compare-fields-claims t) (compare-fields-at t) compare-fields.Post compare-fields-Inv-loop compare-fields-μ-loop
 compare-fields-shared-slice-read-d t c =
+    let s = both-some _ _ (sym (c .before .before .before .before .before .before .before .before .either-none2 .ensures) ∙ not-true _ (c .before .before .before .before .before .before .before .if2 .taken)) in
     let good = c .before .before .before .before .before .before .before .before .before .before .before .before .before .before .before .before .good in
     let l = c .before .before .before .before .before .before .before .before .before .loop in
-    let b = left-bounds (l .inv .1) (c .before .before .before .before .before .before .before .before .loop-test .taken) (omega arith) in
+    let b = left-bounds (l .inv .1) (s .0) (s .1) in
     let g = good .1 .1 .1 .1 .0 .0 in
     omega arith
 
@@ -179,9 +189,10 @@ compare-fields-level-for-requires t c κs = search needs
 
 compare-fields-sub-shown-count : (t : ℕ) → compare-fields-lts.Need-sub-shown-count (compare-fields-claims t) (compare-fields-at t) compare-fields.Post compare-fields-Inv-loop compare-fields-μ-loop
 compare-fields-sub-shown-count t c =
+    let s = both-some _ _ (sym (c .before .before .before .before .before .before .before .before .before .either-none2 .ensures) ∙ not-true _ (c .before .before .before .before .before .before .before .before .if2 .taken)) in
     let good = c .before .before .before .before .before .before .before .before .before .before .before .before .before .before .before .before .before .good in
     let l = c .before .before .before .before .before .before .before .before .before .before .loop in
-    let b = left-bounds (l .inv .1) (c .before .before .before .before .before .before .before .before .before .loop-test .taken) (omega arith) in
+    let b = left-bounds (l .inv .1) (s .0) (s .1) in
     let g = good .1 .1 .1 .1 .0 .0 in
     omega arith
 
@@ -190,41 +201,51 @@ compare-fields-shown-count-requires t c κs = search needs
 
 compare-fields-sub-m : (t : ℕ) → compare-fields-lts.Need-sub-m (compare-fields-claims t) (compare-fields-at t) compare-fields.Post compare-fields-Inv-loop compare-fields-μ-loop
 compare-fields-sub-m t c =
+    let s = both-some _ _ (sym (c .before .before .before .before .before .before .before .before .before .before .either-none2 .ensures)
+    ∙ not-true _ (c .before .before .before .before .before .before .before .before .before .if2 .taken)) in
     let good = c .before .before .before .before .before .before .before .before .before .before .before .before .before .before .before .before .before .before .good in
     let l = c .before .before .before .before .before .before .before .before .before .before .before .loop in
-    let b = left-bounds (l .inv .1) (c .before .before .before .before .before .before .before .before .before .before .loop-test .taken) (omega arith) in
+    let b = left-bounds (l .inv .1) (s .0) (s .1) in
     let g = good .1 .1 .1 .1 .0 .0 in
     omega arith
 
 compare-fields-add-i : (t : ℕ) → compare-fields-lts.Need-add-i (compare-fields-claims t) (compare-fields-at t) compare-fields.Post compare-fields-Inv-loop compare-fields-μ-loop
 compare-fields-add-i t c =
+    let s = both-some _ _ (sym (c .before .before .before .before .before .before .before .before .before .before .either-none2 .ensures)
+    ∙ not-true _ (c .before .before .before .before .before .before .before .before .before .if2 .taken)) in
     let good = c .before .before .before .before .before .before .before .before .before .before .before .before .before .before .before .before .before .before .good in
     let l = c .before .before .before .before .before .before .before .before .before .before .before .loop in
-    let b = left-bounds (l .inv .1) (c .before .before .before .before .before .before .before .before .before .before .loop-test .taken) (omega arith) in
+    let b = left-bounds (l .inv .1) (s .0) (s .1) in
     let g = good .1 .1 .1 .1 .0 .0 in
     omega arith
 
 compare-fields-add-j : (t : ℕ) → compare-fields-lts.Need-add-j (compare-fields-claims t) (compare-fields-at t) compare-fields.Post compare-fields-Inv-loop compare-fields-μ-loop
 compare-fields-add-j t c =
+    let s = both-some _ _ (sym (c .before .before .before .before .before .before .before .before .before .before .either-none2 .ensures)
+    ∙ not-true _ (c .before .before .before .before .before .before .before .before .before .if2 .taken)) in
     let good = c .before .before .before .before .before .before .before .before .before .before .before .before .before .before .before .before .before .before .good in
     let l = c .before .before .before .before .before .before .before .before .before .before .before .loop in
-    let b = left-bounds (l .inv .1) (c .before .before .before .before .before .before .before .before .before .before .loop-test .taken) (omega arith) in
+    let b = left-bounds (l .inv .1) (s .0) (s .1) in
     let g = good .1 .1 .1 .1 .0 .0 in
     omega arith
 
 compare-fields-sub-fields-last : (t : ℕ) → compare-fields-lts.Need-sub-fields-last (compare-fields-claims t) (compare-fields-at t) compare-fields.Post compare-fields-Inv-loop compare-fields-μ-loop
 compare-fields-sub-fields-last t c =
+    let s = both-some _ _ (sym (c .before .before .before .before .before .before .before .before .before .before .either-none2 .ensures)
+    ∙ not-true _ (c .before .before .before .before .before .before .before .before .before .if2 .taken)) in
     let good = c .before .before .before .before .before .before .before .before .before .before .before .before .before .before .before .before .before .before .good in
     let l = c .before .before .before .before .before .before .before .before .before .before .before .loop in
-    let b = left-bounds (l .inv .1) (c .before .before .before .before .before .before .before .before .before .before .loop-test .taken) (omega arith) in
+    let b = left-bounds (l .inv .1) (s .0) (s .1) in
     let g = good .1 .1 .1 .1 .0 .0 in
     omega arith
 
 compare-fields-sub-fields-last-2 : (t : ℕ) → compare-fields-lts.Need-sub-fields-last-2 (compare-fields-claims t) (compare-fields-at t) compare-fields.Post compare-fields-Inv-loop compare-fields-μ-loop
 compare-fields-sub-fields-last-2 t c =
+    let s = both-some _ _ (sym (c .before .before .before .before .before .before .before .before .before .before .either-none2 .ensures)
+    ∙ not-true _ (c .before .before .before .before .before .before .before .before .before .if2 .taken)) in
     let good = c .before .before .before .before .before .before .before .before .before .before .before .before .before .before .before .before .before .before .good in
     let l = c .before .before .before .before .before .before .before .before .before .before .before .loop in
-    let b = left-bounds (l .inv .1) (c .before .before .before .before .before .before .before .before .before .before .loop-test .taken) (omega arith) in
+    let b = left-bounds (l .inv .1) (s .0) (s .1) in
     let g = good .1 .1 .1 .1 .0 .0 in
     omega arith
 
@@ -232,18 +253,23 @@ compare-fields-fields-last-requires : (t : ℕ) → compare-fields-lts.Need-fiel
 compare-fields-fields-last-requires t c κs = search needs
 
 compare-fields-loop-less : (t : ℕ) → compare-fields-lts.Need-loop-less (compare-fields-claims t) (compare-fields-at t) compare-fields.Post compare-fields-Inv-loop compare-fields-μ-loop
-compare-fields-loop-less t c = let i = left-inner (c .before .before .before .before .before .before .before .before .before .before .before .before .before .loop .inv .1)
-    (c .before .before .before .before .before .before .before .before .before .before .before .before .loop-test .taken) (omega arith)
+compare-fields-loop-less t c =
+    let s = both-some _ _ (sym (c .before .before .before .before .before .before .before .before .before .before .before .before .either-none2 .ensures)
+    ∙ not-true _ (c .before .before .before .before .before .before .before .before .before .before .before .if2 .taken)) in
+    let i = left-inner (c .before .before .before .before .before .before .before .before .before .before .before .before .before .loop .inv .1)
+    (s .0) (s .1)
     (sym (c .before .before .before .before .before .before .before .before .before .before .compare-labels .ensures)
     ∙ not-false _ (c .before .before .before .before .before .before .before .before .before .if3 .left)) (sym (c .before .before .before .before .before .before .before .is-container .ensures)
     ∙ c .before .before .before .before .before .before .if4 .taken) (c .before .before .before .level-for .ensures) (c .before .before .shown-count .ensures) in let j = i .0 in omega arith
 
 compare-fields-loop-again : (t : ℕ) → compare-fields-lts.Need-loop-again (compare-fields-claims t) (compare-fields-at t) compare-fields.Post compare-fields-Inv-loop compare-fields-μ-loop
 compare-fields-loop-again t c =
+    let s = both-some _ _ (sym (c .before .before .before .before .before .before .before .before .before .before .before .before .either-none2 .ensures)
+    ∙ not-true _ (c .before .before .before .before .before .before .before .before .before .before .before .if2 .taken)) in
     let b = left-bounds (c .before .before .before .before .before .before .before .before .before .before .before .before .before .loop .inv .1)
-    (c .before .before .before .before .before .before .before .before .before .before .before .before .loop-test .taken) (omega arith) in
+    (s .0) (s .1) in
     let i = left-inner (c .before .before .before .before .before .before .before .before .before .before .before .before .before .loop .inv .1)
-    (c .before .before .before .before .before .before .before .before .before .before .before .before .loop-test .taken) (omega arith)
+    (s .0) (s .1)
     (sym (c .before .before .before .before .before .before .before .before .before .before .compare-labels .ensures)
     ∙ not-false _ (c .before .before .before .before .before .before .before .before .before .if3 .left)) (sym (c .before .before .before .before .before .before .before .is-container .ensures)
     ∙ c .before .before .before .before .before .before .if4 .taken) (c .before .before .before .level-for .ensures) (c .before .before .shown-count .ensures) in
@@ -251,7 +277,7 @@ compare-fields-loop-again t c =
     let f = c .before .fields-last .ensures (c .if5 .taken) in (
       omega arith,
       left-last (c .before .before .before .before .before .before .before .before .before .before .before .before .before .loop .inv .1)
-          (c .before .before .before .before .before .before .before .before .before .before .before .before .loop-test .taken) (omega arith)
+          (s .0) (s .1)
           (sym (c .before .before .before .before .before .before .before .before .before .before .compare-labels .ensures)
           ∙ not-false _ (c .before .before .before .before .before .before .before .before .before .if3 .left)) (sym (c .before .before .before .before .before .before .before .is-container .ensures)
           ∙ c .before .before .before .before .before .before .if4 .taken) (c .before .before .before .level-for .ensures) (c .before .before .shown-count .ensures) (omega arith) (omega arith) (f .2) (f .3),
@@ -295,8 +321,10 @@ compare-fields-part-compare-fields-end-4 t c = search needs
 
 compare-fields-compare-fields-requires : (t : ℕ) → compare-fields-lts.Need-compare-fields-requires (compare-fields-claims t) (compare-fields-at t) compare-fields.Post compare-fields-Inv-loop compare-fields-μ-loop
 compare-fields-compare-fields-requires t c κs =
+    let s = both-some _ _ (sym (c .before .before .before .before .before .before .before .before .before .before .before .before .before .before .before .before .either-none2 .ensures)
+    ∙ not-true _ (c .before .before .before .before .before .before .before .before .before .before .before .before .before .before .before .if2 .taken)) in
     let i = left-inner (c .before .before .before .before .before .before .before .before .before .before .before .before .before .before .before .before .before .loop .inv .1)
-    (c .before .before .before .before .before .before .before .before .before .before .before .before .before .before .before .before .loop-test .taken) (omega arith)
+    (s .0) (s .1)
     (sym (c .before .before .before .before .before .before .before .before .before .before .before .before .before .before .compare-labels .ensures)
     ∙ not-false _ (c .before .before .before .before .before .before .before .before .before .before .before .before .before .if3 .left))
     (sym (c .before .before .before .before .before .before .before .before .before .before .before .is-container .ensures)
@@ -305,10 +333,14 @@ compare-fields-compare-fields-requires t c κs =
     let j = i .0 in
     rw (whole, whole, whole, whole) (omega arith, (i .1, i .2))
 
-compare-fields-returns-4 : (t : ℕ) → compare-fields-lts.Need-returns-4 (compare-fields-claims t) (compare-fields-at t) compare-fields.Post compare-fields-Inv-loop compare-fields-μ-loop
-compare-fields-returns-4 t c = left-fields
+compare-fields-returns-3 : (t : ℕ) → compare-fields-lts.Need-returns-3 (compare-fields-claims t) (compare-fields-at t) compare-fields.Post compare-fields-Inv-loop compare-fields-μ-loop
+compare-fields-returns-3 t c =
+    let s = both-some _ _
+    (sym (c .before .before .before .before .before .before .before .before .before .before .before .before .before .before .before .before .before .before .either-none2 .ensures)
+    ∙ not-true _ (c .before .before .before .before .before .before .before .before .before .before .before .before .before .before .before .before .before .if2 .taken)) in
+    left-fields
     (c .before .before .before .before .before .before .before .before .before .before .before .before .before .before .before .before .before .before .before .loop .inv .1)
-    (c .before .before .before .before .before .before .before .before .before .before .before .before .before .before .before .before .before .before .loop-test .taken) (omega arith)
+    (s .0) (s .1)
     (sym (c .before .before .before .before .before .before .before .before .before .before .before .before .before .before .before .before .compare-labels .ensures)
     ∙ not-false _ (c .before .before .before .before .before .before .before .before .before .before .before .before .before .before .before .if3 .left))
     (sym (c .before .before .before .before .before .before .before .before .before .before .before .before .before .is-container .ensures)
@@ -318,49 +350,55 @@ compare-fields-returns-4 t c = left-fields
 
 compare-fields-mul-at : (t : ℕ) → compare-fields-lts.Need-mul-at (compare-fields-claims t) (compare-fields-at t) compare-fields.Post compare-fields-Inv-loop compare-fields-μ-loop
 compare-fields-mul-at t c =
+    let s = both-some _ _ (sym (c .before .before .before .before .before .before .before .either-none2 .ensures) ∙ not-true _ (c .before .before .before .before .before .before .if2 .taken)) in
     let good = c .before .before .before .before .before .before .before .before .before .before .before .before .before .before .before .good in
     let l = c .before .before .before .before .before .before .before .before .loop in
-    let b = left-bounds (l .inv .1) (c .before .before .before .before .before .before .before .loop-test .taken) (omega arith) in
+    let b = left-bounds (l .inv .1) (s .0) (s .1) in
     let g = good .1 .1 .1 .1 .0 .0 in
     ⊎-elim (λ i. omega arith) (λ i. omega arith) (c .before .if4 .came)
 
 compare-fields-add-at : (t : ℕ) → compare-fields-lts.Need-add-at (compare-fields-claims t) (compare-fields-at t) compare-fields.Post compare-fields-Inv-loop compare-fields-μ-loop
 compare-fields-add-at t c =
+    let s = both-some _ _ (sym (c .before .before .before .before .before .before .before .either-none2 .ensures) ∙ not-true _ (c .before .before .before .before .before .before .if2 .taken)) in
     let good = c .before .before .before .before .before .before .before .before .before .before .before .before .before .before .before .good in
     let l = c .before .before .before .before .before .before .before .before .loop in
-    let b = left-bounds (l .inv .1) (c .before .before .before .before .before .before .before .loop-test .taken) (omega arith) in
+    let b = left-bounds (l .inv .1) (s .0) (s .1) in
     let g = good .1 .1 .1 .1 .0 .0 in
     ⊎-elim (λ i. omega arith) (λ i. omega arith) (c .before .if4 .came)
 
 compare-fields-sub-left : (t : ℕ) → compare-fields-lts.Need-sub-left (compare-fields-claims t) (compare-fields-at t) compare-fields.Post compare-fields-Inv-loop compare-fields-μ-loop
 compare-fields-sub-left t c =
+    let s = both-some _ _ (sym (c .before .before .before .before .before .before .before .either-none2 .ensures) ∙ not-true _ (c .before .before .before .before .before .before .if2 .taken)) in
     let good = c .before .before .before .before .before .before .before .before .before .before .before .before .before .before .before .good in
     let l = c .before .before .before .before .before .before .before .before .loop in
-    let b = left-bounds (l .inv .1) (c .before .before .before .before .before .before .before .loop-test .taken) (omega arith) in
+    let b = left-bounds (l .inv .1) (s .0) (s .1) in
     let g = good .1 .1 .1 .1 .0 .0 in
     ⊎-elim (λ i. omega arith) (λ i. omega arith) (c .before .if4 .came)
 
 compare-fields-mul-bt : (t : ℕ) → compare-fields-lts.Need-mul-bt (compare-fields-claims t) (compare-fields-at t) compare-fields.Post compare-fields-Inv-loop compare-fields-μ-loop
 compare-fields-mul-bt t c =
+    let s = both-some _ _ (sym (c .before .before .before .before .before .before .before .before .either-none2 .ensures) ∙ not-true _ (c .before .before .before .before .before .before .before .if2 .taken)) in
     let good = c .before .before .before .before .before .before .before .before .before .before .before .before .before .before .before .before .good in
     let l = c .before .before .before .before .before .before .before .before .before .loop in
-    let b = left-bounds (l .inv .1) (c .before .before .before .before .before .before .before .before .loop-test .taken) (omega arith) in
+    let b = left-bounds (l .inv .1) (s .0) (s .1) in
     let g = good .1 .1 .1 .1 .0 .0 in
     ⊎-elim (λ i. omega arith) (λ i. omega arith) (c .before .before .if4 .came)
 
 compare-fields-add-bt : (t : ℕ) → compare-fields-lts.Need-add-bt (compare-fields-claims t) (compare-fields-at t) compare-fields.Post compare-fields-Inv-loop compare-fields-μ-loop
 compare-fields-add-bt t c =
+    let s = both-some _ _ (sym (c .before .before .before .before .before .before .before .before .either-none2 .ensures) ∙ not-true _ (c .before .before .before .before .before .before .before .if2 .taken)) in
     let good = c .before .before .before .before .before .before .before .before .before .before .before .before .before .before .before .before .good in
     let l = c .before .before .before .before .before .before .before .before .before .loop in
-    let b = left-bounds (l .inv .1) (c .before .before .before .before .before .before .before .before .loop-test .taken) (omega arith) in
+    let b = left-bounds (l .inv .1) (s .0) (s .1) in
     let g = good .1 .1 .1 .1 .0 .0 in
     ⊎-elim (λ i. omega arith) (λ i. omega arith) (c .before .before .if4 .came)
 
 compare-fields-sub-more : (t : ℕ) → compare-fields-lts.Need-sub-more (compare-fields-claims t) (compare-fields-at t) compare-fields.Post compare-fields-Inv-loop compare-fields-μ-loop
 compare-fields-sub-more t c =
+    let s = both-some _ _ (sym (c .before .before .before .before .before .before .before .before .either-none2 .ensures) ∙ not-true _ (c .before .before .before .before .before .before .before .if2 .taken)) in
     let good = c .before .before .before .before .before .before .before .before .before .before .before .before .before .before .before .before .good in
     let l = c .before .before .before .before .before .before .before .before .before .loop in
-    let b = left-bounds (l .inv .1) (c .before .before .before .before .before .before .before .before .loop-test .taken) (omega arith) in
+    let b = left-bounds (l .inv .1) (s .0) (s .1) in
     let g = good .1 .1 .1 .1 .0 .0 in
     ⊎-elim (λ i. omega arith) (λ i. omega arith) (c .before .before .if4 .came)
 
@@ -369,19 +407,21 @@ compare-fields-level-after-requires t c κs = search needs
 
 compare-fields-loop-less-2 : (t : ℕ) → compare-fields-lts.Need-loop-less-2 (compare-fields-claims t) (compare-fields-at t) compare-fields.Post compare-fields-Inv-loop compare-fields-μ-loop
 compare-fields-loop-less-2 t c =
+    let s = both-some _ _ (sym (c .before .before .before .before .before .before .before .before .before .either-none2 .ensures) ∙ not-true _ (c .before .before .before .before .before .before .before .before .if2 .taken)) in
     let good = c .before .before .before .before .before .before .before .before .before .before .before .before .before .before .before .before .before .good in
     let l = c .before .before .before .before .before .before .before .before .before .before .loop in
-    let b = left-bounds (l .inv .1) (c .before .before .before .before .before .before .before .before .before .loop-test .taken) (omega arith) in
+    let b = left-bounds (l .inv .1) (s .0) (s .1) in
     let g = good .1 .1 .1 .1 .0 .0 in
     ⊎-elim (λ i. omega arith) (λ i. omega arith) (c .before .before .before .if4 .came)
 
 compare-fields-loop-again-2 : (t : ℕ) → compare-fields-lts.Need-loop-again-2 (compare-fields-claims t) (compare-fields-at t) compare-fields.Post compare-fields-Inv-loop compare-fields-μ-loop
 compare-fields-loop-again-2 t c =
-    let b = left-bounds (c .before .before .before .before .before .before .before .before .before .before .loop .inv .1) (c .before .before .before .before .before .before .before .before .before .loop-test .taken) (omega arith) in
+    let s = both-some _ _ (sym (c .before .before .before .before .before .before .before .before .before .either-none2 .ensures) ∙ not-true _ (c .before .before .before .before .before .before .before .before .if2 .taken)) in
+    let b = left-bounds (c .before .before .before .before .before .before .before .before .before .before .loop .inv .1) (s .0) (s .1) in
     ⊎-elim (λ i. (
       omega arith,
       left-after (c .before .before .before .before .before .before .before .before .before .before .loop .inv .1)
-          (c .before .before .before .before .before .before .before .before .before .loop-test .taken) (omega arith)
+          (s .0) (s .1)
           (sym (c .before .before .before .before .before .before .before .compare-labels .ensures) ∙ not-false _ (c .before .before .before .before .before .before .if3 .left))
           (sym (c .before .before .before .before .is-container .ensures) ∙ i .0 .taken) (i .3 .ensures) (i .4 .ensures) (sym (rw (whole, whole, whole, whole) at (i .11 .ensures))
           ∙ not-false _ (i .12 .left)) (i .13) (i .14) (c .level-after .ensures),
@@ -389,13 +429,14 @@ compare-fields-loop-again-2 t c =
     (λ i. (
       omega arith,
       left-next (c .before .before .before .before .before .before .before .before .before .before .loop .inv .1)
-          (c .before .before .before .before .before .before .before .before .before .loop-test .taken) (omega arith)
+          (s .0) (s .1)
           (sym (c .before .before .before .before .before .before .before .compare-labels .ensures) ∙ not-false _ (c .before .before .before .before .before .before .if3 .left))
           (sym (c .before .before .before .before .is-container .ensures) ∙ i .0 .left) (i .1) (i .2) (c .level-after .ensures),
     )) (c .before .before .before .if4 .came)
 
-compare-fields-returns-5 : (t : ℕ) → compare-fields-lts.Need-returns-5 (compare-fields-claims t) (compare-fields-at t) compare-fields.Post compare-fields-Inv-loop compare-fields-μ-loop
-compare-fields-returns-5 t c = left-end (c .before .loop .inv .1) (c .loop-test .left)
+compare-fields-returns-4 : (t : ℕ) → compare-fields-lts.Need-returns-4 (compare-fields-claims t) (compare-fields-at t) compare-fields.Post compare-fields-Inv-loop compare-fields-μ-loop
+compare-fields-returns-4 t c =
+    left-stop (c .before .before .loop .inv .1) (sym (c .before .either-none2 .ensures) ∙ not-false _ (c .if2 .left))
 
 pub +compare-fields-spec : {M : Type 1} → statement M
 +compare-fields-spec = close μ-compare-fields λ t. compare-fields-lts.spec (compare-fields-claims t)
@@ -406,9 +447,9 @@ pub +compare-fields-spec : {M : Type 1} → statement M
     (compare-fields-either-none-requires t)
     (compare-fields-returns t)
     (compare-fields-loop-holds t)
-    (compare-fields-returns-2 t)
+    (compare-fields-either-none-requires-2 t)
     (compare-fields-compare-labels-requires t)
-    (compare-fields-returns-3 t)
+    (compare-fields-returns-2 t)
     (compare-fields-mul-kind t)
     (compare-fields-shared-slice-read-kind t)
     (compare-fields-is-container-requires t)
@@ -442,7 +483,7 @@ pub +compare-fields-spec : {M : Type 1} → statement M
     (compare-fields-part-compare-fields-start-4 t)
     (compare-fields-part-compare-fields-end-4 t)
     (compare-fields-compare-fields-requires t)
-    (compare-fields-returns-4 t)
+    (compare-fields-returns-3 t)
     (compare-fields-mul-at t)
     (compare-fields-add-at t)
     (compare-fields-sub-left t)
@@ -452,4 +493,4 @@ pub +compare-fields-spec : {M : Type 1} → statement M
     (compare-fields-level-after-requires t)
     (compare-fields-loop-less-2 t)
     (compare-fields-loop-again-2 t)
-    (compare-fields-returns-5 t)
+    (compare-fields-returns-4 t)
