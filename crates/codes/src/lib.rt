@@ -194,14 +194,14 @@ fn is_indirection(b: u8) -> bool
 pub fn indirections_end(text: &[u8], at: usize) -> usize
     ensures { λ r. ⌜ r ≡ runEnd isIndirection (now (text .entry)) at ⌝ }
 {
-    let mut i = at;
-    while i < text.len() {
-        if !is_indirection(text[i]) {
-            return i;
+    let mut to = at;
+    while to < text.len() {
+        if !is_indirection(text[to]) {
+            return to;
         }
-        i += 1;
+        to += 1;
     }
-    i
+    to
 }
 
 fn is_code(b: u8) -> bool

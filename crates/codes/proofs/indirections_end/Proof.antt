@@ -30,8 +30,8 @@ returns c =
     let p = c .before .before .before in
     sym (p .before .loop .inv ∙ run-stop _ _ _ (p .loop-test .taken) (sym (c .before .is-indirection .ensures) ∙ not-true _ (c .if1 .taken)))
 
-add-i : tie.Need-add-i Inv-loop μ-loop
-add-i c = omega arith
+add-to : tie.Need-add-to Inv-loop μ-loop
+add-to c = omega arith
 
 loop-less : tie.Need-loop-less Inv-loop μ-loop
 loop-less c = omega arith
@@ -54,7 +54,7 @@ indirections-end-spec =
     shared-slice-read-is-indirection
     is-indirection-requires
     returns
-    add-i
+    add-to
     loop-less
     loop-again
     returns-2)
