@@ -30,6 +30,17 @@ extern "C" {
         b_names_len: usize,
         answer: *mut [u64; 1],
     ) -> u64;
+    pub fn berzhotun_equivalent_to_box(
+        a_words: *const u64,
+        a_words_len: usize,
+        a_names: *const u8,
+        a_names_len: usize,
+        b_words: *const u64,
+        b_words_len: usize,
+        b_names: *const u8,
+        b_names_len: usize,
+        answer: *mut [u64; 1],
+    ) -> u64;
     pub fn berzhotun_eq(
         a_words: *const u64,
         a_words_len: usize,

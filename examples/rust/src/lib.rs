@@ -100,6 +100,11 @@ impl Tree {
         self.compare(exported::berzhotun_equivalent_to, other)
     }
 
+    /// The same: in the Rust crate the other tree is then boxed, and here both are sheets.
+    pub fn equivalent_to_box(&self, other: &Tree) -> bool {
+        self.compare(exported::berzhotun_equivalent_to_box, other)
+    }
+
     /// Whether the two are equivalent with all fields, also those behind several pointers.
     pub fn equal(&self, other: &Tree) -> bool {
         self.compare(exported::berzhotun_eq, other)

@@ -80,6 +80,7 @@ fn comparisons() {
     assert!(tree("{R=i}").equivalent_to(&tree("{R}")));
     assert!(tree("@").equivalent_to(&tree("@?")) && tree("#").equivalent_to(&tree("@")));
     assert!(tree("^^{R=i}").equivalent_to(&tree("^^{R=d}")));
+    assert!(tree("^^{R=i}").equivalent_to_box(&tree("^^{R=d}")) && !tree("i").equivalent_to_box(&tree("d")));
     assert!(!tree("^^{R=i}").equal(&tree("^^{R=d}")));
     assert!(!tree("b3").equivalent_to(&tree("b0i3")));
     let record = tree("{R=i}");
