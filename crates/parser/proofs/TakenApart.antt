@@ -1,5 +1,7 @@
--- The methods of `Parser` that take the struct apart and call a function on the text and the place. Each meets its contract because the function meets its own: one walk of the MIR by hand for those that return what the function returns, and one for those that make a struct of the text and the place that it returns.
--- All that a walk knows of the function is that it meets its contract. The struct is Copy: what it owns is had twice, one copy is kept whole for the exit, and of the other what the text owns goes to the function, beside the lifetime's token, which comes back.
+-- The methods of `Parser` that take the struct apart and call a function on the text and the place. Each meets its contract because the function meets its own: one walk of
+-- the MIR by hand for those that return what the function returns, and one for those that make a struct of the text and the place that it returns.
+-- All that a walk knows of the function is that it meets its contract. The struct is Copy: what it owns is had twice, one copy is kept whole for the exit, and of the other
+-- what the text owns goes to the function, beside the lifetime's token, which comes back.
 -- Assumes nothing.
 use mathlib.Core.Path.{_≡_, refl, ap}
 use Prim.Native.Nat.{ℕ, _<_, _^_}
@@ -112,7 +114,8 @@ module _ {M : Type 1} (𝓤 : URA M) (H : Heap 𝓤) (A : Atoms 𝓤) (W : Given
   apart fits =
       qed W ((‵ (flft κ q) ⊛ ‵ ftrue) ∷ ‵ (owns (B (κ, tt) ∷ []) (d, tt) (mach ∷ [], tt)) ∷ []) ∵
       move ! (1 ∷ []) $ fsplit ! $ move ! (1 ∷ []) $ drop ! $ use1 W (‵ Own ⊛ ‵ Own) (LL.copy D (T′.the-copy (namedLft 1 0 tt (κ, tt))) 𝓤 H A W .twice d (mach ∷ [])) $ split ! $
-      use1 W (given (mach ∷ [] ≡ mach ∷ []) (‵ (all-own (D .parts) L vd))) (own-open 𝓤 H A W D L vd mach) $ learn ! (λ _. use1 W (‵ (ownAt (D .parts) L 0 (d .«data»)) ⊛ ‵ (rest (D .parts) L 0 vd)) (own-out 𝓤 H A W (D .parts) L 0 vd) $ split ! $
+      use1 W (given (mach ∷ [] ≡ mach ∷ []) (‵ (all-own (D .parts) L vd))) (own-open 𝓤 H A W D L vd mach) $
+      learn ! (λ _. use1 W (‵ (ownAt (D .parts) L 0 (d .«data»)) ⊛ ‵ (rest (D .parts) L 0 vd)) (own-out 𝓤 H A W (D .parts) L 0 vd) $ split ! $
       -- [what the text owns; what the place owns; what the struct owns; the token]
       move ! (1 ∷ []) $ drop ! $ nothing ! $ owned ! usize (Is usize) (uint-makes 𝓤 H A W w64) (d .«split_point») _ (refl, fits) $ fjoin ! $ move ! (1 ∷ 0 ∷ []) $ fjoin ! $
       move ! (2 ∷ 0 ∷ []) $ use2 W (raw (Function 𝓤 H A ρ claim .pre to)) asked $ frame ! $ done !)
@@ -164,7 +167,8 @@ module _ (ρ : Slot 1) (claim : Said ρ) where
             assigns ! (of-opd ! (load ! (from ! (fld ! refl (stop !))) (look-in ! 4 (sub ! 1 refl (whole !))))) (from ! (stop !)) (init ! 0 refl (tt, wt .1 .1 .0)) $
             move ! (8 ∷ []) $ use1 W (raw (Function 𝓤 H A ρ claim .pre (to 𝓤 H A W ρ claim κ q d)) ⊛ ‵ (Own 𝓤 H A W ρ claim κ q d)) (apart 𝓤 H A W ρ claim κ q d (wt .1 .1 .0 .fits)) $ split ! $
             calls-at ! fm (Function 𝓤 H A ρ claim) known (to 𝓤 H A W ρ claim κ q d) (and-then ! (load ! (from ! (stop !)) (look ! 4 refl)) (and-then ! (load ! (from ! (stop !)) (look ! 2 refl)) (no-more !))) (λ u.
-            use1 W (later (some (λ (r : R .Denot). ((‵ (flft κ q) ⊛ ‵ ftrue) ⊛ ‵ (R .own r (u ∷ []))) ⊛ raw (ensured 𝓤 H A (function ρ) (function-clauses 𝓤 ρ claim) (κ, tt) (d .«data», (d .«split_point», tt)) tt r)))) (id⊢ 𝓤 _) $ await ! tt $ pick ! (λ r.
+            use1 W (later (some (λ (r : R .Denot). ((‵ (flft κ q) ⊛ ‵ ftrue) ⊛ ‵ (R .own r (u ∷ []))) ⊛ raw (ensured 𝓤 H A (function ρ) (function-clauses 𝓤 ρ claim) (κ, tt) (d .«data», (d .«split_point», tt)) tt r)))) (id⊢ 𝓤 _) $
+            await ! tt $ pick ! (λ r.
             split ! $ move ! (1 ∷ []) $ use1 W (raw (fact 𝓤 (claim (κ, tt) (d .«data») (d .«split_point») r))) (said 𝓤 H A W ρ claim κ q d r) $ heard ! (claim (κ, tt) (d .«data») (d .«split_point») r) (λ e. split ! $ move ! (1 ∷ []) $
             -- [the result; the token; what the struct owns; _3; …; _2; …; _1; …; room for _0; …]
             peeks ! R (Is R) (shows 𝓤 H A R) r (u ∷ []) (λ is.
@@ -175,8 +179,10 @@ module _ (ρ : Slot 1) (claim : Said ρ) where
     pub hands-back-meets : (𝓣 : Tables 𝓤 H) → Triple 𝓤 (𝓣 .C f) (Function 𝓤 H A ρ claim)
         → Meets 𝓤 H A (method ρ .signature) (WpFn 𝓤 H (𝓣 .C) (𝓣 .Λ) (hands-back τ f)) (closing 𝓤 H A (method ρ) (method-clauses 𝓤 ρ read-claim))
     hands-back-meets 𝓣 known = walk-meets 𝓤 H A (method ρ) (stayed ρ) W (goes-none 𝓤 H A W 1 B yes (λ κs x f. refl), tt) (method-clauses 𝓤 ρ read-claim) (WpFn 𝓤 H (𝓣 .C) (𝓣 .Λ) (hands-back τ f)) (WpFn-mono 𝓤 H (W .laws) 𝓣 (hands-back τ f))
-        (walked 𝓤 H A (method ρ) (stayed ρ) (method-clauses 𝓤 ρ read-claim) (WpFn 𝓤 H (𝓣 .C) (𝓣 .Λ) (hands-back τ f)) (λ κs. (LL.vals (T.the-type (namedLft 1 0 tt κs)) (T′.the-laws (namedLft 1 0 tt κs)), tt)) (λ κs. (LL.tells (T.the-type (namedLft 1 0 tt κs)) (T′.the-laws (namedLft 1 0 tt κs)), tt))
-        (λ κs qs bounds a g are. via 𝓤 _ (fst∗ 𝓤 _ (emp 𝓤)) (walk (κs .0) (qs .0) (a .0) (𝓣 .C) (𝓣 .Λ) (fmOf 𝓤 H (W .laws) 𝓣) known (LL.lawful (T.the-type (namedLft 1 0 tt κs)) (T′.the-laws (namedLft 1 0 tt κs)) 𝓤 H A W .typed (a .0) _ (are .0) .0))))
+        (walked 𝓤 H A (method ρ) (stayed ρ) (method-clauses 𝓤 ρ read-claim) (WpFn 𝓤 H (𝓣 .C) (𝓣 .Λ) (hands-back τ f))
+        (λ κs. (LL.vals (T.the-type (namedLft 1 0 tt κs)) (T′.the-laws (namedLft 1 0 tt κs)), tt)) (λ κs. (LL.tells (T.the-type (namedLft 1 0 tt κs)) (T′.the-laws (namedLft 1 0 tt κs)), tt))
+        (λ κs qs bounds a g are. via 𝓤 _ (fst∗ 𝓤 _ (emp 𝓤))
+        (walk (κs .0) (qs .0) (a .0) (𝓣 .C) (𝓣 .Λ) (fmOf 𝓤 H (W .laws) 𝓣) known (LL.lawful (T.the-type (namedLft 1 0 tt κs)) (T′.the-laws (namedLft 1 0 tt κs)) 𝓤 H A W .typed (a .0) _ (are .0) .0))))
 
 -- ---- a method that makes a struct of the text and the place that the function returns
 abbrev pub moves : Name → Fn
@@ -227,13 +233,15 @@ module _ (next : List ℕ → ℕ → ℕ) where
       moved-exits : (n : ℕ) → n ≡ found → ent 𝓤 (⋆ 𝓤 H A (‵ (usize .own n (vint w64 n ∷ [])) ∷ (‵ (flft κ q) ⊛ ‵ ftrue) ∷ ‵ Own′ ∷ [])) (Post′ (T′.lowered (moved d n)))
       moved-exits n e =
           qed W (‵ (usize .own n (vint w64 n ∷ [])) ∷ (‵ (flft κ q) ⊛ ‵ ftrue) ∷ ‵ Own′ ∷ []) ∵
-          suffices ! _ (ends-at 𝓤 H A (method (plain B)) (stayed (plain B)) (method-clauses 𝓤 (plain B) moved-claim) W (((κ, tt), (q, tt), tt, (d, tt), (T′.lowered d ∷ [], tt)), tt) (T′.lowered (moved d n)) (moved d n) (tt, tt) (tt, tt)) $ says ! (ap (moved d) e) $
+          suffices ! _ (ends-at 𝓤 H A (method (plain B)) (stayed (plain B)) (method-clauses 𝓤 (plain B) moved-claim) W (((κ, tt), (q, tt), tt, (d, tt), (T′.lowered d ∷ [], tt)), tt) (T′.lowered (moved d n)) (moved d n) (tt, tt) (tt, tt)) $
+          says ! (ap (moved d) e) $
           move ! (1 ∷ []) $ frame ! $ move ! (1 ∷ []) $ use1 W (‵ Own′ ⊛ ‵ Own′) (LL.copy (T.the-type (namedLft 1 0 tt (κ, tt))) (T′.the-copy (namedLft 1 0 tt (κ, tt))) 𝓤 H A W .twice d (T′.lowered d ∷ [])) $ split ! $
           -- [what the struct owns; the same; what the place owns]
           nothing ! $ move ! (1 ∷ 0 ∷ []) $ fjoin ! $ frame ! $ by ! (own-put 𝓤 H A W (T.the-type (namedLft 1 0 tt (κ, tt))) (T′.the-laws (namedLft 1 0 tt (κ, tt))) 1 (d .«data», (d .«split_point», tt)) n (T′.lowered d))
 
       module _ (C : Calls 𝓤 H) (Λ : Loops 𝓤 H) (fm : FmC 𝓤 H (W .laws) C) (known : Triple 𝓤 (C f) (Function 𝓤 H A place-slot next-claim)) where
-        moved-walk : Holds (hasTy (T′.mir (named 0)) (T′.lowered d)) × WT (T′.lowered d) → ent 𝓤 (onEntry 𝓤 H A (method (plain B) .signature) (κ, tt) (q, tt) (d, tt) (T′.lowered d ∷ [], tt)) (WpFn 𝓤 H C Λ (moves f) (T′.lowered d ∷ []) Post′)
+        moved-walk : Holds (hasTy (T′.mir (named 0)) (T′.lowered d)) × WT (T′.lowered d) → ent 𝓤
+            (onEntry 𝓤 H A (method (plain B) .signature) (κ, tt) (q, tt) (d, tt) (T′.lowered d ∷ [], tt)) (WpFn 𝓤 H C Λ (moves f) (T′.lowered d ∷ []) Post′)
         moved-walk wt =
             qed W (raw (onEntry 𝓤 H A (method (plain B) .signature) (κ, tt) (q, tt) (d, tt) (T′.lowered d ∷ [], tt)) ∷ []) ∵ enter ! C Λ (moves f) (T′.lowered d ∷ []) _ $
             alloc1 ! (λ l₀. alloc1 ! (λ l₁. alloc1 ! (λ l₂. alloc1 ! (λ l₃. alloc1 ! (λ l₄. alloc1 ! (λ l₅. alloc0 ! $ params1 ! $ pass1 ! (init ! 8 refl wt) $ pass0 ! $
@@ -242,7 +250,8 @@ module _ (next : List ℕ → ℕ → ℕ) where
             assigns ! (of-opd ! (load ! (from ! (fld ! refl (stop !))) (look-in ! 8 (sub ! 1 refl (whole !))))) (from ! (stop !)) (init ! 0 refl (tt, wt .1 .1 .0)) $
             move ! (12 ∷ []) $ use1 W (raw (Function 𝓤 H A place-slot next-claim .pre to′) ⊛ ‵ Own′) (apart 𝓤 H A W place-slot next-claim κ q d (wt .1 .1 .0 .fits)) $ split ! $
             calls-at ! fm (Function 𝓤 H A place-slot next-claim) known to′ (and-then ! (load ! (from ! (stop !)) (look ! 4 refl)) (and-then ! (load ! (from ! (stop !)) (look ! 2 refl)) (no-more !))) (λ u.
-            use1 W (later (some (λ (r : ℕ). ((‵ (flft κ q) ⊛ ‵ ftrue) ⊛ ‵ (usize .own r (u ∷ []))) ⊛ raw (ensured 𝓤 H A (function place-slot) (function-clauses 𝓤 place-slot next-claim) (κ, tt) (d .«data», (d .«split_point», tt)) tt r)))) (id⊢ 𝓤 _) $ await ! tt $ pick ! (λ r.
+            use1 W (later (some (λ (r : ℕ). ((‵ (flft κ q) ⊛ ‵ ftrue) ⊛ ‵ (usize .own r (u ∷ []))) ⊛ raw (ensured 𝓤 H A (function place-slot) (function-clauses 𝓤 place-slot next-claim) (κ, tt) (d .«data», (d .«split_point», tt)) tt r))))
+            (id⊢ 𝓤 _) $ await ! tt $ pick ! (λ r.
             split ! $ move ! (1 ∷ []) $ use1 W (raw (fact 𝓤 (r ≡ found))) (said 𝓤 H A W place-slot next-claim κ q d r) $ heard ! (r ≡ found) (λ e. split ! $ move ! (1 ∷ []) $
             -- [the place; the token; what the struct owns; _5; …; _4; …; _3; …; _2; …; _1; …; room for _0; …]
             peeks ! usize (Is usize) (shows 𝓤 H A usize) r (u ∷ []) (λ is.
@@ -250,10 +259,14 @@ module _ (next : List ℕ → ℕ → ℕ) where
             rewrite ! 0 (λ (w : List Val). ‵ (usize .own r w)) (is .0) refl $
             assigns ! (agg ! (and-then ! (load ! (from ! (stop !)) (look ! 9 refl)) (and-then ! (load ! (from ! (stop !)) (look ! 7 refl)) (no-more !)))) (from ! (stop !)) (init ! 13 refl (tt, (wt .1 .0, (record { fits = is .1 }, tt)))) $
             returns ! (look ! 13 refl) $ forget ! 3 refl $ forget ! 5 refl $ forget ! 7 refl $ forget ! 9 refl $ forget ! 11 refl $ forget ! 13 refl $
-            move ! (13 ∷ 14 ∷ []) $ free1 ! $ move ! (11 ∷ 12 ∷ []) $ free1 ! $ move ! (9 ∷ 10 ∷ []) $ free1 ! $ move ! (7 ∷ 8 ∷ []) $ free1 ! $ move ! (5 ∷ 6 ∷ []) $ free1 ! $ move ! (3 ∷ 4 ∷ []) $ free1 ! $ free0 ! $ by ! (moved-exits r e)))))))))))
+            move ! (13 ∷ 14 ∷ []) $ free1 ! $ move ! (11 ∷ 12 ∷ []) $ free1 ! $ move ! (9 ∷ 10 ∷ []) $ free1 ! $ move ! (7 ∷ 8 ∷ []) $
+            free1 ! $ move ! (5 ∷ 6 ∷ []) $ free1 ! $ move ! (3 ∷ 4 ∷ []) $ free1 ! $ free0 ! $ by ! (moved-exits r e)))))))))))
 
     pub moves-meets : (𝓣 : Tables 𝓤 H) → Triple 𝓤 (𝓣 .C f) (Function 𝓤 H A place-slot next-claim)
         → Meets 𝓤 H A (method (plain B) .signature) (WpFn 𝓤 H (𝓣 .C) (𝓣 .Λ) (moves f)) (closing 𝓤 H A (method (plain B)) (method-clauses 𝓤 (plain B) moved-claim))
-    moves-meets 𝓣 known = walk-meets 𝓤 H A (method (plain B)) (stayed (plain B)) W (goes-none 𝓤 H A W 1 B yes (λ κs x f. refl), tt) (method-clauses 𝓤 (plain B) moved-claim) (WpFn 𝓤 H (𝓣 .C) (𝓣 .Λ) (moves f)) (WpFn-mono 𝓤 H (W .laws) 𝓣 (moves f))
-        (walked 𝓤 H A (method (plain B)) (stayed (plain B)) (method-clauses 𝓤 (plain B) moved-claim) (WpFn 𝓤 H (𝓣 .C) (𝓣 .Λ) (moves f)) (λ κs. (LL.vals (T.the-type (namedLft 1 0 tt κs)) (T′.the-laws (namedLft 1 0 tt κs)), tt)) (λ κs. (LL.tells (T.the-type (namedLft 1 0 tt κs)) (T′.the-laws (namedLft 1 0 tt κs)), tt))
-        (λ κs qs bounds a g are. via 𝓤 _ (fst∗ 𝓤 _ (emp 𝓤)) (moved-walk (κs .0) (qs .0) (a .0) (𝓣 .C) (𝓣 .Λ) (fmOf 𝓤 H (W .laws) 𝓣) known (LL.lawful (T.the-type (namedLft 1 0 tt κs)) (T′.the-laws (namedLft 1 0 tt κs)) 𝓤 H A W .typed (a .0) _ (are .0) .0))))
+    moves-meets 𝓣 known = walk-meets 𝓤 H A (method (plain B)) (stayed (plain B)) W (goes-none 𝓤 H A W 1 B yes (λ κs x f. refl), tt)
+        (method-clauses 𝓤 (plain B) moved-claim) (WpFn 𝓤 H (𝓣 .C) (𝓣 .Λ) (moves f)) (WpFn-mono 𝓤 H (W .laws) 𝓣 (moves f))
+        (walked 𝓤 H A (method (plain B)) (stayed (plain B)) (method-clauses 𝓤 (plain B) moved-claim) (WpFn 𝓤 H (𝓣 .C) (𝓣 .Λ) (moves f))
+        (λ κs. (LL.vals (T.the-type (namedLft 1 0 tt κs)) (T′.the-laws (namedLft 1 0 tt κs)), tt)) (λ κs. (LL.tells (T.the-type (namedLft 1 0 tt κs)) (T′.the-laws (namedLft 1 0 tt κs)), tt))
+        (λ κs qs bounds a g are. via 𝓤 _ (fst∗ 𝓤 _ (emp 𝓤))
+        (moved-walk (κs .0) (qs .0) (a .0) (𝓣 .C) (𝓣 .Λ) (fmOf 𝓤 H (W .laws) 𝓣) known (LL.lawful (T.the-type (namedLft 1 0 tt κs)) (T′.the-laws (namedLft 1 0 tt κs)) 𝓤 H A W .typed (a .0) _ (are .0) .0))))
