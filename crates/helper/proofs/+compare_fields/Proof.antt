@@ -80,9 +80,11 @@ compare-fields-returns t c =
 
 compare-fields-loop-holds : (t : ℕ) → compare-fields-lts.Need-loop-holds (compare-fields-claims t) (compare-fields-at t) compare-fields.Post compare-fields-Inv-loop compare-fields-μ-loop
 compare-fields-loop-holds t c =
-    let pre = c .before .before .before .before .before .before .pre in
-    let a = c .before .before .before .before .before .before .args in
-    let s = both-some _ _ (sym (c .before .either-none .ensures) ∙ c .if1 .left) in (
+    let p1 = c .before in
+    let p6 = p1 .before .before .before .before .before in
+    let pre = p6 .pre in
+    let a = p6 .args in
+    let s = both-some _ _ (sym (p1 .either-none .ensures) ∙ c .if1 .left) in (
       omega arith,
       record {
         first = pre .1 .0 .0;
@@ -106,23 +108,35 @@ compare-fields-compare-labels-requires t c κs =
 
 compare-fields-returns-2 : (t : ℕ) → compare-fields-lts.Need-returns-2 (compare-fields-claims t) (compare-fields-at t) compare-fields.Post compare-fields-Inv-loop compare-fields-μ-loop
 compare-fields-returns-2 t c =
-    let s = both-some _ _ (sym (c .before .before .before .either-none2 .ensures) ∙ not-true _ (c .before .before .if2 .taken)) in
-    left-differ (c .before .before .before .before .loop .inv .1) (s .0) (s .1) (sym (c .before .compare-labels .ensures) ∙ not-true _ (c .if3 .taken))
+    let p1 = c .before in
+    let p2 = p1 .before in
+    let p3 = p2 .before in
+    let p4 = p3 .before in
+    let s = both-some _ _ (sym (p3 .either-none2 .ensures) ∙ not-true _ (p2 .if2 .taken)) in
+    left-differ (p4 .loop .inv .1) (s .0) (s .1) (sym (p1 .compare-labels .ensures) ∙ not-true _ (c .if3 .taken))
 
 compare-fields-mul-kind : (t : ℕ) → compare-fields-lts.Need-mul-kind (compare-fields-claims t) (compare-fields-at t) compare-fields.Post compare-fields-Inv-loop compare-fields-μ-loop
 compare-fields-mul-kind t c =
-    let s = both-some _ _ (sym (c .before .before .before .either-none2 .ensures) ∙ not-true _ (c .before .before .if2 .taken)) in
-    let good = c .before .before .before .before .before .before .before .before .before .before .before .good in
-    let l = c .before .before .before .before .loop in
+    let p2 = c .before .before in
+    let p3 = p2 .before in
+    let p4 = p3 .before in
+    let p11 = p4 .before .before .before .before .before .before .before in
+    let s = both-some _ _ (sym (p3 .either-none2 .ensures) ∙ not-true _ (p2 .if2 .taken)) in
+    let good = p11 .good in
+    let l = p4 .loop in
     let b = left-bounds (l .inv .1) (s .0) (s .1) in
     let g = good .1 .1 .1 .1 .0 .0 in
     omega arith
 
 compare-fields-shared-slice-read-kind : (t : ℕ) → compare-fields-lts.Need-shared-slice-read-kind (compare-fields-claims t) (compare-fields-at t) compare-fields.Post compare-fields-Inv-loop compare-fields-μ-loop
 compare-fields-shared-slice-read-kind t c =
-    let s = both-some _ _ (sym (c .before .before .before .before .either-none2 .ensures) ∙ not-true _ (c .before .before .before .if2 .taken)) in
-    let good = c .before .before .before .before .before .before .before .before .before .before .before .before .good in
-    let l = c .before .before .before .before .before .loop in
+    let p3 = c .before .before .before in
+    let p4 = p3 .before in
+    let p5 = p4 .before in
+    let p12 = p5 .before .before .before .before .before .before .before in
+    let s = both-some _ _ (sym (p4 .either-none2 .ensures) ∙ not-true _ (p3 .if2 .taken)) in
+    let good = p12 .good in
+    let l = p5 .loop in
     let b = left-bounds (l .inv .1) (s .0) (s .1) in
     let g = good .1 .1 .1 .1 .0 .0 in
     omega arith
@@ -132,54 +146,78 @@ compare-fields-is-container-requires t c κs = search needs
 
 compare-fields-add-c : (t : ℕ) → compare-fields-lts.Need-add-c (compare-fields-claims t) (compare-fields-at t) compare-fields.Post compare-fields-Inv-loop compare-fields-μ-loop
 compare-fields-add-c t c =
-    let s = both-some _ _ (sym (c .before .before .before .before .before .before .either-none2 .ensures) ∙ not-true _ (c .before .before .before .before .before .if2 .taken)) in
-    let good = c .before .before .before .before .before .before .before .before .before .before .before .before .before .before .good in
-    let l = c .before .before .before .before .before .before .before .loop in
+    let p5 = c .before .before .before .before .before in
+    let p6 = p5 .before in
+    let p7 = p6 .before in
+    let p14 = p7 .before .before .before .before .before .before .before in
+    let s = both-some _ _ (sym (p6 .either-none2 .ensures) ∙ not-true _ (p5 .if2 .taken)) in
+    let good = p14 .good in
+    let l = p7 .loop in
     let b = left-bounds (l .inv .1) (s .0) (s .1) in
     let g = good .1 .1 .1 .1 .0 .0 in
     omega arith
 
 compare-fields-mul-c : (t : ℕ) → compare-fields-lts.Need-mul-c (compare-fields-claims t) (compare-fields-at t) compare-fields.Post compare-fields-Inv-loop compare-fields-μ-loop
 compare-fields-mul-c t c =
-    let s = both-some _ _ (sym (c .before .before .before .before .before .before .either-none2 .ensures) ∙ not-true _ (c .before .before .before .before .before .if2 .taken)) in
-    let good = c .before .before .before .before .before .before .before .before .before .before .before .before .before .before .good in
-    let l = c .before .before .before .before .before .before .before .loop in
+    let p5 = c .before .before .before .before .before in
+    let p6 = p5 .before in
+    let p7 = p6 .before in
+    let p14 = p7 .before .before .before .before .before .before .before in
+    let s = both-some _ _ (sym (p6 .either-none2 .ensures) ∙ not-true _ (p5 .if2 .taken)) in
+    let good = p14 .good in
+    let l = p7 .loop in
     let b = left-bounds (l .inv .1) (s .0) (s .1) in
     let g = good .1 .1 .1 .1 .0 .0 in
     omega arith
 
 compare-fields-shared-slice-read-c : (t : ℕ) → compare-fields-lts.Need-shared-slice-read-c (compare-fields-claims t) (compare-fields-at t) compare-fields.Post compare-fields-Inv-loop compare-fields-μ-loop
 compare-fields-shared-slice-read-c t c =
-    let s = both-some _ _ (sym (c .before .before .before .before .before .before .before .either-none2 .ensures) ∙ not-true _ (c .before .before .before .before .before .before .if2 .taken)) in
-    let good = c .before .before .before .before .before .before .before .before .before .before .before .before .before .before .before .good in
-    let l = c .before .before .before .before .before .before .before .before .loop in
+    let p6 = c .before .before .before .before .before .before in
+    let p7 = p6 .before in
+    let p8 = p7 .before in
+    let p15 = p8 .before .before .before .before .before .before .before in
+    let s = both-some _ _ (sym (p7 .either-none2 .ensures) ∙ not-true _ (p6 .if2 .taken)) in
+    let good = p15 .good in
+    let l = p8 .loop in
     let b = left-bounds (l .inv .1) (s .0) (s .1) in
     let g = good .1 .1 .1 .1 .0 .0 in
     omega arith
 
 compare-fields-add-d : (t : ℕ) → compare-fields-lts.Need-add-d (compare-fields-claims t) (compare-fields-at t) compare-fields.Post compare-fields-Inv-loop compare-fields-μ-loop
 compare-fields-add-d t c =
-    let s = both-some _ _ (sym (c .before .before .before .before .before .before .before .either-none2 .ensures) ∙ not-true _ (c .before .before .before .before .before .before .if2 .taken)) in
-    let good = c .before .before .before .before .before .before .before .before .before .before .before .before .before .before .before .good in
-    let l = c .before .before .before .before .before .before .before .before .loop in
+    let p6 = c .before .before .before .before .before .before in
+    let p7 = p6 .before in
+    let p8 = p7 .before in
+    let p15 = p8 .before .before .before .before .before .before .before in
+    let s = both-some _ _ (sym (p7 .either-none2 .ensures) ∙ not-true _ (p6 .if2 .taken)) in
+    let good = p15 .good in
+    let l = p8 .loop in
     let b = left-bounds (l .inv .1) (s .0) (s .1) in
     let g = good .1 .1 .1 .1 .0 .0 in
     omega arith
 
 compare-fields-mul-d : (t : ℕ) → compare-fields-lts.Need-mul-d (compare-fields-claims t) (compare-fields-at t) compare-fields.Post compare-fields-Inv-loop compare-fields-μ-loop
 compare-fields-mul-d t c =
-    let s = both-some _ _ (sym (c .before .before .before .before .before .before .before .either-none2 .ensures) ∙ not-true _ (c .before .before .before .before .before .before .if2 .taken)) in
-    let good = c .before .before .before .before .before .before .before .before .before .before .before .before .before .before .before .good in
-    let l = c .before .before .before .before .before .before .before .before .loop in
+    let p6 = c .before .before .before .before .before .before in
+    let p7 = p6 .before in
+    let p8 = p7 .before in
+    let p15 = p8 .before .before .before .before .before .before .before in
+    let s = both-some _ _ (sym (p7 .either-none2 .ensures) ∙ not-true _ (p6 .if2 .taken)) in
+    let good = p15 .good in
+    let l = p8 .loop in
     let b = left-bounds (l .inv .1) (s .0) (s .1) in
     let g = good .1 .1 .1 .1 .0 .0 in
     omega arith
 
 compare-fields-shared-slice-read-d : (t : ℕ) → compare-fields-lts.Need-shared-slice-read-d (compare-fields-claims t) (compare-fields-at t) compare-fields.Post compare-fields-Inv-loop compare-fields-μ-loop
 compare-fields-shared-slice-read-d t c =
-    let s = both-some _ _ (sym (c .before .before .before .before .before .before .before .before .either-none2 .ensures) ∙ not-true _ (c .before .before .before .before .before .before .before .if2 .taken)) in
-    let good = c .before .before .before .before .before .before .before .before .before .before .before .before .before .before .before .before .good in
-    let l = c .before .before .before .before .before .before .before .before .before .loop in
+    let p7 = c .before .before .before .before .before .before .before in
+    let p8 = p7 .before in
+    let p9 = p8 .before in
+    let p16 = p9 .before .before .before .before .before .before .before in
+    let s = both-some _ _ (sym (p8 .either-none2 .ensures) ∙ not-true _ (p7 .if2 .taken)) in
+    let good = p16 .good in
+    let l = p9 .loop in
     let b = left-bounds (l .inv .1) (s .0) (s .1) in
     let g = good .1 .1 .1 .1 .0 .0 in
     omega arith
@@ -189,9 +227,13 @@ compare-fields-level-for-requires t c κs = search needs
 
 compare-fields-sub-shown-count : (t : ℕ) → compare-fields-lts.Need-sub-shown-count (compare-fields-claims t) (compare-fields-at t) compare-fields.Post compare-fields-Inv-loop compare-fields-μ-loop
 compare-fields-sub-shown-count t c =
-    let s = both-some _ _ (sym (c .before .before .before .before .before .before .before .before .before .either-none2 .ensures) ∙ not-true _ (c .before .before .before .before .before .before .before .before .if2 .taken)) in
-    let good = c .before .before .before .before .before .before .before .before .before .before .before .before .before .before .before .before .before .good in
-    let l = c .before .before .before .before .before .before .before .before .before .before .loop in
+    let p8 = c .before .before .before .before .before .before .before .before in
+    let p9 = p8 .before in
+    let p10 = p9 .before in
+    let p17 = p10 .before .before .before .before .before .before .before in
+    let s = both-some _ _ (sym (p9 .either-none2 .ensures) ∙ not-true _ (p8 .if2 .taken)) in
+    let good = p17 .good in
+    let l = p10 .loop in
     let b = left-bounds (l .inv .1) (s .0) (s .1) in
     let g = good .1 .1 .1 .1 .0 .0 in
     omega arith
@@ -201,50 +243,70 @@ compare-fields-shown-count-requires t c κs = search needs
 
 compare-fields-sub-m : (t : ℕ) → compare-fields-lts.Need-sub-m (compare-fields-claims t) (compare-fields-at t) compare-fields.Post compare-fields-Inv-loop compare-fields-μ-loop
 compare-fields-sub-m t c =
-    let s = both-some _ _ (sym (c .before .before .before .before .before .before .before .before .before .before .either-none2 .ensures)
-    ∙ not-true _ (c .before .before .before .before .before .before .before .before .before .if2 .taken)) in
-    let good = c .before .before .before .before .before .before .before .before .before .before .before .before .before .before .before .before .before .before .good in
-    let l = c .before .before .before .before .before .before .before .before .before .before .before .loop in
+    let p9 = c .before .before .before .before .before .before .before .before .before in
+    let p10 = p9 .before in
+    let p11 = p10 .before in
+    let p18 = p11 .before .before .before .before .before .before .before in
+    let s = both-some _ _ (sym (p10 .either-none2 .ensures)
+    ∙ not-true _ (p9 .if2 .taken)) in
+    let good = p18 .good in
+    let l = p11 .loop in
     let b = left-bounds (l .inv .1) (s .0) (s .1) in
     let g = good .1 .1 .1 .1 .0 .0 in
     omega arith
 
 compare-fields-add-i : (t : ℕ) → compare-fields-lts.Need-add-i (compare-fields-claims t) (compare-fields-at t) compare-fields.Post compare-fields-Inv-loop compare-fields-μ-loop
 compare-fields-add-i t c =
-    let s = both-some _ _ (sym (c .before .before .before .before .before .before .before .before .before .before .either-none2 .ensures)
-    ∙ not-true _ (c .before .before .before .before .before .before .before .before .before .if2 .taken)) in
-    let good = c .before .before .before .before .before .before .before .before .before .before .before .before .before .before .before .before .before .before .good in
-    let l = c .before .before .before .before .before .before .before .before .before .before .before .loop in
+    let p9 = c .before .before .before .before .before .before .before .before .before in
+    let p10 = p9 .before in
+    let p11 = p10 .before in
+    let p18 = p11 .before .before .before .before .before .before .before in
+    let s = both-some _ _ (sym (p10 .either-none2 .ensures)
+    ∙ not-true _ (p9 .if2 .taken)) in
+    let good = p18 .good in
+    let l = p11 .loop in
     let b = left-bounds (l .inv .1) (s .0) (s .1) in
     let g = good .1 .1 .1 .1 .0 .0 in
     omega arith
 
 compare-fields-add-j : (t : ℕ) → compare-fields-lts.Need-add-j (compare-fields-claims t) (compare-fields-at t) compare-fields.Post compare-fields-Inv-loop compare-fields-μ-loop
 compare-fields-add-j t c =
-    let s = both-some _ _ (sym (c .before .before .before .before .before .before .before .before .before .before .either-none2 .ensures)
-    ∙ not-true _ (c .before .before .before .before .before .before .before .before .before .if2 .taken)) in
-    let good = c .before .before .before .before .before .before .before .before .before .before .before .before .before .before .before .before .before .before .good in
-    let l = c .before .before .before .before .before .before .before .before .before .before .before .loop in
+    let p9 = c .before .before .before .before .before .before .before .before .before in
+    let p10 = p9 .before in
+    let p11 = p10 .before in
+    let p18 = p11 .before .before .before .before .before .before .before in
+    let s = both-some _ _ (sym (p10 .either-none2 .ensures)
+    ∙ not-true _ (p9 .if2 .taken)) in
+    let good = p18 .good in
+    let l = p11 .loop in
     let b = left-bounds (l .inv .1) (s .0) (s .1) in
     let g = good .1 .1 .1 .1 .0 .0 in
     omega arith
 
 compare-fields-sub-fields-last : (t : ℕ) → compare-fields-lts.Need-sub-fields-last (compare-fields-claims t) (compare-fields-at t) compare-fields.Post compare-fields-Inv-loop compare-fields-μ-loop
 compare-fields-sub-fields-last t c =
-    let s = both-some _ _ (sym (c .before .before .before .before .before .before .before .before .before .before .either-none2 .ensures)
-    ∙ not-true _ (c .before .before .before .before .before .before .before .before .before .if2 .taken)) in
-    let good = c .before .before .before .before .before .before .before .before .before .before .before .before .before .before .before .before .before .before .good in
-    let l = c .before .before .before .before .before .before .before .before .before .before .before .loop in
+    let p9 = c .before .before .before .before .before .before .before .before .before in
+    let p10 = p9 .before in
+    let p11 = p10 .before in
+    let p18 = p11 .before .before .before .before .before .before .before in
+    let s = both-some _ _ (sym (p10 .either-none2 .ensures)
+    ∙ not-true _ (p9 .if2 .taken)) in
+    let good = p18 .good in
+    let l = p11 .loop in
     let b = left-bounds (l .inv .1) (s .0) (s .1) in
     let g = good .1 .1 .1 .1 .0 .0 in
     omega arith
 
 compare-fields-sub-fields-last-2 : (t : ℕ) → compare-fields-lts.Need-sub-fields-last-2 (compare-fields-claims t) (compare-fields-at t) compare-fields.Post compare-fields-Inv-loop compare-fields-μ-loop
 compare-fields-sub-fields-last-2 t c =
-    let s = both-some _ _ (sym (c .before .before .before .before .before .before .before .before .before .before .either-none2 .ensures)
-    ∙ not-true _ (c .before .before .before .before .before .before .before .before .before .if2 .taken)) in
-    let good = c .before .before .before .before .before .before .before .before .before .before .before .before .before .before .before .before .before .before .good in
-    let l = c .before .before .before .before .before .before .before .before .before .before .before .loop in
+    let p9 = c .before .before .before .before .before .before .before .before .before in
+    let p10 = p9 .before in
+    let p11 = p10 .before in
+    let p18 = p11 .before .before .before .before .before .before .before in
+    let s = both-some _ _ (sym (p10 .either-none2 .ensures)
+    ∙ not-true _ (p9 .if2 .taken)) in
+    let good = p18 .good in
+    let l = p11 .loop in
     let b = left-bounds (l .inv .1) (s .0) (s .1) in
     let g = good .1 .1 .1 .1 .0 .0 in
     omega arith
@@ -254,33 +316,52 @@ compare-fields-fields-last-requires t c κs = search needs
 
 compare-fields-loop-less : (t : ℕ) → compare-fields-lts.Need-loop-less (compare-fields-claims t) (compare-fields-at t) compare-fields.Post compare-fields-Inv-loop compare-fields-μ-loop
 compare-fields-loop-less t c =
-    let s = both-some _ _ (sym (c .before .before .before .before .before .before .before .before .before .before .before .before .either-none2 .ensures)
-    ∙ not-true _ (c .before .before .before .before .before .before .before .before .before .before .before .if2 .taken)) in
-    let i = left-inner (c .before .before .before .before .before .before .before .before .before .before .before .before .before .loop .inv .1)
+    let p2 = c .before .before in
+    let p3 = p2 .before in
+    let p6 = p3 .before .before .before in
+    let p7 = p6 .before in
+    let p9 = p7 .before .before in
+    let p10 = p9 .before in
+    let p11 = p10 .before in
+    let p12 = p11 .before in
+    let p13 = p12 .before in
+    let s = both-some _ _ (sym (p12 .either-none2 .ensures)
+    ∙ not-true _ (p11 .if2 .taken)) in
+    let i = left-inner (p13 .loop .inv .1)
     (s .0) (s .1)
-    (sym (c .before .before .before .before .before .before .before .before .before .before .compare-labels .ensures)
-    ∙ not-false _ (c .before .before .before .before .before .before .before .before .before .if3 .left)) (sym (c .before .before .before .before .before .before .before .is-container .ensures)
-    ∙ c .before .before .before .before .before .before .if4 .taken) (c .before .before .before .level-for .ensures) (c .before .before .shown-count .ensures) in let j = i .0 in omega arith
+    (sym (p10 .compare-labels .ensures)
+    ∙ not-false _ (p9 .if3 .left)) (sym (p7 .is-container .ensures)
+    ∙ p6 .if4 .taken) (p3 .level-for .ensures) (p2 .shown-count .ensures) in let j = i .0 in omega arith
 
 compare-fields-loop-again : (t : ℕ) → compare-fields-lts.Need-loop-again (compare-fields-claims t) (compare-fields-at t) compare-fields.Post compare-fields-Inv-loop compare-fields-μ-loop
 compare-fields-loop-again t c =
-    let s = both-some _ _ (sym (c .before .before .before .before .before .before .before .before .before .before .before .before .either-none2 .ensures)
-    ∙ not-true _ (c .before .before .before .before .before .before .before .before .before .before .before .if2 .taken)) in
-    let b = left-bounds (c .before .before .before .before .before .before .before .before .before .before .before .before .before .loop .inv .1)
+    let p1 = c .before in
+    let p2 = p1 .before in
+    let p3 = p2 .before in
+    let p6 = p3 .before .before .before in
+    let p7 = p6 .before in
+    let p9 = p7 .before .before in
+    let p10 = p9 .before in
+    let p11 = p10 .before in
+    let p12 = p11 .before in
+    let p13 = p12 .before in
+    let s = both-some _ _ (sym (p12 .either-none2 .ensures)
+    ∙ not-true _ (p11 .if2 .taken)) in
+    let b = left-bounds (p13 .loop .inv .1)
     (s .0) (s .1) in
-    let i = left-inner (c .before .before .before .before .before .before .before .before .before .before .before .before .before .loop .inv .1)
+    let i = left-inner (p13 .loop .inv .1)
     (s .0) (s .1)
-    (sym (c .before .before .before .before .before .before .before .before .before .before .compare-labels .ensures)
-    ∙ not-false _ (c .before .before .before .before .before .before .before .before .before .if3 .left)) (sym (c .before .before .before .before .before .before .before .is-container .ensures)
-    ∙ c .before .before .before .before .before .before .if4 .taken) (c .before .before .before .level-for .ensures) (c .before .before .shown-count .ensures) in
+    (sym (p10 .compare-labels .ensures)
+    ∙ not-false _ (p9 .if3 .left)) (sym (p7 .is-container .ensures)
+    ∙ p6 .if4 .taken) (p3 .level-for .ensures) (p2 .shown-count .ensures) in
     let j = i .0 in
-    let f = c .before .fields-last .ensures (c .if5 .taken) in (
+    let f = p1 .fields-last .ensures (c .if5 .taken) in (
       omega arith,
-      left-last (c .before .before .before .before .before .before .before .before .before .before .before .before .before .loop .inv .1)
+      left-last (p13 .loop .inv .1)
           (s .0) (s .1)
-          (sym (c .before .before .before .before .before .before .before .before .before .before .compare-labels .ensures)
-          ∙ not-false _ (c .before .before .before .before .before .before .before .before .before .if3 .left)) (sym (c .before .before .before .before .before .before .before .is-container .ensures)
-          ∙ c .before .before .before .before .before .before .if4 .taken) (c .before .before .before .level-for .ensures) (c .before .before .shown-count .ensures) (omega arith) (omega arith) (f .2) (f .3),
+          (sym (p10 .compare-labels .ensures)
+          ∙ not-false _ (p9 .if3 .left)) (sym (p7 .is-container .ensures)
+          ∙ p6 .if4 .taken) (p3 .level-for .ensures) (p2 .shown-count .ensures) (omega arith) (omega arith) (f .2) (f .3),
     )
 
 compare-fields-sub-compare-fields : (t : ℕ) → compare-fields-lts.Need-sub-compare-fields (compare-fields-claims t) (compare-fields-at t) compare-fields.Post compare-fields-Inv-loop compare-fields-μ-loop
@@ -335,104 +416,156 @@ compare-fields-compare-fields-requires t c κs =
 
 compare-fields-returns-3 : (t : ℕ) → compare-fields-lts.Need-returns-3 (compare-fields-claims t) (compare-fields-at t) compare-fields.Post compare-fields-Inv-loop compare-fields-μ-loop
 compare-fields-returns-3 t c =
+    let p1 = c .before in
+    let p8 = p1 .before .before .before .before .before .before .before in
+    let p9 = p8 .before in
+    let p12 = p9 .before .before .before in
+    let p13 = p12 .before in
+    let p15 = p13 .before .before in
+    let p16 = p15 .before in
+    let p17 = p16 .before in
+    let p18 = p17 .before in
+    let p19 = p18 .before in
     let s = both-some _ _
-    (sym (c .before .before .before .before .before .before .before .before .before .before .before .before .before .before .before .before .before .before .either-none2 .ensures)
-    ∙ not-true _ (c .before .before .before .before .before .before .before .before .before .before .before .before .before .before .before .before .before .if2 .taken)) in
+    (sym (p18 .either-none2 .ensures)
+    ∙ not-true _ (p17 .if2 .taken)) in
     left-fields
-    (c .before .before .before .before .before .before .before .before .before .before .before .before .before .before .before .before .before .before .before .loop .inv .1)
+    (p19 .loop .inv .1)
     (s .0) (s .1)
-    (sym (c .before .before .before .before .before .before .before .before .before .before .before .before .before .before .before .before .compare-labels .ensures)
-    ∙ not-false _ (c .before .before .before .before .before .before .before .before .before .before .before .before .before .before .before .if3 .left))
-    (sym (c .before .before .before .before .before .before .before .before .before .before .before .before .before .is-container .ensures)
-    ∙ c .before .before .before .before .before .before .before .before .before .before .before .before .if4 .taken)
-    (c .before .before .before .before .before .before .before .before .before .level-for .ensures) (c .before .before .before .before .before .before .before .before .shown-count .ensures)
-    (sym (rw (whole, whole, whole, whole) at (c .before .compare-fields .ensures)) ∙ not-true _ (c .if6 .taken))
+    (sym (p16 .compare-labels .ensures)
+    ∙ not-false _ (p15 .if3 .left))
+    (sym (p13 .is-container .ensures)
+    ∙ p12 .if4 .taken)
+    (p9 .level-for .ensures) (p8 .shown-count .ensures)
+    (sym (rw (whole, whole, whole, whole) at (p1 .compare-fields .ensures)) ∙ not-true _ (c .if6 .taken))
 
 compare-fields-mul-at : (t : ℕ) → compare-fields-lts.Need-mul-at (compare-fields-claims t) (compare-fields-at t) compare-fields.Post compare-fields-Inv-loop compare-fields-μ-loop
 compare-fields-mul-at t c =
-    let s = both-some _ _ (sym (c .before .before .before .before .before .before .before .either-none2 .ensures) ∙ not-true _ (c .before .before .before .before .before .before .if2 .taken)) in
-    let good = c .before .before .before .before .before .before .before .before .before .before .before .before .before .before .before .good in
-    let l = c .before .before .before .before .before .before .before .before .loop in
+    let p1 = c .before in
+    let p6 = p1 .before .before .before .before .before in
+    let p7 = p6 .before in
+    let p8 = p7 .before in
+    let p15 = p8 .before .before .before .before .before .before .before in
+    let s = both-some _ _ (sym (p7 .either-none2 .ensures) ∙ not-true _ (p6 .if2 .taken)) in
+    let good = p15 .good in
+    let l = p8 .loop in
     let b = left-bounds (l .inv .1) (s .0) (s .1) in
     let g = good .1 .1 .1 .1 .0 .0 in
-    ⊎-elim (λ i. omega arith) (λ i. omega arith) (c .before .if4 .came)
+    ⊎-elim (λ i. omega arith) (λ i. omega arith) (p1 .if4 .came)
 
 compare-fields-add-at : (t : ℕ) → compare-fields-lts.Need-add-at (compare-fields-claims t) (compare-fields-at t) compare-fields.Post compare-fields-Inv-loop compare-fields-μ-loop
 compare-fields-add-at t c =
-    let s = both-some _ _ (sym (c .before .before .before .before .before .before .before .either-none2 .ensures) ∙ not-true _ (c .before .before .before .before .before .before .if2 .taken)) in
-    let good = c .before .before .before .before .before .before .before .before .before .before .before .before .before .before .before .good in
-    let l = c .before .before .before .before .before .before .before .before .loop in
+    let p1 = c .before in
+    let p6 = p1 .before .before .before .before .before in
+    let p7 = p6 .before in
+    let p8 = p7 .before in
+    let p15 = p8 .before .before .before .before .before .before .before in
+    let s = both-some _ _ (sym (p7 .either-none2 .ensures) ∙ not-true _ (p6 .if2 .taken)) in
+    let good = p15 .good in
+    let l = p8 .loop in
     let b = left-bounds (l .inv .1) (s .0) (s .1) in
     let g = good .1 .1 .1 .1 .0 .0 in
-    ⊎-elim (λ i. omega arith) (λ i. omega arith) (c .before .if4 .came)
+    ⊎-elim (λ i. omega arith) (λ i. omega arith) (p1 .if4 .came)
 
 compare-fields-sub-left : (t : ℕ) → compare-fields-lts.Need-sub-left (compare-fields-claims t) (compare-fields-at t) compare-fields.Post compare-fields-Inv-loop compare-fields-μ-loop
 compare-fields-sub-left t c =
-    let s = both-some _ _ (sym (c .before .before .before .before .before .before .before .either-none2 .ensures) ∙ not-true _ (c .before .before .before .before .before .before .if2 .taken)) in
-    let good = c .before .before .before .before .before .before .before .before .before .before .before .before .before .before .before .good in
-    let l = c .before .before .before .before .before .before .before .before .loop in
+    let p1 = c .before in
+    let p6 = p1 .before .before .before .before .before in
+    let p7 = p6 .before in
+    let p8 = p7 .before in
+    let p15 = p8 .before .before .before .before .before .before .before in
+    let s = both-some _ _ (sym (p7 .either-none2 .ensures) ∙ not-true _ (p6 .if2 .taken)) in
+    let good = p15 .good in
+    let l = p8 .loop in
     let b = left-bounds (l .inv .1) (s .0) (s .1) in
     let g = good .1 .1 .1 .1 .0 .0 in
-    ⊎-elim (λ i. omega arith) (λ i. omega arith) (c .before .if4 .came)
+    ⊎-elim (λ i. omega arith) (λ i. omega arith) (p1 .if4 .came)
 
 compare-fields-mul-bt : (t : ℕ) → compare-fields-lts.Need-mul-bt (compare-fields-claims t) (compare-fields-at t) compare-fields.Post compare-fields-Inv-loop compare-fields-μ-loop
 compare-fields-mul-bt t c =
-    let s = both-some _ _ (sym (c .before .before .before .before .before .before .before .before .either-none2 .ensures) ∙ not-true _ (c .before .before .before .before .before .before .before .if2 .taken)) in
-    let good = c .before .before .before .before .before .before .before .before .before .before .before .before .before .before .before .before .good in
-    let l = c .before .before .before .before .before .before .before .before .before .loop in
+    let p2 = c .before .before in
+    let p7 = p2 .before .before .before .before .before in
+    let p8 = p7 .before in
+    let p9 = p8 .before in
+    let p16 = p9 .before .before .before .before .before .before .before in
+    let s = both-some _ _ (sym (p8 .either-none2 .ensures) ∙ not-true _ (p7 .if2 .taken)) in
+    let good = p16 .good in
+    let l = p9 .loop in
     let b = left-bounds (l .inv .1) (s .0) (s .1) in
     let g = good .1 .1 .1 .1 .0 .0 in
-    ⊎-elim (λ i. omega arith) (λ i. omega arith) (c .before .before .if4 .came)
+    ⊎-elim (λ i. omega arith) (λ i. omega arith) (p2 .if4 .came)
 
 compare-fields-add-bt : (t : ℕ) → compare-fields-lts.Need-add-bt (compare-fields-claims t) (compare-fields-at t) compare-fields.Post compare-fields-Inv-loop compare-fields-μ-loop
 compare-fields-add-bt t c =
-    let s = both-some _ _ (sym (c .before .before .before .before .before .before .before .before .either-none2 .ensures) ∙ not-true _ (c .before .before .before .before .before .before .before .if2 .taken)) in
-    let good = c .before .before .before .before .before .before .before .before .before .before .before .before .before .before .before .before .good in
-    let l = c .before .before .before .before .before .before .before .before .before .loop in
+    let p2 = c .before .before in
+    let p7 = p2 .before .before .before .before .before in
+    let p8 = p7 .before in
+    let p9 = p8 .before in
+    let p16 = p9 .before .before .before .before .before .before .before in
+    let s = both-some _ _ (sym (p8 .either-none2 .ensures) ∙ not-true _ (p7 .if2 .taken)) in
+    let good = p16 .good in
+    let l = p9 .loop in
     let b = left-bounds (l .inv .1) (s .0) (s .1) in
     let g = good .1 .1 .1 .1 .0 .0 in
-    ⊎-elim (λ i. omega arith) (λ i. omega arith) (c .before .before .if4 .came)
+    ⊎-elim (λ i. omega arith) (λ i. omega arith) (p2 .if4 .came)
 
 compare-fields-sub-more : (t : ℕ) → compare-fields-lts.Need-sub-more (compare-fields-claims t) (compare-fields-at t) compare-fields.Post compare-fields-Inv-loop compare-fields-μ-loop
 compare-fields-sub-more t c =
-    let s = both-some _ _ (sym (c .before .before .before .before .before .before .before .before .either-none2 .ensures) ∙ not-true _ (c .before .before .before .before .before .before .before .if2 .taken)) in
-    let good = c .before .before .before .before .before .before .before .before .before .before .before .before .before .before .before .before .good in
-    let l = c .before .before .before .before .before .before .before .before .before .loop in
+    let p2 = c .before .before in
+    let p7 = p2 .before .before .before .before .before in
+    let p8 = p7 .before in
+    let p9 = p8 .before in
+    let p16 = p9 .before .before .before .before .before .before .before in
+    let s = both-some _ _ (sym (p8 .either-none2 .ensures) ∙ not-true _ (p7 .if2 .taken)) in
+    let good = p16 .good in
+    let l = p9 .loop in
     let b = left-bounds (l .inv .1) (s .0) (s .1) in
     let g = good .1 .1 .1 .1 .0 .0 in
-    ⊎-elim (λ i. omega arith) (λ i. omega arith) (c .before .before .if4 .came)
+    ⊎-elim (λ i. omega arith) (λ i. omega arith) (p2 .if4 .came)
 
 compare-fields-level-after-requires : (t : ℕ) → compare-fields-lts.Need-level-after-requires (compare-fields-claims t) (compare-fields-at t) compare-fields.Post compare-fields-Inv-loop compare-fields-μ-loop
 compare-fields-level-after-requires t c κs = search needs
 
 compare-fields-loop-less-2 : (t : ℕ) → compare-fields-lts.Need-loop-less-2 (compare-fields-claims t) (compare-fields-at t) compare-fields.Post compare-fields-Inv-loop compare-fields-μ-loop
 compare-fields-loop-less-2 t c =
-    let s = both-some _ _ (sym (c .before .before .before .before .before .before .before .before .before .either-none2 .ensures) ∙ not-true _ (c .before .before .before .before .before .before .before .before .if2 .taken)) in
-    let good = c .before .before .before .before .before .before .before .before .before .before .before .before .before .before .before .before .before .good in
-    let l = c .before .before .before .before .before .before .before .before .before .before .loop in
+    let p3 = c .before .before .before in
+    let p8 = p3 .before .before .before .before .before in
+    let p9 = p8 .before in
+    let p10 = p9 .before in
+    let p17 = p10 .before .before .before .before .before .before .before in
+    let s = both-some _ _ (sym (p9 .either-none2 .ensures) ∙ not-true _ (p8 .if2 .taken)) in
+    let good = p17 .good in
+    let l = p10 .loop in
     let b = left-bounds (l .inv .1) (s .0) (s .1) in
     let g = good .1 .1 .1 .1 .0 .0 in
-    ⊎-elim (λ i. omega arith) (λ i. omega arith) (c .before .before .before .if4 .came)
+    ⊎-elim (λ i. omega arith) (λ i. omega arith) (p3 .if4 .came)
 
 compare-fields-loop-again-2 : (t : ℕ) → compare-fields-lts.Need-loop-again-2 (compare-fields-claims t) (compare-fields-at t) compare-fields.Post compare-fields-Inv-loop compare-fields-μ-loop
 compare-fields-loop-again-2 t c =
-    let s = both-some _ _ (sym (c .before .before .before .before .before .before .before .before .before .either-none2 .ensures) ∙ not-true _ (c .before .before .before .before .before .before .before .before .if2 .taken)) in
-    let b = left-bounds (c .before .before .before .before .before .before .before .before .before .before .loop .inv .1) (s .0) (s .1) in
+    let p3 = c .before .before .before in
+    let p4 = p3 .before in
+    let p6 = p4 .before .before in
+    let p7 = p6 .before in
+    let p8 = p7 .before in
+    let p9 = p8 .before in
+    let p10 = p9 .before in
+    let s = both-some _ _ (sym (p9 .either-none2 .ensures) ∙ not-true _ (p8 .if2 .taken)) in
+    let b = left-bounds (p10 .loop .inv .1) (s .0) (s .1) in
     ⊎-elim (λ i. (
       omega arith,
-      left-after (c .before .before .before .before .before .before .before .before .before .before .loop .inv .1)
+      left-after (p10 .loop .inv .1)
           (s .0) (s .1)
-          (sym (c .before .before .before .before .before .before .before .compare-labels .ensures) ∙ not-false _ (c .before .before .before .before .before .before .if3 .left))
-          (sym (c .before .before .before .before .is-container .ensures) ∙ i .0 .taken) (i .3 .ensures) (i .4 .ensures) (sym (rw (whole, whole, whole, whole) at (i .11 .ensures))
+          (sym (p7 .compare-labels .ensures) ∙ not-false _ (p6 .if3 .left))
+          (sym (p4 .is-container .ensures) ∙ i .0 .taken) (i .3 .ensures) (i .4 .ensures) (sym (rw (whole, whole, whole, whole) at (i .11 .ensures))
           ∙ not-false _ (i .12 .left)) (i .13) (i .14) (c .level-after .ensures),
     ))
     (λ i. (
       omega arith,
-      left-next (c .before .before .before .before .before .before .before .before .before .before .loop .inv .1)
+      left-next (p10 .loop .inv .1)
           (s .0) (s .1)
-          (sym (c .before .before .before .before .before .before .before .compare-labels .ensures) ∙ not-false _ (c .before .before .before .before .before .before .if3 .left))
-          (sym (c .before .before .before .before .is-container .ensures) ∙ i .0 .left) (i .1) (i .2) (c .level-after .ensures),
-    )) (c .before .before .before .if4 .came)
+          (sym (p7 .compare-labels .ensures) ∙ not-false _ (p6 .if3 .left))
+          (sym (p4 .is-container .ensures) ∙ i .0 .left) (i .1) (i .2) (c .level-after .ensures),
+    )) (p3 .if4 .came)
 
 compare-fields-returns-4 : (t : ℕ) → compare-fields-lts.Need-returns-4 (compare-fields-claims t) (compare-fields-at t) compare-fields.Post compare-fields-Inv-loop compare-fields-μ-loop
 compare-fields-returns-4 t c =

@@ -26,22 +26,31 @@ new-requires c κs = search needs
 
 mul-compare-fields : tie.Need-mul-compare-fields
 mul-compare-fields c =
-    let a = c .before .before .before .before .before .before .before .before .before .args in
-    let g = given-nodes-both (a .aw .now) (a .an .now) (a .bw .now) (a .bn .now) (c .before .before .before .before .check-both .ensures .1) (c .before .before .f .given .1) in
+    let p2 = c .before .before in
+    let p4 = p2 .before .before in
+    let p9 = p4 .before .before .before .before .before in
+    let a = p9 .args in
+    let g = given-nodes-both (a .aw .now) (a .an .now) (a .bw .now) (a .bn .now) (p4 .check-both .ensures .1) (p2 .f .given .1) in
     let s = g .0 .starts in
     omega arith
 
 sub-compare-fields : tie.Need-sub-compare-fields
 sub-compare-fields c =
-    let a = c .before .before .before .before .before .before .before .before .before .args in
-    let g = given-nodes-both (a .aw .now) (a .an .now) (a .bw .now) (a .bn .now) (c .before .before .before .before .check-both .ensures .1) (c .before .before .f .given .1) in
+    let p2 = c .before .before in
+    let p4 = p2 .before .before in
+    let p9 = p4 .before .before .before .before .before in
+    let a = p9 .args in
+    let g = given-nodes-both (a .aw .now) (a .an .now) (a .bw .now) (a .bn .now) (p4 .check-both .ensures .1) (p2 .f .given .1) in
     let s = g .0 .starts in
     omega arith
 
 part-compare-fields-start : tie.Need-part-compare-fields-start
 part-compare-fields-start c =
-    let a = c .before .before .before .before .before .before .before .before .before .args in
-    let g = given-nodes-both (a .aw .now) (a .an .now) (a .bw .now) (a .bn .now) (c .before .before .before .before .check-both .ensures .1) (c .before .before .f .given .1) in
+    let p2 = c .before .before in
+    let p4 = p2 .before .before in
+    let p9 = p4 .before .before .before .before .before in
+    let a = p9 .args in
+    let g = given-nodes-both (a .aw .now) (a .an .now) (a .bw .now) (a .bn .now) (p4 .check-both .ensures .1) (p2 .f .given .1) in
     let s = g .0 .starts in
     omega arith
 
@@ -59,22 +68,31 @@ part-compare-fields-end-2 c = search needs
 
 mul-compare-fields-2 : tie.Need-mul-compare-fields-2
 mul-compare-fields-2 c =
-    let a = c .before .before .before .before .before .before .before .before .before .before .before .args in
-    let g = given-nodes-both (a .aw .now) (a .an .now) (a .bw .now) (a .bn .now) (c .before .before .before .before .before .before .check-both .ensures .1) (c .before .before .before .before .f .given .1) in
+    let p4 = c .before .before .before .before in
+    let p6 = p4 .before .before in
+    let p11 = p6 .before .before .before .before .before in
+    let a = p11 .args in
+    let g = given-nodes-both (a .aw .now) (a .an .now) (a .bw .now) (a .bn .now) (p6 .check-both .ensures .1) (p4 .f .given .1) in
     let s = g .1 .starts in
     omega arith
 
 sub-compare-fields-3 : tie.Need-sub-compare-fields-3
 sub-compare-fields-3 c =
-    let a = c .before .before .before .before .before .before .before .before .before .before .before .args in
-    let g = given-nodes-both (a .aw .now) (a .an .now) (a .bw .now) (a .bn .now) (c .before .before .before .before .before .before .check-both .ensures .1) (c .before .before .before .before .f .given .1) in
+    let p4 = c .before .before .before .before in
+    let p6 = p4 .before .before in
+    let p11 = p6 .before .before .before .before .before in
+    let a = p11 .args in
+    let g = given-nodes-both (a .aw .now) (a .an .now) (a .bw .now) (a .bn .now) (p6 .check-both .ensures .1) (p4 .f .given .1) in
     let s = g .1 .starts in
     omega arith
 
 part-compare-fields-start-3 : tie.Need-part-compare-fields-start-3
 part-compare-fields-start-3 c =
-    let a = c .before .before .before .before .before .before .before .before .before .before .before .args in
-    let g = given-nodes-both (a .aw .now) (a .an .now) (a .bw .now) (a .bn .now) (c .before .before .before .before .before .before .check-both .ensures .1) (c .before .before .before .before .f .given .1) in
+    let p4 = c .before .before .before .before in
+    let p6 = p4 .before .before in
+    let p11 = p6 .before .before .before .before .before in
+    let a = p11 .args in
+    let g = given-nodes-both (a .aw .now) (a .an .now) (a .bw .now) (a .bn .now) (p6 .check-both .ensures .1) (p4 .f .given .1) in
     let s = g .1 .starts in
     omega arith
 
@@ -92,29 +110,42 @@ part-compare-fields-end-4 c = search needs
 
 compare-fields-requires : tie.Need-compare-fields-requires
 compare-fields-requires c κs =
-    let a = c .before .before .before .before .before .before .before .before .before .before .before .before .before .args in
-    let g = given-nodes-both (a .aw .now) (a .an .now) (a .bw .now) (a .bn .now) (c .before .before .before .before .before .before .before .before .check-both .ensures .1) (c .before .before .before .before .before .before .f .given .1) in
+    let p6 = c .before .before .before .before .before .before in
+    let p8 = p6 .before .before in
+    let p13 = p8 .before .before .before .before .before in
+    let a = p13 .args in
+    let g = given-nodes-both (a .aw .now) (a .an .now) (a .bw .now) (a .bn .now) (p8 .check-both .ensures .1) (p6 .f .given .1) in
     let v = nodes-part (g .0) in
     let u = nodes-part (g .1) in
     rw (whole, whole) ((v .whole, u .whole), (v .lent-names, u .lent-names))
 
 returns : tie.Need-returns
 returns c =
-    let a = c .before .before .before .before .before .before .before .before .args in
-    compare-refused (a .all) _ _ _ _ (given-refused-both (a .aw .now) (a .an .now) (a .bw .now) (a .bn .now) (c .before .before .before .check-both .ensures .1) (c .before .why .given .1))
+    let p1 = c .before in
+    let p3 = p1 .before .before in
+    let p8 = p3 .before .before .before .before .before in
+    let a = p8 .args in
+    compare-refused (a .all) _ _ _ _ (given-refused-both (a .aw .now) (a .an .now) (a .bw .now) (a .bn .now) (p3 .check-both .ensures .1) (p1 .why .given .1))
 
 returns-2 : tie.Need-returns-2
 returns-2 c =
-    let a = c .before .before .before .before .before .before .before .before .before .args in
-    let g = given-codes (a .aw .now) (a .an .now) (a .bw .now) (a .bn .now) (c .before .before .before .before .check-both .ensures .1) (c .before .before .k .given .1) in
+    let p2 = c .before .before in
+    let p4 = p2 .before .before in
+    let p9 = p4 .before .before .before .before .before in
+    let a = p9 .args in
+    let g = given-codes (a .aw .now) (a .an .now) (a .bw .now) (a .bn .now) (p4 .check-both .ensures .1) (p2 .k .given .1) in
     compare-codes (a .all) _ _ _ _ g (c .equivalent-kinds .ensures)
 
 returns-3 : tie.Need-returns-3
 returns-3 c =
-    let a = c .before .before .before .before .before .before .before .before .before .before .before .before .before .before .args in
-    let g = given-nodes-both (a .aw .now) (a .an .now) (a .bw .now) (a .bn .now) (c .before .before .before .before .before .before .before .before .before .check-both .ensures .1)
-    (c .before .before .before .before .before .before .before .f .given .1) in
-    compare-nodes (a .all) _ _ _ _ (nodes-part (g .0)) (nodes-part (g .1)) (c .before .before .before .before .before .new .ensures) (rw (whole, whole) at (c .compare-fields .ensures))
+    let p5 = c .before .before .before .before .before in
+    let p7 = p5 .before .before in
+    let p9 = p7 .before .before in
+    let p14 = p9 .before .before .before .before .before in
+    let a = p14 .args in
+    let g = given-nodes-both (a .aw .now) (a .an .now) (a .bw .now) (a .bn .now) (p9 .check-both .ensures .1)
+    (p7 .f .given .1) in
+    compare-nodes (a .all) _ _ _ _ (nodes-part (g .0)) (nodes-part (g .1)) (p5 .new .ensures) (rw (whole, whole) at (c .compare-fields .ensures))
 
 pub compare-encodings-spec : {M : Type 1} → statement M
 compare-encodings-spec =
