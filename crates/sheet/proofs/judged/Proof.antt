@@ -27,16 +27,28 @@ shared-slice-read-if2 : tie.Need-shared-slice-read-if2
 shared-slice-read-if2 c = let h = header-says _ _ (passed (c .before .before .before .header-ok .ensures) (c .before .before .if1 .left)) in omega arith
 
 returns-2 : tie.Need-returns-2
-returns-2 c = sym (verdict-count _ _ (passed (c .before .before .before .before .header-ok .ensures) (c .before .before .before .if1 .left)) (c .if2 .taken))
+returns-2 c =
+    let p3 = c .before .before .before in
+    let p4 = p3 .before in
+    sym (verdict-count _ _ (passed (p4 .header-ok .ensures) (p3 .if1 .left)) (c .if2 .taken))
 
 shared-slice-read-end : tie.Need-shared-slice-read-end
-shared-slice-read-end c = let h = header-says _ _ (passed (c .before .before .before .before .before .header-ok .ensures) (c .before .before .before .before .if1 .left)) in omega arith
+shared-slice-read-end c =
+    let p4 = c .before .before .before .before in
+    let p5 = p4 .before in
+    let h = header-says _ _ (passed (p5 .header-ok .ensures) (p4 .if1 .left)) in omega arith
 
 sub-check-nodes : tie.Need-sub-check-nodes
-sub-check-nodes c = let h = header-says _ _ (passed (c .before .before .before .before .before .header-ok .ensures) (c .before .before .before .before .if1 .left)) in omega arith
+sub-check-nodes c =
+    let p4 = c .before .before .before .before in
+    let p5 = p4 .before in
+    let h = header-says _ _ (passed (p5 .header-ok .ensures) (p4 .if1 .left)) in omega arith
 
 part-check-nodes-start : tie.Need-part-check-nodes-start
-part-check-nodes-start c = let h = header-says _ _ (passed (c .before .before .before .before .before .header-ok .ensures) (c .before .before .before .before .if1 .left)) in omega arith
+part-check-nodes-start c =
+    let p4 = c .before .before .before .before in
+    let p5 = p4 .before in
+    let h = header-says _ _ (passed (p5 .header-ok .ensures) (p4 .if1 .left)) in omega arith
 
 part-check-nodes-end : tie.Need-part-check-nodes-end
 part-check-nodes-end c = search needs
@@ -52,8 +64,11 @@ part-check-nodes-end-2 c = search needs
 
 check-nodes-requires : tie.Need-check-nodes-requires
 check-nodes-requires c κs =
-    let a = c .before .before .before .before .before .before .before .before .before .before .args in
-    let p = passed (c .before .before .before .before .before .before .before .header-ok .ensures) (c .before .before .before .before .before .before .if1 .left) in
+    let p6 = c .before .before .before .before .before .before in
+    let p7 = p6 .before in
+    let p10 = p7 .before .before .before in
+    let a = p10 .args in
+    let p = passed (p7 .header-ok .ensures) (p6 .if1 .left) in
     let h = header-says _ _ p in
     (part-room _ (a .names .now) p _ (part-rest (a .words .now) 4), omega arith, rw whole (h .bytes))
 
@@ -62,10 +77,15 @@ answer-of-requires c κs = search needs
 
 returns-3 : tie.Need-returns-3
 returns-3 c =
-    let p = passed (c .before .before .before .before .before .before .before .before .before .header-ok .ensures) (c .before .before .before .before .before .before .before .before .if1 .left) in
+    let p1 = c .before in
+    let p5 = p1 .before .before .before .before in
+    let p8 = p5 .before .before .before in
+    let p9 = p8 .before in
+    let p12 = p9 .before .before .before in
+    let p = passed (p9 .header-ok .ensures) (p8 .if1 .left) in
     c .answer-of .ensures
-    ∙ verdict-pass _ _ p _ (part-rest (c .before .before .before .before .before .before .before .before .before .before .before .before .args .words .now) 4)
-    (c .before .before .before .before .before .if2 .left) _ (rw whole at (c .before .check-nodes .ensures))
+    ∙ verdict-pass _ _ p _ (part-rest (p12 .args .words .now) 4)
+    (p5 .if2 .left) _ (rw whole at (p1 .check-nodes .ensures))
 
 pub judged-spec : {M : Type 1} → statement M
 judged-spec =

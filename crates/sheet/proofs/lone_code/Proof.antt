@@ -80,15 +80,23 @@ shared-slice-read-result c = search needs
 
 returns-8 : tie.Need-returns-8
 returns-8 c =
+    let p1 = c .before in
+    let p2 = p1 .before in
+    let p5 = p2 .before .before .before in
+    let p7 = p5 .before .before in
+    let p9 = p7 .before .before in
+    let p11 = p9 .before .before in
+    let p13 = p11 .before .before in
+    let p15 = p13 .before .before in
     λ e.
-    let n = both _ _ (passed (c .before .before .no-numbers .ensures) (c .before .if7 .left)) in
+    let n = both _ _ (passed (p2 .no-numbers .ensures) (p1 .if7 .left)) in
     record {
-      room = c .before .before .before .before .before .before .before .before .before .before .before .before .before .before .before .if1 .left;
-      nodes = c .before .before .before .before .before .before .before .before .before .before .before .before .before .if2 .left;
-      offset = c .before .before .before .before .before .before .before .before .before .before .before .if3 .left;
-      names = c .before .before .before .before .before .before .before .before .before .if4 .left;
-      used = c .before .before .before .before .before .before .before .if5 .left;
-      kind = c .before .before .before .before .before .if6 .left;
+      room = p15 .if1 .left;
+      nodes = p13 .if2 .left;
+      offset = p11 .if3 .left;
+      names = p9 .if4 .left;
+      used = p7 .if5 .left;
+      kind = p5 .if6 .left;
       first = eqb-true _ _ (n .0);
       second = eqb-true _ _ (n .1);
       count = eqb-true _ _ e;

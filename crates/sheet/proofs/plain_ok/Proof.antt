@@ -35,7 +35,11 @@ no-numbers-requires : tie.Need-no-numbers-requires
 no-numbers-requires c κs = search needs
 
 returns : tie.Need-returns
-returns c = λ p e. sym (node-code _ _ _ p e (c .before .before .before .before .before .before .before .pre .1) (c .before .before .before .before .if1 .taken) ∙ rw (failed (c .before .no-numbers .ensures) (c .if2 .taken)))
+returns c =
+    let p1 = c .before in
+    let p4 = p1 .before .before .before in
+    let p7 = p4 .before .before .before in
+    λ p e. sym (node-code _ _ _ p e (p7 .pre .1) (p4 .if1 .taken) ∙ rw (failed (p1 .no-numbers .ensures) (c .if2 .taken)))
 
 add-result : tie.Need-add-result
 add-result c = search needs
@@ -47,8 +51,13 @@ shared-slice-read-result : tie.Need-shared-slice-read-result
 shared-slice-read-result c = search needs
 
 returns-2 : tie.Need-returns-2
-returns-2 c = λ p e. sym (node-code _ _ _ p e (c .before .before .before .before .before .before .before .before .pre .1) (c .before .before .before .before .before .if1 .taken)
-    ∙ rw (passed (c .before .before .no-numbers .ensures) (c .before .if2 .left)))
+returns-2 c =
+    let p1 = c .before in
+    let p2 = p1 .before in
+    let p5 = p2 .before .before .before in
+    let p8 = p5 .before .before .before in
+    λ p e. sym (node-code _ _ _ p e (p8 .pre .1) (p5 .if1 .taken)
+    ∙ rw (passed (p2 .no-numbers .ensures) (p1 .if2 .left)))
 
 is-indirection-requires : tie.Need-is-indirection-requires
 is-indirection-requires c κs = search needs
@@ -75,8 +84,12 @@ no-numbers-requires-2 : tie.Need-no-numbers-requires-2
 no-numbers-requires-2 c κs = search needs
 
 returns-3 : tie.Need-returns-3
-returns-3 c = λ p e. let k = indirection-kind _ (sym (c .before .before .before .before .before .is-indirection .ensures) ∙ c .before .before .before .before .if3 .taken) in
-    sym (node-indirection _ _ _ p e (k .0) (k .1) ∙ rw (failed (c .before .no-numbers2 .ensures) (c .if4 .taken)))
+returns-3 c =
+    let p1 = c .before in
+    let p4 = p1 .before .before .before in
+    let p5 = p4 .before in
+    λ p e. let k = indirection-kind _ (sym (p5 .is-indirection .ensures) ∙ p4 .if3 .taken) in
+    sym (node-indirection _ _ _ p e (k .0) (k .1) ∙ rw (failed (p1 .no-numbers2 .ensures) (c .if4 .taken)))
 
 add-child-ok : tie.Need-add-child-ok
 add-child-ok c = search needs
@@ -91,9 +104,14 @@ child-ok-requires : tie.Need-child-ok-requires
 child-ok-requires c κs = search needs
 
 returns-4 : tie.Need-returns-4
-returns-4 c = λ p e. let k = indirection-kind _ (sym (c .before .before .before .before .before .before .before .is-indirection .ensures)
-    ∙ c .before .before .before .before .before .before .if3 .taken) in
-    sym (node-indirection _ _ _ p e (k .0) (k .1) ∙ rw (passed (c .before .before .before .no-numbers2 .ensures) (c .before .before .if4 .left)) (sym (c .child-ok .ensures _ (omega arith) (omega arith))))
+returns-4 c =
+    let p2 = c .before .before in
+    let p3 = p2 .before in
+    let p6 = p3 .before .before .before in
+    let p7 = p6 .before in
+    λ p e. let k = indirection-kind _ (sym (p7 .is-indirection .ensures)
+    ∙ p6 .if3 .taken) in
+    sym (node-indirection _ _ _ p e (k .0) (k .1) ∙ rw (passed (p3 .no-numbers2 .ensures) (p2 .if4 .left)) (sym (c .child-ok .ensures _ (omega arith) (omega arith))))
 
 add-numbers-ok : tie.Need-add-numbers-ok
 add-numbers-ok c = search needs
