@@ -4,6 +4,8 @@ ghost use mathlib.Core.List.{[], _∷_};
 ghost use lib.ListN.{take, drop, getD};
 ghost use Rattle.lines.specs.Put.{Put};
 ghost use Rattle.tool.specs.Show.{countOf, shownByte, shownText, times, depthOf, lineOf, countText, kindNames, valuesText, rightText, nodeText, byteText, containerText, shownOrCut, markText, reasons, namedText, refusedText};
+use kinds::MAX_TEXT;
+use kinds::UNION;
 
 // The word at `i`, or 0 beyond the end.
 fn word_at(words: &[u64], i: usize) -> u64
@@ -192,7 +194,7 @@ fn put_byte(out: &mut [u8], at: usize, byte: u64) -> usize
 fn put_container(out: &mut [u8], at: usize, kind: u64) -> usize
     ensures { λ r. ⌜ Put (now (out .entry)) at (containerText kind) (now (out .exit)) r ⌝ }
 {
-    if kind == 30 {
+    if kind == UNION {
         return lines::put_bytes(out, at, b"union");
     }
     lines::put_bytes(out, at, b"struct")
@@ -202,7 +204,7 @@ fn put_container(out: &mut [u8], at: usize, kind: u64) -> usize
 fn put_text(out: &mut [u8], at: usize, text: &[u8]) -> usize
     ensures { λ r. ⌜ Put (now (out .entry)) at (shownOrCut (now (text .entry))) (now (out .exit)) r ⌝ }
 {
-    if text.len() <= 2000 {
+    if text.len() <= MAX_TEXT {
         return put_shown(out, at, text);
     }
     let to = put_shown(out, at, lines::front(text, 60));
