@@ -7,7 +7,11 @@ ghost use Prim.Native.Nat.{_+_, _*_, _-_, _≤_, _<_};
 ghost use lib.ListN.{length, drop};
 ghost use lib.Seq.{sets};
 ghost use Rattle.kinds.specs.Sheet.{headerWords};
-ghost use Rattle.kinds.specs.Parse.{unknownDigit, parseName};
+ghost use Rattle.kinds.specs.Parse.{unknownDigit, parseName, parseNumber, maxU64};
+ghost use Rattle.parser.specs.Run.{runEnd};
+ghost use Rattle.numbers.specs.Answer.{numberAt};
+ghost use Rattle.names.specs.Answer.{nameAt};
+ghost use Rattle.codes.specs.Answer.{isIndirection, tokenAt};
 ghost use Rattle.parse.specs.Answer.{used, answerWords, fromStrAnswer, fromStrWords, fromStrNames, fromStartAnswer, fromStartWords, fromStartNames, fromStartRest, EndOf};
 ghost use Rattle.parse.specs.Room.{slack};
 ghost use Rattle.parse.specs.Out.{tokenOut, tokenWords, TokenRoom, After, AfterItems, holdOut, holdWords, indirectionWord, itemOut, itemWords, containOut, containWords, endOut, noneUnder, cleared, headed, noneSheet, codeSheet, Fits, encodedOut, encodedWords, encodedNames};
@@ -90,12 +94,37 @@ fn copy_name(names: &mut [u8], m: usize, name: &[u8])
     }
 }
 
+// The calls of the crates below hand the text on anew, which spares each a stall.
+fn token_here(text: &[u8], at: usize) -> Token
+    ensures { λ r. ⌜ r ≡ tokenAt (now (text .entry)) at ⌝ }
+{
+    token_at(&text[0..], at)
+}
+
+fn name_here(text: &[u8], at: usize, kind: ContainerKind) -> Name
+    ensures { λ r. ⌜ r ≡ nameAt (now (text .entry)) at (parseName kind [] (drop at (now (text .entry)))) ⌝ }
+{
+    parse_name(&text[0..], at, kind)
+}
+
+fn length_here(text: &[u8], at: usize) -> Number
+    ensures { λ r. ⌜ r ≡ numberAt (now (text .entry)) (parseNumber maxU64 (drop at (now (text .entry)))) ⌝ }
+{
+    parse_u64(&text[0..], at)
+}
+
+fn run_end(text: &[u8], at: usize) -> usize
+    ensures { λ r. ⌜ r ≡ runEnd isIndirection (now (text .entry)) at ⌝ }
+{
+    indirections_end(&text[0..], at)
+}
+
 // A container's name, with its bytes packed from `m` on.
 fn put_name(text: &[u8], at: usize, kind: ContainerKind, names: &mut [u8], m: usize) -> Named
     requires { ⌜ (at ≤ length (now text)) × (m + (length (now text) - at) ≤ length (now names)) ⌝ }
     ensures { λ r. ⌜ NamedIs (now (text .entry)) at m (now (names .entry)) (now (names .exit)) r (parseName kind [] (drop at (now (text .entry)))) ⌝ }
 {
-    match parse_name(text, at, kind) {
+    match name_here(text, at, kind) {
         Name::Refused(why, to) => Named::Refused(why, to),
         Name::Is(e, to) => {
             copy_name(names, m, &text[at..e]);
@@ -257,7 +286,7 @@ fn parse_simple(text: &[u8], at: usize, words: &mut [u64], n: usize, m: usize) -
     requires { ⌜ SimpleReady (now text) at n (now words) ⌝ }
     ensures { λ r. ⌜ Simple (now (text .entry)) at n m (now (words .entry)) (now (words .exit)) r ⌝ }
 {
-    put_token(token_at(text, at), words, n, m)
+    put_token(token_here(text, at), words, n, m)
 }
 
 fn indirection_word(b: u8) -> u64
@@ -308,7 +337,7 @@ fn parse_inner(
     requires { ⌜ Ready (now text) at n m (lists (now words) (now names)) ⌝ }
     ensures { λ r. ⌜ Reads (now (text .entry)) at n m (lists (now (words .entry)) (now (names .entry))) (lists (now (words .exit)) (now (names .exit))) r ⌝ }
 {
-    let to = indirections_end(text, at);
+    let to = run_end(text, at);
     if text.len() <= to {
         return put_indirections(Parsed::Empty, text, at, to, words, n, m);
     }
@@ -330,7 +359,7 @@ fn parse_one(
 {
     let b = text[at];
     match b {
-        b'[' => match parse_u64(text, at + 1) {
+        b'[' => match length_here(text, at + 1) {
             Number::Refused(why, end) => Parsed::Refused(why, end),
             Number::Value(len, item) => {
                 let p = parse_inner(&text[0..], item, words, n + 1, names, m);

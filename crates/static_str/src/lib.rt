@@ -207,6 +207,10 @@ fn level_step(level: NestingLevel, inner: NestingLevel) -> Below
 fn level_below(kind: u64, level: NestingLevel) -> Below
     ensures { λ r. ⌜ fieldsBelow level r ≡ childrenLevel kind level ⌝ }
 {
+    // Most nodes are codes and bitfields, which keep the level.
+    if kind < POINTER {
+        return Below::Same;
+    }
     match level.children(kind) {
         Fields::Dropped => Below::Hidden,
         Fields::Included(inner) => level_step(level, inner),

@@ -33,8 +33,8 @@ use Rattle.parse.proofs.+parse_container+parse_inner+parse_one.Lts-pars
 use Rattle.parse.proofs.parse_one.Reads as parse-one
 use Rattle.parse.proofs.parse_one.Kinds as parse-one-kinds
 use Rattle.parse.proofs.+parse_container+parse_inner+parse_one.Lts-parse_one as parse-one-lts
-use Rattle.codes.proofs.indirections_end.Reads as indirections-end-reads
-use Rattle.numbers.proofs.parse_u64.Reads as parse-u64-reads
+use Rattle.parse.proofs.run_end.Reads as run-end-reads
+use Rattle.parse.proofs.length_here.Reads as length-here-reads
 use Rattle.parse.proofs.end_items.Reads as end-items-reads
 use Rattle.parse.proofs.parse_simple.Reads as parse-simple-reads
 use Rattle.parse.proofs.put_array.Reads as put-array-reads
@@ -117,8 +117,8 @@ parse-container-claims t = (
 
 abbrev parse-inner-claims : ℕ → parse-inner-lts.Claims
 parse-inner-claims t = (
-  indirections-end-reads.Asked,
-  indirections-end-reads.Learnt,
+  run-end-reads.Asked,
+  run-end-reads.Learnt,
   put-indirections-reads.Asked,
   put-indirections-reads.Learnt,
   parse-one-below t,
@@ -127,8 +127,8 @@ parse-inner-claims t = (
 
 abbrev parse-one-claims : ℕ → parse-one-lts.Claims
 parse-one-claims t = (
-  parse-u64-reads.Asked,
-  parse-u64-reads.Learnt,
+  length-here-reads.Asked,
+  length-here-reads.Learnt,
   parse-inner-below t,
   parse-inner.Post,
   put-array-reads.Asked,
@@ -300,8 +300,8 @@ parse-container-returns-2 t c =
     let q = rw (c .before .why .given .1) at (n .put-name .ensures) in
     reads-no-name (a .text .now) (a .at) (a .kind) (a .n) (a .m) (p .at-byte) (p .opens) (lists (a .words .now) (a .names .now)) (n .put-name .last .1 .1 .1 .0) _ _ q
 
-parse-inner-indirections-end-requires : (t : ℕ) → parse-inner-lts.Need-indirections-end-requires (parse-inner-claims t) (parse-inner-at t) parse-inner.Post
-parse-inner-indirections-end-requires t c κs = search needs
+parse-inner-run-end-requires : (t : ℕ) → parse-inner-lts.Need-run-end-requires (parse-inner-claims t) (parse-inner-at t) parse-inner.Post
+parse-inner-run-end-requires t c κs = search needs
 
 parse-inner-put-indirections-requires : (t : ℕ) → parse-inner-lts.Need-put-indirections-requires (parse-inner-claims t) (parse-inner-at t) parse-inner.Post
 parse-inner-put-indirections-requires t c κs =
@@ -310,9 +310,9 @@ parse-inner-put-indirections-requires t c κs =
     let a = s .args in
     let p = s .pre .1 in
     let b : Lists = lists (a .words .now) (a .names .now) in
-    let r = run-to isIndirection _ _ _ (p .at-place) (e .indirections-end .ensures) in
+    let r = run-to isIndirection _ _ _ (p .at-place) (e .run-end .ensures) in
     let room = run-room (a .text .now) (a .at) (a .n) (a .m) _ b p r in
-    record { at-place = p .at-place; ends = e .indirections-end .ensures; room = room; after = tt }
+    record { at-place = p .at-place; ends = e .run-end .ensures; room = room; after = tt }
 
 parse-inner-same-length : (t : ℕ) → parse-inner-lts.Need-same-length (parse-inner-claims t) (parse-inner-at t) parse-inner.Post
 parse-inner-same-length t c = search needs
@@ -324,8 +324,8 @@ parse-inner-returns t c =
     let a = s .args in
     let p = s .pre .1 in
     let b : Lists = lists (a .words .now) (a .names .now) in
-    let r = run-to isIndirection _ _ _ (p .at-place) (e .indirections-end .ensures) in
-    let ends = reads-end (a .text .now) (e .indirections-end .result) _ _ _ (omega (arith, c .before .before .before .before .if1 .taken, r .within)) in
+    let r = run-to isIndirection _ _ _ (p .at-place) (e .run-end .ensures) in
+    let ends = reads-end (a .text .now) (e .run-end .result) _ _ _ (omega (arith, c .before .before .before .before .if1 .taken, r .within)) in
     c .before .before .put-indirections .ensures b (a .names .now) ends
 
 parse-inner-sub-parse-one : (t : ℕ) → parse-inner-lts.Need-sub-parse-one (parse-inner-claims t) (parse-inner-at t) parse-inner.Post
@@ -344,7 +344,7 @@ parse-inner-sub-parse-one-2 t c =
     let a = s .args in
     let p = s .pre .1 in
     let b : Lists = lists (a .words .now) (a .names .now) in
-    let r = run-to isIndirection _ _ _ (p .at-place) (e .indirections-end .ensures) in
+    let r = run-to isIndirection _ _ _ (p .at-place) (e .run-end .ensures) in
     r .onward
 
 parse-inner-add-parse-one : (t : ℕ) → parse-inner-lts.Need-add-parse-one (parse-inner-claims t) (parse-inner-at t) parse-inner.Post
@@ -354,7 +354,7 @@ parse-inner-add-parse-one t c =
     let a = s .args in
     let p = s .pre .1 in
     let b : Lists = lists (a .words .now) (a .names .now) in
-    let r = run-to isIndirection _ _ _ (p .at-place) (e .indirections-end .ensures) in
+    let r = run-to isIndirection _ _ _ (p .at-place) (e .run-end .ensures) in
     omega (arith, ready-run (a .text .now) (a .at) (a .n) (a .m) _ b p r .words-room, r .onward)
 
 parse-inner-parse-one-requires : (t : ℕ) → parse-inner-lts.Need-parse-one-requires (parse-inner-claims t) (parse-inner-at t) parse-inner.Post
@@ -364,7 +364,7 @@ parse-inner-parse-one-requires t c κs =
     let a = s .args in
     let p = s .pre .1 in
     let b : Lists = lists (a .words .now) (a .names .now) in
-    let r = run-to isIndirection _ _ _ (p .at-place) (e .indirections-end .ensures) in
+    let r = run-to isIndirection _ _ _ (p .at-place) (e .run-end .ensures) in
     let h = c .before .before .before .if1 .left in
     let ready = ready-run (a .text .now) (a .at) (a .n) (a .m) _ b p r in
     rw (whole (a .text .now)) (omega (arith, s .pre .0, r .onward), record { ready = ready; at-byte = h; direct = r .stopped h })
@@ -377,12 +377,12 @@ parse-inner-put-indirections-requires-2 t c κs =
     let a = s .args in
     let p = s .pre .1 in
     let b : Lists = lists (a .words .now) (a .names .now) in
-    let r = run-to isIndirection _ _ _ (p .at-place) (e .indirections-end .ensures) in
+    let r = run-to isIndirection _ _ _ (p .at-place) (e .run-end .ensures) in
     let i = c .before .before .before .before .before .parse-one in
     let q = rw (whole (a .text .now)) at (i .ensures) in
     record {
       at-place = p .at-place;
-      ends = e .indirections-end .ensures;
+      ends = e .run-end .ensures;
       room = λ l. omega (arith, i .kept .1 .1 .0, run-room (a .text .now) (a .at) (a .n) (a .m) _ b p r l);
       after = after-bound _ _ _ _ _ _ (i .result) (q .bound);
     }
@@ -402,11 +402,11 @@ parse-inner-returns-2 t c =
 parse-one-shared-slice-read-b : (t : ℕ) → parse-one-lts.Need-shared-slice-read-b (parse-one-claims t) (parse-one-at t) parse-one.Post
 parse-one-shared-slice-read-b t c = c .before .before .before .before .pre .1 .at-byte
 
-parse-one-add-parse-u64 : (t : ℕ) → parse-one-lts.Need-add-parse-u64 (parse-one-claims t) (parse-one-at t) parse-one.Post
-parse-one-add-parse-u64 t c = omega (arith, c .before .before .before .before .before .pre .1 .at-byte, c .before .before .before .before .before .good .0)
+parse-one-add-length-here : (t : ℕ) → parse-one-lts.Need-add-length-here (parse-one-claims t) (parse-one-at t) parse-one.Post
+parse-one-add-length-here t c = omega (arith, c .before .before .before .before .before .pre .1 .at-byte, c .before .before .before .before .before .good .0)
 
-parse-one-parse-u64-requires : (t : ℕ) → parse-one-lts.Need-parse-u64-requires (parse-one-claims t) (parse-one-at t) parse-one.Post
-parse-one-parse-u64-requires t c κs = search needs
+parse-one-length-here-requires : (t : ℕ) → parse-one-lts.Need-length-here-requires (parse-one-claims t) (parse-one-at t) parse-one.Post
+parse-one-length-here-requires t c κs = search needs
 
 parse-one-enum-known-why : (t : ℕ) → parse-one-lts.Need-enum-known-why (parse-one-claims t) (parse-one-at t) parse-one.Post
 parse-one-enum-known-why t c = search needs
@@ -437,7 +437,7 @@ parse-one-parse-inner-requires t c κs =
     let h = s .pre .1 .at-byte in
     let b : Lists = lists (a .words .now) (a .names .now) in
     let st = starts _ 91 (u .before .match .keys1) refl in
-    let q = rw (c .before .before .before .before .len .given .1) at (number-is (a .text .now) _ (a .at + 1) _ (omega arith) (u .parse-u64 .ensures)) in
+    let q = rw (c .before .before .before .before .len .given .1) at (number-is (a .text .now) _ (a .at + 1) _ (omega arith) (u .length-here .ensures)) in
     let ready = ready-part (a .text .now) (a .at) (a .n) (a .m) b _ (s .pre .1 .ready) h (ap closes st) (q .1 .0) (q .1 .1) in
     rw (whole (a .text .now)) (omega (arith, s .pre .0, q .1), ready)
 
@@ -502,7 +502,7 @@ parse-one-returns t c =
     let h = s .pre .1 .at-byte in
     let b : Lists = lists (a .words .now) (a .names .now) in
     let st = starts _ 91 (u .before .match .keys1) refl in
-    let q = rw (c .before .why .given .1) at (number-is (a .text .now) _ (a .at + 1) _ (omega arith) (u .parse-u64 .ensures)) in
+    let q = rw (c .before .why .given .1) at (number-is (a .text .now) _ (a .at + 1) _ (omega arith) (u .length-here .ensures)) in
     reads-no-number (a .text .now) _ (a .n) (a .m) b _ _ h st (q .0) (q .1 .1)
 
 parse-one-same-length : (t : ℕ) → parse-one-lts.Need-same-length (parse-one-claims t) (parse-one-at t) parse-one.Post
@@ -520,7 +520,7 @@ parse-one-returns-2 t c =
     let h = s .pre .1 .at-byte in
     let b : Lists = lists (a .words .now) (a .names .now) in
     let st = starts _ 91 (u .before .match .keys1) refl in
-    let q = rw (c .before .before .before .before .before .before .before .before .before .before .before .before .before .len .given .1) at (number-is (a .text .now) _ (a .at + 1) _ (omega arith) (u .parse-u64 .ensures)) in
+    let q = rw (c .before .before .before .before .before .before .before .before .before .before .before .before .before .len .given .1) at (number-is (a .text .now) _ (a .at + 1) _ (omega arith) (u .length-here .ensures)) in
     let i = c .before .before .before .before .before .before .before .before .parse-inner in
     let z : Lists = lists (i .last .1 .1 .0) (i .last .1 .1 .1 .1 .0) in
     let d = c .before .before .put-array .ensures in
@@ -579,7 +579,7 @@ pub +parse-container+parse-inner+parse-one-spec : {M : Type 1} → statement M
     (parse-container-same-length-3 t)
     (parse-container-returns-2 t))
     (λ t. parse-inner-lts.spec (parse-inner-claims t) (parse-inner-at t) parse-inner.Post
-    (parse-inner-indirections-end-requires t)
+    (parse-inner-run-end-requires t)
     (parse-inner-put-indirections-requires t)
     (parse-inner-same-length t)
     (parse-inner-returns t)
@@ -595,8 +595,8 @@ pub +parse-container+parse-inner+parse-one-spec : {M : Type 1} → statement M
     (parse-inner-returns-2 t))
     λ t. parse-one-lts.spec (parse-one-claims t) (parse-one-at t) parse-one.Post
     (parse-one-shared-slice-read-b t)
-    (parse-one-add-parse-u64 t)
-    (parse-one-parse-u64-requires t)
+    (parse-one-add-length-here t)
+    (parse-one-length-here-requires t)
     (parse-one-enum-known-why t)
     (parse-one-enum-known-len t)
     (parse-one-sub-parse-inner t)

@@ -6,8 +6,8 @@ use borrow.Author.Needs.{needs}
 use Rattle.parse.proofs.put_name.Statement.{statement}
 use Rattle.parse.proofs.put_name.Tie as tie
 
-parse-name-requires : tie.Need-parse-name-requires
-parse-name-requires c κs = search needs
+name-here-requires : tie.Need-name-here-requires
+name-here-requires c κs = search needs
 
 enum-known-why : tie.Need-enum-known-why
 enum-known-why c = search needs
@@ -20,7 +20,7 @@ sub-copy-name c =
     let e = c .before .before in
     let n = e .before .before in
     let s = n .before .before .before in
-    let r = rw (e .e .given .1) at (name-is _ _ _ _ (s .pre .0) (n .parse-name .ensures)) in
+    let r = rw (e .e .given .1) at (name-is _ _ _ _ (s .pre .0) (n .name-here .ensures)) in
     omega (arith, r .some, r .passed, r .within, s .pre)
 
 part-copy-name-start : tie.Need-part-copy-name-start
@@ -28,7 +28,7 @@ part-copy-name-start c =
     let e = c .before .before in
     let n = e .before .before in
     let s = n .before .before .before in
-    let r = rw (e .e .given .1) at (name-is _ _ _ _ (s .pre .0) (n .parse-name .ensures)) in
+    let r = rw (e .e .given .1) at (name-is _ _ _ _ (s .pre .0) (n .name-here .ensures)) in
     omega (arith, r .some, r .passed, r .within, s .pre)
 
 part-copy-name-end : tie.Need-part-copy-name-end
@@ -36,7 +36,7 @@ part-copy-name-end c =
     let e = c .before .before in
     let n = e .before .before in
     let s = n .before .before .before in
-    let r = rw (e .e .given .1) at (name-is _ _ _ _ (s .pre .0) (n .parse-name .ensures)) in
+    let r = rw (e .e .given .1) at (name-is _ _ _ _ (s .pre .0) (n .name-here .ensures)) in
     omega (arith, r .some, r .passed, r .within, s .pre)
 
 copy-name-requires : tie.Need-copy-name-requires
@@ -44,7 +44,7 @@ copy-name-requires c κs =
     let e = c .before .before .before in
     let n = e .before .before in
     let s = n .before .before .before in
-    let r = rw (e .e .given .1) at (name-is _ _ _ _ (s .pre .0) (n .parse-name .ensures)) in
+    let r = rw (e .e .given .1) at (name-is _ _ _ _ (s .pre .0) (n .name-here .ensures)) in
     name-room _ _ _ _ _ _ _ r (s .pre .1)
 
 sub-t16 : tie.Need-sub-t16
@@ -52,7 +52,7 @@ sub-t16 c =
     let e = c .before .before .before .before .before .before in
     let n = e .before .before in
     let s = n .before .before .before in
-    let r = rw (e .e .given .1) at (name-is _ _ _ _ (s .pre .0) (n .parse-name .ensures)) in
+    let r = rw (e .e .given .1) at (name-is _ _ _ _ (s .pre .0) (n .name-here .ensures)) in
     omega (arith, r .some, r .passed, r .within, s .pre)
 
 add-t19 : tie.Need-add-t19
@@ -60,13 +60,13 @@ add-t19 c =
     let e = c .before .before .before .before .before .before in
     let n = e .before .before in
     let s = n .before .before .before in
-    let r = rw (e .e .given .1) at (name-is _ _ _ _ (s .pre .0) (n .parse-name .ensures)) in
+    let r = rw (e .e .given .1) at (name-is _ _ _ _ (s .pre .0) (n .name-here .ensures)) in
     omega (arith, r .some, r .passed, r .within, s .pre)
 
 returns : tie.Need-returns
 returns c =
     let n = c .before .before .before in
-    (rw (c .before .why .given .1) at (name-is _ _ _ _ (n .before .before .before .pre .0) (n .parse-name .ensures)), refl)
+    (rw (c .before .why .given .1) at (name-is _ _ _ _ (n .before .before .before .pre .0) (n .name-here .ensures)), refl)
 
 same-length : tie.Need-same-length
 same-length c = search needs
@@ -76,14 +76,14 @@ returns-2 c =
     let e = c .before .before .before .before .before .before in
     let n = e .before .before in
     let s = n .before .before .before in
-    let r = rw (e .e .given .1) at (name-is _ _ _ _ (s .pre .0) (n .parse-name .ensures)) in
+    let r = rw (e .e .given .1) at (name-is _ _ _ _ (s .pre .0) (n .name-here .ensures)) in
     name-copied _ _ _ _ _ _ _ _ r (c .before .before .copy-name .ensures)
 
 pub put-name-spec : {M : Type 1} → statement M
 put-name-spec =
     tie.close
     (tie.spec
-    parse-name-requires
+    name-here-requires
     enum-known-why
     enum-known-e
     sub-copy-name
