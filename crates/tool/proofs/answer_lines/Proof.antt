@@ -2,6 +2,7 @@
 use mathlib.Core.Path.{ap}
 use native.Mathlib.Omega.{arith}
 use lib.ListN.{length, length-drop}
+use Rattle.parser.proofs.PlaceLaws.{remains-bytes}
 use Rattle.tool.proofs.answer_lines.Statement.{statement}
 use Rattle.tool.proofs.answer_lines.Tie as tie
 

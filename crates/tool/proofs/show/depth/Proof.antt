@@ -54,13 +54,13 @@ loop-again c =
     let l = c3 .loop in
     ⊎-elim
     (λ w. (
-      w .1 ∙ ap (λ (k : ℕ). k + 1) (l .inv .0) ∙ holds (a .words .now) (a .i) (l .j)
+      w .1 ∙ ap (λ (k : ℕ). k + 1) (l .inv .0) ∙ holds (a .nodes .now) (a .i) (l .j)
           (subst (λ (k : ℕ). a .i - l .j < k) (c .before .word-at .ensures) (w .0 .taken)),
       omega arith,
       omega arith,
     ))
     (λ w. (
-      w .1 ∙ l .inv .0 ∙ holds-not (a .words .now) (a .i) (l .j) (subst (λ (k : ℕ). k ≤ a .i - l .j) (c .before .word-at .ensures) (w .0 .left)),
+      w .1 ∙ l .inv .0 ∙ holds-not (a .nodes .now) (a .i) (l .j) (subst (λ (k : ℕ). k ≤ a .i - l .j) (c .before .word-at .ensures) (w .0 .left)),
       omega arith,
       omega arith,
     ))

@@ -31,7 +31,7 @@ front-requires-2 c κs = search needs
 returns-2 : tie.Need-returns-2
 returns-2 c =
     let c3 = c .before .before .before in
-    c .front2 .ensures ∙ take-none (c3 .args .n) (c3 .args .from) (c3 .args .s .now) (c .before .if1 .left)
+    front-bytes _ _ (c .front2 .ensures) ∙ take-none (c3 .args .n) (c3 .args .from) (c3 .args .s .now) (c .before .if1 .left)
 
 pub part-spec : {M : Type 1} → statement M
 part-spec =

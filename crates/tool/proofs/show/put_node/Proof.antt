@@ -26,20 +26,17 @@ put-times-requires c κs = search needs
 mul-at : tie.Need-mul-at
 mul-at c = search needs
 
-add-word-at : tie.Need-add-word-at
-add-word-at c = search needs
-
 word-at-requires : tie.Need-word-at-requires
 word-at-requires c κs = search needs
 
-add-word-at-2 : tie.Need-add-word-at-2
-add-word-at-2 c = search needs
+add-word-at : tie.Need-add-word-at
+add-word-at c = search needs
 
 word-at-requires-2 : tie.Need-word-at-requires-2
 word-at-requires-2 c κs = search needs
 
-add-word-at-3 : tie.Need-add-word-at-3
-add-word-at-3 c = search needs
+add-word-at-2 : tie.Need-add-word-at-2
+add-word-at-2 c = search needs
 
 word-at-requires-3 : tie.Need-word-at-requires-3
 word-at-requires-3 c κs = search needs
@@ -81,11 +78,10 @@ put-node-spec =
     depth-requires
     put-times-requires
     mul-at
-    add-word-at
     word-at-requires
-    add-word-at-2
+    add-word-at
     word-at-requires-2
-    add-word-at-3
+    add-word-at-2
     word-at-requires-3
     put-kind-requires
     put-values-requires
