@@ -59,7 +59,6 @@ mod stack;
 #[cfg(diff)]
 mod texts;
 
-
 // A tree of 2,001 nested nodes is walked by recursion in the crate.
 const STACK: usize = 1 << 30;
 

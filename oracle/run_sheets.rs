@@ -2,9 +2,7 @@
 //! to the crate as well.
 
 use crate::damage::{raw, Raw};
-#[cfg(matcher)]
-use crate::library::Sheet;
-use crate::library::{self, reply, MARK_BYTE};
+use crate::library::{self, reply, Sheet, MARK_BYTE};
 use crate::plain;
 use crate::random::Random;
 use crate::report::{expect, refusal_name, show_sheet, Case, Difference, Input, Lent, Tally};
@@ -67,7 +65,6 @@ pub struct Check {
     lent_a: Lent,
     lent_b: Lent,
     out: Vec<u8>,
-    #[cfg(matcher)]
     long_text: Vec<u8>,
 }
 
@@ -79,7 +76,6 @@ impl Check {
             lent_a: Lent::default(),
             lent_b: Lent::default(),
             out: vec![MARK_BYTE; 1 << 17],
-            #[cfg(matcher)]
             long_text: vec![b'i'; 2001],
         }
     }
@@ -99,7 +95,6 @@ impl Check {
     fn alone(&mut self, case: &RawCase, verdict: u64, tally: &mut Tally) -> Result<(), Difference> {
         let sheet = self.lent_a.sheet();
         tally.add("one sheet", outcome(case, verdict));
-        #[cfg(matcher)]
         check_text(sheet, verdict, &self.long_text)?;
         if verdict == 0 {
             let tree = Tree::from_sheet(&case.a.words, &case.a.names).unwrap();
@@ -169,7 +164,6 @@ fn outcome(case: &RawCase, verdict: u64) -> &'static str {
 }
 
 /// A text that is too long is refused before the sheet is looked at.
-#[cfg(matcher)]
 fn check_text(sheet: Sheet, verdict: u64, long_text: &[u8]) -> Result<(), Difference> {
     expect("equivalent_to_str, long text", library::equivalent_to_str(sheet, long_text), reply(1, &[0]))?;
     if verdict == 0 {

@@ -58,9 +58,8 @@ fn tree_fits(tree: &Tree) -> bool {
     let print = library::static_encoding_str_array(sheet, &mut out, 1 << 16);
     let pairs = [library::equivalent_to, library::equivalent_to_box, library::eq];
     let compared = pairs.iter().all(|pair| accepted(pair(sheet, sheet)));
-    #[cfg(matcher)]
-    let compared = compared && text_limit_holds(sheet, &out[..print.1[0] as usize]);
-    accepted(length) && accepted(print) && accepted(library::size(sheet)) && compared
+    let matched = text_limit_holds(sheet, &out[..print.1[0] as usize]);
+    accepted(length) && accepted(print) && accepted(library::size(sheet)) && compared && matched
 }
 
 fn accepted(reply: Reply) -> bool {
@@ -68,20 +67,13 @@ fn accepted(reply: Reply) -> bool {
 }
 
 /// The tree against its own print, which may be too long for that.
-#[cfg(matcher)]
 fn text_limit_holds(sheet: Sheet, print: &[u8]) -> bool {
     let refusal = library::equivalent_to_str(sheet, print).0;
     refusal == u64::from(print.len() > 2000)
         && accepted(library::equivalent_to_str(sheet, &print[..print.len().min(2000)]))
 }
 
-#[cfg(not(readers))]
-fn texts_fit() -> bool {
-    true
-}
-
 /// Nested as deep as 2,000 bytes allow, closed and not.
-#[cfg(readers)]
 fn texts_fit() -> bool {
     let texts = [
         "^".repeat(2000),
