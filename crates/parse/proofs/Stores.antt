@@ -5,8 +5,9 @@ use mathlib.Core.List.{List, [], _∷_, _++_}
 use native.Mathlib.Nat.{add-zero, zero-add, suc-add}
 use native.Mathlib.Omega.{arith}
 use native.Mathlib.Numerals.{add-one}
-use lib.ListN.{length, take, drop, getD, set}
-use lib.Seq.{sets, set-comm, drop-set-lt, take-suc, length-take-le}
+use lib.ListN.{length, take, drop, getD, set, length-set, take-append-drop}
+use lib.Seq.{sets, set-comm, drop-set-lt, take-suc, length-take-le, set-append-left}
+use borrow.Rule.Slice.PartMut.{midOf, postOf, putMid, mid-len}
 
 -- Runs that stand side by side are one run.
 pub sets-append : (w : List ℕ) (i : ℕ) (a b : List ℕ) → sets w i (a ++ b) ≡ sets (sets w i a) (i + length a) b
@@ -52,3 +53,17 @@ sets-part (suc a) (x ∷ w) i v h =
     ap (λ (t : List ℕ). x ∷ t) (sets-part a w i v (omega arith))
     ∙ sym (sets-cons x w (a + i) v)
     ∙ ap (λ (k : ℕ). sets (x ∷ w) k v) (sym (suc-add a i))
+
+-- A run stored in the first of two lists.
+sets-left : (x y : List ℕ) (i : ℕ) (v : List ℕ) → i + length v ≤ length x → sets (x ++ y) i v ≡ sets x i v ++ y
+sets-left x y i [] h = refl
+sets-left x y i (b ∷ v) h =
+    let e : length (set x i b) ≡ length x = length-set x i b in
+    ap (λ (l : List ℕ). sets l (suc i) v) (set-append-left x y i b (omega arith)) ∙ sets-left (set x i b) y (suc i) v (omega arith)
+
+-- A run stored in a part of the list that is handed on: from `a` up to `e`.
+pub sets-middle : (a e : ℕ) (w : List ℕ) (i : ℕ) (v : List ℕ) → a ≤ e → e ≤ length w → i + length v ≤ e - a → putMid a (e - a) w (sets (midOf a (e - a) w) i v) ≡ sets w (a + i) v
+sets-middle a e w i v l h r =
+    let n : length (midOf a (e - a) w) ≡ e - a = mid-len a e w h in
+    ap (λ (z : List ℕ). take a w ++ z) (sym (sets-left (midOf a (e - a) w) (postOf a (e - a) w) i v (omega arith)) ∙ ap (λ (z : List ℕ). sets z i v) (take-append-drop (e - a) (drop a w)))
+    ∙ sets-part a w i v (omega arith)

@@ -124,8 +124,7 @@ pub record SimpleReady (text : List ℕ) (at n : ℕ) (w : List ℕ) : Type 0 wh
 -- No pointer or atomic stands at the place.
 pub record OneReady (text : List ℕ) (at n m : ℕ) (before : Lists) : Type 0 where
   pub ready : Ready text at n m before
-  pub at-byte : at < length text
-  pub direct : isIndirection (getD text at 0) ≡ false
+  pub direct : at < length text → isIndirection (getD text at 0) ≡ false
 
 -- ---- Runs of pointers and atomics.
 

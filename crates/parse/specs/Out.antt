@@ -20,6 +20,10 @@ use Rattle.parse.specs.declared.Parsed.the-variants.{Empty, Encoding, Co
 use Rattle.parse.specs.declared.Items.{Items}
 use Rattle.parse.specs.declared.Items.the-variants.{Read, Refused as NoItems}
 
+-- The container's own closer stands at `to`.
+abbrev pub closesFields : List ℕ → ℕ → ContainerKind → Bool
+closesFields text to kind = ltb to (length text) && eqb (getD text to 0) (endByte kind)
+
 abbrev pub putNode : List ℕ → ℕ → ℕ → ℕ → ℕ → ℕ → List ℕ
 putNode w n kind first second count = sets w (4 * n) (kind ∷ first ∷ second ∷ count ∷ [])
 

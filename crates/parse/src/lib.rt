@@ -14,7 +14,7 @@ ghost use Rattle.names.specs.Answer.{nameAt};
 ghost use Rattle.codes.specs.Answer.{isIndirection, tokenAt};
 ghost use Rattle.parse.specs.Answer.{used, answerWords, fromStrAnswer, fromStrWords, fromStrNames, fromStartAnswer, fromStartWords, fromStartNames, fromStartRest, EndOf};
 ghost use Rattle.parse.specs.Room.{slack};
-ghost use Rattle.parse.specs.Out.{tokenOut, tokenWords, TokenRoom, After, AfterItems, holdOut, holdWords, indirectionWord, itemOut, itemWords, containOut, containWords, endOut, noneUnder, cleared, headed, noneSheet, codeSheet, Fits, encodedOut, encodedWords, encodedNames};
+ghost use Rattle.parse.specs.Out.{tokenOut, tokenWords, TokenRoom, After, AfterItems, holdOut, holdWords, indirectionWord, itemOut, itemWords, containOut, containWords, closesFields, endOut, noneUnder, cleared, headed, noneSheet, codeSheet, Fits, encodedOut, encodedWords, encodedNames};
 ghost use Rattle.parse.specs.Agree.{NamedIs, Simple, SimpleReady, Ready, OneReady, Reads, ChildReady, Holds, CodesRead, ContainerReady, lists, EncodedIs};
 use codes::Token;
 use codes::closes_item;
@@ -75,12 +75,13 @@ enum Items {
     Refused(ErrorKind, usize),
 }
 
-// Node `n`, where its words are known to fit.
+// Node `n`, where its words are known to fit: handed on as they are, so that nothing is left to test.
 fn put_node(words: &mut [u64], n: usize, kind: u64, first: u64, second: u64, count: u64)
     requires { ⌜ 4 * n + 4 ≤ length (now words) ⌝ }
     ensures { λ _. ⌜ now (words .exit) ≡ sets (now (words .entry)) (4 * n) (kind ∷ first ∷ second ∷ count ∷ []) ⌝ }
 {
-    sheet::put_node(words, n, kind, first, second, count);
+    let from = 4 * n;
+    sheet::put_node(&mut words[from..from + 4], 0, kind, first, second, count);
 }
 
 fn copy_name(names: &mut [u8], m: usize, name: &[u8])
@@ -338,14 +339,11 @@ fn parse_inner(
     ensures { λ r. ⌜ Reads (now (text .entry)) at n m (lists (now (words .entry)) (now (names .entry))) (lists (now (words .exit)) (now (names .exit))) r ⌝ }
 {
     let to = run_end(text, at);
-    if text.len() <= to {
-        return put_indirections(Parsed::Empty, text, at, to, words, n, m);
-    }
     let p = parse_one(&text[0..], to, words, n + (to - at), names, m);
     put_indirections(p, text, at, to, words, n, m)
 }
 
-// A type that is no pointer and no atomic.
+// A type that is no pointer and no atomic; nothing at the end of the text.
 fn parse_one(
     text: &[u8],
     at: usize,
@@ -357,6 +355,9 @@ fn parse_one(
     requires { ⌜ OneReady (now text) at n m (lists (now words) (now names)) ⌝ }
     ensures { λ r. ⌜ Reads (now (text .entry)) at n m (lists (now (words .entry)) (now (names .entry))) (lists (now (words .exit)) (now (names .exit))) r ⌝ }
 {
+    if text.len() <= at {
+        return Parsed::Empty;
+    }
     let b = text[at];
     match b {
         b'[' => match length_here(text, at + 1) {
@@ -389,7 +390,14 @@ fn put_codes(text: &[u8], at: usize, words: &mut [u64], n: usize) -> usize
     i
 }
 
-// A struct or a union, whose opening byte is at `at`.
+// The container's own closer stands at `to`.
+fn closes_fields(text: &[u8], to: usize, kind: ContainerKind) -> bool
+    ensures { λ r. ⌜ r ≡ closesFields (now (text .entry)) to kind ⌝ }
+{
+    to < text.len() && text[to] == kind.end_byte()
+}
+
+// A struct or a union, whose opening byte is at `at`. Its closer is looked for before a type is, which spares a call.
 fn parse_container(
     text: &[u8],
     at: usize,
@@ -412,6 +420,9 @@ fn parse_container(
                 let past = put_codes(text, to, words, k);
                 k += past - to;
                 to = past;
+                if closes_fields(text, to, kind) {
+                    return put_container(Items::Read(to + 1, k, l), kind, words, n, m, named);
+                }
                 let p = parse_inner(&text[0..], to, words, k, names, l);
                 match p {
                     Parsed::Encoding(to2, k2, l2) => {

@@ -1,5 +1,5 @@
 use Prim.Native.Nat.{ℕ, _+_, _*_, _-_, _≤_, _<_}
-use mathlib.Core.Path.{_≡_, refl, ap, _∙_}
+use mathlib.Core.Path.{_≡_, refl, sym, ap, _∙_}
 use mathlib.Core.List.{List, [], _∷_}
 use native.Mathlib.Omega.{arith}
 use borrow.Author.Needs.{needs}
@@ -15,11 +15,12 @@ use Rattle.codes.proofs.CodeLaws.{starts, without-parts, not-indirection}
 use Rattle.parse.specs.Agree.{lists, Lists, Ready, ItemsReads}
 use Rattle.parse.specs.Room.{closes}
 use Rattle.parse.specs.declared.Items.{Items}
+use Rattle.parse.specs.declared.Items.the-variants.{Read}
 use Rattle.parse.specs.declared.Parsed.{Parsed}
 use Rattle.parse.specs.declared.Parsed.the-variants.{Empty, Encoding, ContainerEnd, ArrayEnd, Refused}
 use Rattle.parse.proofs.Parsed.{the-type}
 use Rattle.parse.proofs.Sheets.{slack-some}
-use Rattle.parse.proofs.Cycle.{reads-end, reads-simple, reads-item, reads-no-number, reads-no-name, reads-contained, items-end, items-more, NotFound}
+use Rattle.parse.proofs.Cycle.{reads-end, reads-simple, reads-item, reads-no-number, reads-no-name, reads-contained, items-end, items-more, items-closed, closes-in, NotFound}
 use Rattle.parse.proofs.Cycle.{ready-part, room-two, after-parsed, after-items, ready-fields, ready-more, opens-closes}
 use Rattle.parse.proofs.Runs.{ready-codes, ready-run, run-room, after-bound}
 use borrow.Fn.Kinds.{In}
@@ -35,6 +36,7 @@ use Rattle.parse.proofs.parse_one.Kinds as parse-one-kinds
 use Rattle.parse.proofs.+parse_container+parse_inner+parse_one.Lts-parse_one as parse-one-lts
 use Rattle.parse.proofs.run_end.Reads as run-end-reads
 use Rattle.parse.proofs.length_here.Reads as length-here-reads
+use Rattle.parse.proofs.closes_fields.Reads as closes-fields-reads
 use Rattle.parse.proofs.end_items.Reads as end-items-reads
 use Rattle.parse.proofs.parse_simple.Reads as parse-simple-reads
 use Rattle.parse.proofs.put_array.Reads as put-array-reads
@@ -107,22 +109,24 @@ parse-container-claims t = (
   put-name-reads.Learnt,
   put-codes-reads.Asked,
   put-codes-reads.Learnt,
+  closes-fields-reads.Asked,
+  closes-fields-reads.Learnt,
+  put-container-reads.Asked,
+  put-container-reads.Learnt,
   parse-inner-below t,
   parse-inner.Post,
   end-items-reads.Asked,
   end-items-reads.Learnt,
-  put-container-reads.Asked,
-  put-container-reads.Learnt,
 )
 
 abbrev parse-inner-claims : ℕ → parse-inner-lts.Claims
 parse-inner-claims t = (
   run-end-reads.Asked,
   run-end-reads.Learnt,
-  put-indirections-reads.Asked,
-  put-indirections-reads.Learnt,
   parse-one-below t,
   parse-one.Post,
+  put-indirections-reads.Asked,
+  put-indirections-reads.Learnt,
 )
 
 abbrev parse-one-claims : ℕ → parse-one-lts.Claims
@@ -139,194 +143,286 @@ parse-one-claims t = (
   parse-simple-reads.Learnt,
 )
 
-parse-container-add-put-name : (t : ℕ) → parse-container-lts.Need-add-put-name (parse-container-claims t) (parse-container-at t) parse-container.Post parse-container-Inv-loop parse-container-μ-loop
+parse-container-add-put-name : (t : ℕ) → parse-container-lts.Need-add-put-name (parse-container-claims t) (parse-container-at t) parse-container.Post
+    parse-container-Inv-loop parse-container-μ-loop
 parse-container-add-put-name t c = omega (arith, c .before .before .before .pre .1 .at-byte)
 
-parse-container-put-name-requires : (t : ℕ) → parse-container-lts.Need-put-name-requires (parse-container-claims t) (parse-container-at t) parse-container.Post parse-container-Inv-loop parse-container-μ-loop
+parse-container-put-name-requires : (t : ℕ) → parse-container-lts.Need-put-name-requires (parse-container-claims t) (parse-container-at t) parse-container.Post
+    parse-container-Inv-loop parse-container-μ-loop
 parse-container-put-name-requires t c κs =
     let p = c .before .before .before .before .pre .1 in
     omega (arith, p .at-byte, p .ready .names-room)
 
-parse-container-enum-known-why : (t : ℕ) → parse-container-lts.Need-enum-known-why (parse-container-claims t) (parse-container-at t) parse-container.Post parse-container-Inv-loop parse-container-μ-loop
+parse-container-enum-known-why : (t : ℕ) → parse-container-lts.Need-enum-known-why (parse-container-claims t) (parse-container-at t) parse-container.Post
+    parse-container-Inv-loop parse-container-μ-loop
 parse-container-enum-known-why t c = search needs
 
-parse-container-enum-known-start : (t : ℕ) → parse-container-lts.Need-enum-known-start (parse-container-claims t) (parse-container-at t) parse-container.Post parse-container-Inv-loop parse-container-μ-loop
+parse-container-enum-known-start : (t : ℕ) → parse-container-lts.Need-enum-known-start (parse-container-claims t) (parse-container-at t) parse-container.Post
+    parse-container-Inv-loop parse-container-μ-loop
 parse-container-enum-known-start t c = search needs
 
-parse-container-add-k : (t : ℕ) → parse-container-lts.Need-add-k (parse-container-claims t) (parse-container-at t) parse-container.Post parse-container-Inv-loop parse-container-μ-loop
+parse-container-add-k : (t : ℕ) → parse-container-lts.Need-add-k (parse-container-claims t) (parse-container-at t) parse-container.Post
+    parse-container-Inv-loop parse-container-μ-loop
 parse-container-add-k t c = omega (arith, c .before .before .before .before .before .before .before .before .before .before .pre .1 .ready .words-room)
 
-parse-container-loop-holds : (t : ℕ) → parse-container-lts.Need-loop-holds (parse-container-claims t) (parse-container-at t) parse-container.Post parse-container-Inv-loop parse-container-μ-loop
+parse-container-loop-holds : (t : ℕ) → parse-container-lts.Need-loop-holds (parse-container-claims t) (parse-container-at t) parse-container.Post
+    parse-container-Inv-loop parse-container-μ-loop
 parse-container-loop-holds t c =
-    let n = c .before .before .before .before .before in
-    let s = n .before .before .before .before .before in
-    let a = s .args in
-    let p = s .pre .1 in
+    let c5 = c .before .before .before .before .before in
+    let c10 = c5 .before .before .before .before .before in
+    let a = c10 .args in
+    let p = c10 .pre .1 in
     let b : Lists = lists (a .words .now) (a .names .now) in
-    let q = rw (c .before .start .given .1) at (n .put-name .ensures) in
-    let names : List ℕ = n .put-name .last .1 .1 .1 .0 in
-    let ready = ready-fields (a .text .now) (a .at) (a .n) (a .m) b names _ _ _ (p .ready) (p .at-byte) (opens-closes _ _ (p .opens)) (n .put-name .kept .1 .1 .1 .0) q in
+    let q = rw (c .before .start .given .1) at (c5 .put-name .ensures) in
+    let names : List ℕ = c5 .put-name .last .1 .1 .1 .0 in
+    let ready = ready-fields (a .text .now) (a .at) (a .n) (a .m) b names _ _ _ (p .ready) (p .at-byte) (opens-closes _ _ (p .opens))
+    (c5 .put-name .kept .1 .1 .1 .0) q in
     (ready, (search needs, ((refl, refl), λ z i r. r)))
 
-parse-container-put-codes-requires : (t : ℕ) → parse-container-lts.Need-put-codes-requires (parse-container-claims t) (parse-container-at t) parse-container.Post parse-container-Inv-loop parse-container-μ-loop
-parse-container-put-codes-requires t c κs = (c .before .loop .inv .0 .at-place, c .before .loop .inv .0 .words-room)
+parse-container-put-codes-requires : (t : ℕ) → parse-container-lts.Need-put-codes-requires (parse-container-claims t) (parse-container-at t)
+    parse-container.Post parse-container-Inv-loop parse-container-μ-loop
+parse-container-put-codes-requires t c κs =
+    (c .before .loop .inv .0 .at-place, c .before .loop .inv .0 .words-room)
 
-parse-container-sub-k : (t : ℕ) → parse-container-lts.Need-sub-k (parse-container-claims t) (parse-container-at t) parse-container.Post parse-container-Inv-loop parse-container-μ-loop
+parse-container-sub-k : (t : ℕ) → parse-container-lts.Need-sub-k (parse-container-claims t) (parse-container-at t) parse-container.Post
+    parse-container-Inv-loop parse-container-μ-loop
 parse-container-sub-k t c = omega (arith, c .before .before .put-codes .ensures .onward)
 
-parse-container-add-k-2 : (t : ℕ) → parse-container-lts.Need-add-k-2 (parse-container-claims t) (parse-container-at t) parse-container.Post parse-container-Inv-loop parse-container-μ-loop
+parse-container-add-k-2 : (t : ℕ) → parse-container-lts.Need-add-k-2 (parse-container-claims t) (parse-container-at t) parse-container.Post
+    parse-container-Inv-loop parse-container-μ-loop
 parse-container-add-k-2 t c =
     let v = c .before .before .before .before .loop .inv in
     omega (arith, v .0 .words-room, c .before .before .put-codes .ensures .room, v .1 .1 .0 .0)
 
-parse-container-sub-parse-inner : (t : ℕ) → parse-container-lts.Need-sub-parse-inner (parse-container-claims t) (parse-container-at t) parse-container.Post parse-container-Inv-loop parse-container-μ-loop
+parse-container-closes-fields-requires : (t : ℕ) → parse-container-lts.Need-closes-fields-requires (parse-container-claims t) (parse-container-at t)
+    parse-container.Post parse-container-Inv-loop parse-container-μ-loop
+parse-container-closes-fields-requires t c κs = search needs
+
+parse-container-add-t29 : (t : ℕ) → parse-container-lts.Need-add-t29 (parse-container-claims t) (parse-container-at t) parse-container.Post
+    parse-container-Inv-loop parse-container-μ-loop
+parse-container-add-t29 t c =
+    let c4 = c .before .before .before .before in
+    let c17 = c4 .before .before .before .before .before .before .before .before .before .before .before .before .before in
+    omega (arith, closes-in (c17 .args .text .now) (c4 .put-codes .result) (c17 .args .kind) (sym (c .before .closes-fields .ensures) ∙ c .if1 .taken))
+
+parse-container-put-container-requires : (t : ℕ) → parse-container-lts.Need-put-container-requires (parse-container-claims t) (parse-container-at t)
+    parse-container.Post parse-container-Inv-loop parse-container-μ-loop
+parse-container-put-container-requires t c κs =
+    let c2 = c .before .before in
+    let c5 = c2 .before .before .before in
+    let c7 = c5 .before .before in
+    let c9 = c7 .before .before in
+    let c13 = c9 .before .before .before .before in
+    let c18 = c13 .before .before .before .before .before in
+    let x = c5 .put-codes in
+    let l = c7 .loop in
+    let a = c18 .args in
+    let k : ℕ = l .k + (x .result - l .to) in
+    let b : Lists = lists (x .last .1 .1 .0) (l .names) in
+    let o : Items = Read (x .result + 1) k (l .l) in
+    let ends : ItemsReads (a .text .now) (x .result) (a .kind) k (l .l) b b o = items-closed (a .text .now) (x .result) (a .kind) k (l .l) b
+    (sym (c2 .closes-fields .ensures) ∙ c .before .if1 .taken) in
+    let f = l .inv .1 .1 .1 b o (x .ensures .reads (a .kind) (l .l) (l .names) b o ends) in
+    let q = rw (c9 .start .given .1) at (c13 .put-name .ensures) in
+    let p = c18 .pre .1 in
+    let two = room-two (a .text .now) (a .at) (a .n) (a .m) (lists (a .words .now) (a .names .now)) (p .ready) (p .at-byte) (opens-closes _ _ (p .opens)) in
+    ((omega (arith, two, x .kept .1 .1 .0, l .inv .1 .1 .0 .0), omega (arith, q .names-is)), after-items _ _ _ _ b b o (f .bound))
+
+parse-container-same-length : (t : ℕ) → parse-container-lts.Need-same-length (parse-container-claims t) (parse-container-at t) parse-container.Post
+    parse-container-Inv-loop parse-container-μ-loop
+parse-container-same-length t c = search needs
+
+parse-container-same-length-2 : (t : ℕ) → parse-container-lts.Need-same-length-2 (parse-container-claims t) (parse-container-at t) parse-container.Post
+    parse-container-Inv-loop parse-container-μ-loop
+parse-container-same-length-2 t c = search needs
+
+parse-container-returns : (t : ℕ) → parse-container-lts.Need-returns (parse-container-claims t) (parse-container-at t) parse-container.Post
+    parse-container-Inv-loop parse-container-μ-loop
+parse-container-returns t c =
+    let c2 = c .before .before in
+    let c4 = c2 .before .before in
+    let c5 = c4 .before in
+    let c8 = c5 .before .before .before in
+    let c10 = c8 .before .before in
+    let c12 = c10 .before .before in
+    let c16 = c12 .before .before .before .before in
+    let c21 = c16 .before .before .before .before .before in
+    let x = c8 .put-codes in
+    let l = c10 .loop in
+    let a = c21 .args in
+    let k : ℕ = l .k + (x .result - l .to) in
+    let b : Lists = lists (x .last .1 .1 .0) (l .names) in
+    let o : Items = Read (x .result + 1) k (l .l) in
+    let ends : ItemsReads (a .text .now) (x .result) (a .kind) k (l .l) b b o = items-closed (a .text .now) (x .result) (a .kind) k (l .l) b
+    (sym (c5 .closes-fields .ensures) ∙ c4 .if1 .taken) in
+    let f = l .inv .1 .1 .1 b o (x .ensures .reads (a .kind) (l .l) (l .names) b o ends) in
+    let q = rw (c12 .start .given .1) at (c16 .put-name .ensures) in
+    let p = c21 .pre .1 in
+    let d = c2 .put-container .ensures in
+    rw (d .0, d .1) (reads-contained (a .text .now) (a .at) (a .kind) (a .n) (a .m) (p .at-byte) (p .opens) (lists (a .words .now) (a .names .now))
+    (c16 .put-name .last .1 .1 .1 .0) _ _ q b o f)
+
+parse-container-sub-parse-inner : (t : ℕ) → parse-container-lts.Need-sub-parse-inner (parse-container-claims t) (parse-container-at t) parse-container.Post
+    parse-container-Inv-loop parse-container-μ-loop
 parse-container-sub-parse-inner t c = search needs
 
-parse-container-part-parse-inner-start : (t : ℕ) → parse-container-lts.Need-part-parse-inner-start (parse-container-claims t) (parse-container-at t) parse-container.Post parse-container-Inv-loop parse-container-μ-loop
+parse-container-part-parse-inner-start : (t : ℕ) → parse-container-lts.Need-part-parse-inner-start (parse-container-claims t) (parse-container-at t)
+    parse-container.Post parse-container-Inv-loop parse-container-μ-loop
 parse-container-part-parse-inner-start t c = search needs
 
-parse-container-part-parse-inner-end : (t : ℕ) → parse-container-lts.Need-part-parse-inner-end (parse-container-claims t) (parse-container-at t) parse-container.Post parse-container-Inv-loop parse-container-μ-loop
+parse-container-part-parse-inner-end : (t : ℕ) → parse-container-lts.Need-part-parse-inner-end (parse-container-claims t) (parse-container-at t)
+    parse-container.Post parse-container-Inv-loop parse-container-μ-loop
 parse-container-part-parse-inner-end t c = search needs
 
-parse-container-parse-inner-requires : (t : ℕ) → parse-container-lts.Need-parse-inner-requires (parse-container-claims t) (parse-container-at t) parse-container.Post parse-container-Inv-loop parse-container-μ-loop
+parse-container-parse-inner-requires : (t : ℕ) → parse-container-lts.Need-parse-inner-requires (parse-container-claims t) (parse-container-at t)
+    parse-container.Post parse-container-Inv-loop parse-container-μ-loop
 parse-container-parse-inner-requires t c κs =
-    let w = c .before .before .before .before .before in
-    let x = w .put-codes in
-    let l = w .before .before .loop in
-    let n = w .before .before .before .before .before .before .before .before in
-    let s = n .before .before .before .before .before in
-    let q = rw (w .before .before .before .before .start .given .1) at (n .put-name .ensures) in
-    let ready = ready-codes (s .args .text .now) (l .to) (l .k) (l .l) (x .result) (l .words) (x .last .1 .1 .0) (l .names) (l .inv .0) (x .ensures) (x .kept .1 .1 .0) in
-    rw (whole (s .args .text .now)) (omega (arith, s .pre .0, l .inv .1 .0, x .ensures .onward, x .ensures .within, q .onward), ready)
+    let c7 = c .before .before .before .before .before .before .before in
+    let c9 = c7 .before .before in
+    let c11 = c9 .before .before in
+    let c15 = c11 .before .before .before .before in
+    let c20 = c15 .before .before .before .before .before in
+    let x = c7 .put-codes in
+    let l = c9 .loop in
+    let q = rw (c11 .start .given .1) at (c15 .put-name .ensures) in
+    let ready = ready-codes (c20 .args .text .now) (l .to) (l .k) (l .l) (x .result) (l .words) (x .last .1 .1 .0) (l .names) (l .inv .0) (x .ensures)
+    (x .kept .1 .1 .0) in
+    rw (whole (c20 .args .text .now)) (omega (arith, c20 .pre .0, l .inv .1 .0, x .ensures .onward, x .ensures .within, q .onward), ready)
 
-parse-container-enum-known-p : (t : ℕ) → parse-container-lts.Need-enum-known-p (parse-container-claims t) (parse-container-at t) parse-container.Post parse-container-Inv-loop parse-container-μ-loop
+parse-container-enum-known-p : (t : ℕ) → parse-container-lts.Need-enum-known-p (parse-container-claims t) (parse-container-at t) parse-container.Post
+    parse-container-Inv-loop parse-container-μ-loop
 parse-container-enum-known-p t c = search needs
 
-parse-container-loop-less : (t : ℕ) → parse-container-lts.Need-loop-less (parse-container-claims t) (parse-container-at t) parse-container.Post parse-container-Inv-loop parse-container-μ-loop
+parse-container-loop-less : (t : ℕ) → parse-container-lts.Need-loop-less (parse-container-claims t) (parse-container-at t) parse-container.Post
+    parse-container-Inv-loop parse-container-μ-loop
 parse-container-loop-less t c =
-    let i = c .before .before .before .before .before .before .before in
-    let w = i .before .before .before .before .before .before in
-    let r = rw (whole (w .before .before .before .before .before .before .before .before .before .before .before .before .before .args .text .now)) at (rw (c .before .p .given .1) at (i .parse-inner .ensures)) in
-    omega (arith, w .put-codes .ensures .onward, r .bound .onward, r .bound .within)
+    let c7 = c .before .before .before .before .before .before .before in
+    let c15 = c7 .before .before .before .before .before .before .before .before in
+    let c28 = c15 .before .before .before .before .before .before .before .before .before .before .before .before .before in
+    let r = rw (whole (c28 .args .text .now)) at (rw (c .before .p .given .1) at (c7 .parse-inner .ensures)) in
+    omega (arith, c15 .put-codes .ensures .onward, r .bound .onward, r .bound .within)
 
-parse-container-loop-again : (t : ℕ) → parse-container-lts.Need-loop-again (parse-container-claims t) (parse-container-at t) parse-container.Post parse-container-Inv-loop parse-container-μ-loop
+parse-container-loop-again : (t : ℕ) → parse-container-lts.Need-loop-again (parse-container-claims t) (parse-container-at t) parse-container.Post
+    parse-container-Inv-loop parse-container-μ-loop
 parse-container-loop-again t c =
-    let j = c .before .before .before .before .before .before .before in
-    let i = j .parse-inner in
-    let w = j .before .before .before .before .before .before in
-    let x = w .put-codes in
-    let l = w .before .before .loop in
-    let s = w .before .before .before .before .before .before .before .before .before .before .before .before .before in
-    let a = s .args in
+    let c7 = c .before .before .before .before .before .before .before in
+    let c15 = c7 .before .before .before .before .before .before .before .before in
+    let c17 = c15 .before .before in
+    let c28 = c17 .before .before .before .before .before .before .before .before .before .before .before in
+    let i = c7 .parse-inner in
+    let x = c15 .put-codes in
+    let l = c17 .loop in
+    let a = c28 .args in
     let k : ℕ = l .k + (x .result - l .to) in
     let b : Lists = lists (x .last .1 .1 .0) (l .names) in
     let z : Lists = lists (i .last .1 .1 .0) (i .last .1 .1 .1 .1 .0) in
     let r = rw (whole (a .text .now)) at (rw (c .before .p .given .1) at (i .ensures)) in
-    let ready = ready-codes (a .text .now) (l .to) (l .k) (l .l) (x .result) (l .words) (x .last .1 .1 .0) (l .names) (l .inv .0) (x .ensures) (x .kept .1 .1 .0) in (
+    let ready = ready-codes (a .text .now) (l .to) (l .k) (l .l) (x .result) (l .words) (x .last .1 .1 .0) (l .names) (l .inv .0) (x .ensures)
+    (x .kept .1 .1 .0) in (
       ready-more (a .text .now) (x .result) k (l .l) b z _ _ _ ready (i .kept .1 .1 .0) (i .kept .1 .1 .1 .1 .0) (r .bound),
       (
         omega (arith, l .inv .1 .0, x .ensures .onward, r .bound .onward),
         (
           (i .kept .1 .1 .0 ∙ x .kept .1 .1 .0 ∙ l .inv .1 .1 .0 .0, i .kept .1 .1 .1 .1 .0 ∙ l .inv .1 .1 .0 .1),
-          λ y f q. l .inv .1 .1 .1 y f (x .ensures .reads (a .kind) (l .l) (l .names) y f (items-more (a .text .now) (x .result) (a .kind) k (l .l) b z _ _ _ y f r q)),
+          λ y f q. l .inv .1 .1 .1 y f (x .ensures .reads (a .kind) (l .l) (l .names) y f
+              (items-more (a .text .now) (x .result) (a .kind) k (l .l) b z _ _ _ y f r q)),
         ),
       ),
     )
 
-parse-container-end-items-requires : (t : ℕ) → parse-container-lts.Need-end-items-requires (parse-container-claims t) (parse-container-at t) parse-container.Post parse-container-Inv-loop parse-container-μ-loop
+parse-container-end-items-requires : (t : ℕ) → parse-container-lts.Need-end-items-requires (parse-container-claims t) (parse-container-at t)
+    parse-container.Post parse-container-Inv-loop parse-container-μ-loop
 parse-container-end-items-requires t c κs = search needs
 
-parse-container-put-container-requires : (t : ℕ) → parse-container-lts.Need-put-container-requires (parse-container-claims t) (parse-container-at t) parse-container.Post parse-container-Inv-loop parse-container-μ-loop
-parse-container-put-container-requires t c κs =
-    let j = c .before .before .before .before .before .before .before in
-    let i = j .parse-inner in
-    let w = j .before .before .before .before .before .before in
-    let x = w .put-codes in
-    let l = w .before .before .loop in
-    let s = w .before .before .before .before .before .before .before .before .before .before .before .before .before in
-    let a = s .args in
+parse-container-put-container-requires-2 : (t : ℕ) → parse-container-lts.Need-put-container-requires-2 (parse-container-claims t) (parse-container-at t)
+    parse-container.Post parse-container-Inv-loop parse-container-μ-loop
+parse-container-put-container-requires-2 t c κs =
+    let c2 = c .before .before in
+    let c7 = c2 .before .before .before .before .before in
+    let c15 = c7 .before .before .before .before .before .before .before .before in
+    let c17 = c15 .before .before in
+    let c19 = c17 .before .before in
+    let c23 = c19 .before .before .before .before in
+    let c28 = c23 .before .before .before .before .before in
+    let i = c7 .parse-inner in
+    let x = c15 .put-codes in
+    let l = c17 .loop in
+    let a = c28 .args in
     let k : ℕ = l .k + (x .result - l .to) in
     let b : Lists = lists (x .last .1 .1 .0) (l .names) in
     let z : Lists = lists (i .last .1 .1 .0) (i .last .1 .1 .1 .1 .0) in
     let o : Items = c .before .end-items .result in
-    let none = not-found (i .result) (c .before .before .match2 .keys2) in
+    let none = not-found (i .result) (c2 .match2 .keys2) in
     let ends : ItemsReads (a .text .now) (x .result) (a .kind) k (l .l) b z o =
-    rw (c .before .end-items .ensures) (items-end (a .text .now) (x .result) (a .kind) k (l .l) b z (i .result) none (rw (whole (a .text .now)) at (i .ensures))) in
+    rw (c .before .end-items .ensures) (items-end (a .text .now) (x .result) (a .kind) k (l .l) b z (i .result) none
+    (rw (whole (a .text .now)) at (i .ensures))) in
     let f = l .inv .1 .1 .1 z o (x .ensures .reads (a .kind) (l .l) (l .names) z o ends) in
-    let n = w .before .before .before .before .before .before .before .before in
-    let q = rw (w .before .before .before .before .start .given .1) at (n .put-name .ensures) in
-    let p = s .pre .1 in
+    let q = rw (c19 .start .given .1) at (c23 .put-name .ensures) in
+    let p = c28 .pre .1 in
     let two = room-two (a .text .now) (a .at) (a .n) (a .m) (lists (a .words .now) (a .names .now)) (p .ready) (p .at-byte) (opens-closes _ _ (p .opens)) in
     ((omega (arith, two, i .kept .1 .1 .0, x .kept .1 .1 .0, l .inv .1 .1 .0 .0), omega (arith, q .names-is)), after-items _ _ _ _ _ _ o (f .bound))
 
-parse-container-same-length : (t : ℕ) → parse-container-lts.Need-same-length (parse-container-claims t) (parse-container-at t) parse-container.Post parse-container-Inv-loop parse-container-μ-loop
-parse-container-same-length t c = search needs
+parse-container-same-length-3 : (t : ℕ) → parse-container-lts.Need-same-length-3 (parse-container-claims t) (parse-container-at t) parse-container.Post
+    parse-container-Inv-loop parse-container-μ-loop
+parse-container-same-length-3 t c = search needs
 
-parse-container-same-length-2 : (t : ℕ) → parse-container-lts.Need-same-length-2 (parse-container-claims t) (parse-container-at t) parse-container.Post parse-container-Inv-loop parse-container-μ-loop
-parse-container-same-length-2 t c = search needs
+parse-container-same-length-4 : (t : ℕ) → parse-container-lts.Need-same-length-4 (parse-container-claims t) (parse-container-at t) parse-container.Post
+    parse-container-Inv-loop parse-container-μ-loop
+parse-container-same-length-4 t c =
+    let c10 = c .before .before .before .before .before .before .before .before .before .before in
+    let c20 = c10 .before .before .before .before .before .before .before .before .before .before in
+    let c26 = c20 .before .before .before .before .before .before in
+    c10 .parse-inner .kept .1 .1 .1 .1 .0
+    ∙ c20 .loop .inv .1 .1 .0 .1
+    ∙ c26 .put-name .kept .1 .1 .1 .0
 
-parse-container-returns : (t : ℕ) → parse-container-lts.Need-returns (parse-container-claims t) (parse-container-at t) parse-container.Post parse-container-Inv-loop parse-container-μ-loop
-parse-container-returns t c =
-    let j = c .before .before .before .before .before .before .before .before .before .before in
-    let i = j .parse-inner in
-    let w = j .before .before .before .before .before .before in
-    let x = w .put-codes in
-    let l = w .before .before .loop in
-    let s = w .before .before .before .before .before .before .before .before .before .before .before .before .before in
-    let a = s .args in
+parse-container-returns-2 : (t : ℕ) → parse-container-lts.Need-returns-2 (parse-container-claims t) (parse-container-at t) parse-container.Post
+    parse-container-Inv-loop parse-container-μ-loop
+parse-container-returns-2 t c =
+    let c2 = c .before .before in
+    let c4 = c2 .before .before in
+    let c5 = c4 .before in
+    let c10 = c5 .before .before .before .before .before in
+    let c18 = c10 .before .before .before .before .before .before .before .before in
+    let c20 = c18 .before .before in
+    let c22 = c20 .before .before in
+    let c26 = c22 .before .before .before .before in
+    let c31 = c26 .before .before .before .before .before in
+    let i = c10 .parse-inner in
+    let x = c18 .put-codes in
+    let l = c20 .loop in
+    let a = c31 .args in
     let k : ℕ = l .k + (x .result - l .to) in
     let b : Lists = lists (x .last .1 .1 .0) (l .names) in
     let z : Lists = lists (i .last .1 .1 .0) (i .last .1 .1 .1 .1 .0) in
-    let o : Items = c .before .before .before .before .end-items .result in
-    let none = not-found (i .result) (c .before .before .before .before .before .match2 .keys2) in
+    let o : Items = c4 .end-items .result in
+    let none = not-found (i .result) (c5 .match2 .keys2) in
     let ends : ItemsReads (a .text .now) (x .result) (a .kind) k (l .l) b z o =
-    rw (c .before .before .before .before .end-items .ensures) (items-end (a .text .now) (x .result) (a .kind) k (l .l) b z (i .result) none (rw (whole (a .text .now)) at (i .ensures))) in
+    rw (c4 .end-items .ensures) (items-end (a .text .now) (x .result) (a .kind) k (l .l) b z (i .result) none (rw (whole (a .text .now)) at (i .ensures))) in
     let f = l .inv .1 .1 .1 z o (x .ensures .reads (a .kind) (l .l) (l .names) z o ends) in
-    let n = w .before .before .before .before .before .before .before .before in
-    let q = rw (w .before .before .before .before .start .given .1) at (n .put-name .ensures) in
-    let p = s .pre .1 in
-    let d = c .before .before .put-container .ensures in
-    rw (d .0, d .1) (reads-contained (a .text .now) (a .at) (a .kind) (a .n) (a .m) (p .at-byte) (p .opens) (lists (a .words .now) (a .names .now)) (n .put-name .last .1 .1 .1 .0) _ _ q z o f)
+    let q = rw (c22 .start .given .1) at (c26 .put-name .ensures) in
+    let p = c31 .pre .1 in
+    let d = c2 .put-container2 .ensures in
+    rw (d .0, d .1) (reads-contained (a .text .now) (a .at) (a .kind) (a .n) (a .m) (p .at-byte) (p .opens) (lists (a .words .now) (a .names .now))
+    (c26 .put-name .last .1 .1 .1 .0) _ _ q z o f)
 
-parse-container-same-length-3 : (t : ℕ) → parse-container-lts.Need-same-length-3 (parse-container-claims t) (parse-container-at t) parse-container.Post parse-container-Inv-loop parse-container-μ-loop
-parse-container-same-length-3 t c = search needs
+parse-container-same-length-5 : (t : ℕ) → parse-container-lts.Need-same-length-5 (parse-container-claims t) (parse-container-at t) parse-container.Post
+    parse-container-Inv-loop parse-container-μ-loop
+parse-container-same-length-5 t c = search needs
 
-parse-container-returns-2 : (t : ℕ) → parse-container-lts.Need-returns-2 (parse-container-claims t) (parse-container-at t) parse-container.Post parse-container-Inv-loop parse-container-μ-loop
-parse-container-returns-2 t c =
-    let n = c .before .before .before .before .before in
-    let s = n .before .before .before .before .before in
-    let a = s .args in
-    let p = s .pre .1 in
-    let q = rw (c .before .why .given .1) at (n .put-name .ensures) in
-    reads-no-name (a .text .now) (a .at) (a .kind) (a .n) (a .m) (p .at-byte) (p .opens) (lists (a .words .now) (a .names .now)) (n .put-name .last .1 .1 .1 .0) _ _ q
+parse-container-returns-3 : (t : ℕ) → parse-container-lts.Need-returns-3 (parse-container-claims t) (parse-container-at t) parse-container.Post
+    parse-container-Inv-loop parse-container-μ-loop
+parse-container-returns-3 t c =
+    let c5 = c .before .before .before .before .before in
+    let c10 = c5 .before .before .before .before .before in
+    let a = c10 .args in
+    let p = c10 .pre .1 in
+    let q = rw (c .before .why .given .1) at (c5 .put-name .ensures) in
+    reads-no-name (a .text .now) (a .at) (a .kind) (a .n) (a .m) (p .at-byte) (p .opens) (lists (a .words .now) (a .names .now))
+    (c5 .put-name .last .1 .1 .1 .0) _ _ q
 
 parse-inner-run-end-requires : (t : ℕ) → parse-inner-lts.Need-run-end-requires (parse-inner-claims t) (parse-inner-at t) parse-inner.Post
 parse-inner-run-end-requires t c κs = search needs
-
-parse-inner-put-indirections-requires : (t : ℕ) → parse-inner-lts.Need-put-indirections-requires (parse-inner-claims t) (parse-inner-at t) parse-inner.Post
-parse-inner-put-indirections-requires t c κs =
-    let e = c .before .before in
-    let s = e .before .before .before .before in
-    let a = s .args in
-    let p = s .pre .1 in
-    let b : Lists = lists (a .words .now) (a .names .now) in
-    let r = run-to isIndirection _ _ _ (p .at-place) (e .run-end .ensures) in
-    let room = run-room (a .text .now) (a .at) (a .n) (a .m) _ b p r in
-    record { at-place = p .at-place; ends = e .run-end .ensures; room = room; after = tt }
-
-parse-inner-same-length : (t : ℕ) → parse-inner-lts.Need-same-length (parse-inner-claims t) (parse-inner-at t) parse-inner.Post
-parse-inner-same-length t c = search needs
-
-parse-inner-returns : (t : ℕ) → parse-inner-lts.Need-returns (parse-inner-claims t) (parse-inner-at t) parse-inner.Post
-parse-inner-returns t c =
-    let e = c .before .before .before .before .before in
-    let s = e .before .before .before .before in
-    let a = s .args in
-    let p = s .pre .1 in
-    let b : Lists = lists (a .words .now) (a .names .now) in
-    let r = run-to isIndirection _ _ _ (p .at-place) (e .run-end .ensures) in
-    let ends = reads-end (a .text .now) (e .run-end .result) _ _ _ (omega (arith, c .before .before .before .before .if1 .taken, r .within)) in
-    c .before .before .put-indirections .ensures b (a .names .now) ends
 
 parse-inner-sub-parse-one : (t : ℕ) → parse-inner-lts.Need-sub-parse-one (parse-inner-claims t) (parse-inner-at t) parse-inner.Post
 parse-inner-sub-parse-one t c = search needs
@@ -339,71 +435,82 @@ parse-inner-part-parse-one-end t c = search needs
 
 parse-inner-sub-parse-one-2 : (t : ℕ) → parse-inner-lts.Need-sub-parse-one-2 (parse-inner-claims t) (parse-inner-at t) parse-inner.Post
 parse-inner-sub-parse-one-2 t c =
-    let e = c .before .before .before in
-    let s = e .before .before .before .before in
-    let a = s .args in
-    let p = s .pre .1 in
+    let c2 = c .before .before in
+    let c6 = c2 .before .before .before .before in
+    let a = c6 .args in
+    let p = c6 .pre .1 in
     let b : Lists = lists (a .words .now) (a .names .now) in
-    let r = run-to isIndirection _ _ _ (p .at-place) (e .run-end .ensures) in
+    let r = run-to isIndirection _ _ _ (p .at-place) (c2 .run-end .ensures) in
     r .onward
 
 parse-inner-add-parse-one : (t : ℕ) → parse-inner-lts.Need-add-parse-one (parse-inner-claims t) (parse-inner-at t) parse-inner.Post
 parse-inner-add-parse-one t c =
-    let e = c .before .before .before in
-    let s = e .before .before .before .before in
-    let a = s .args in
-    let p = s .pre .1 in
+    let c2 = c .before .before in
+    let c6 = c2 .before .before .before .before in
+    let a = c6 .args in
+    let p = c6 .pre .1 in
     let b : Lists = lists (a .words .now) (a .names .now) in
-    let r = run-to isIndirection _ _ _ (p .at-place) (e .run-end .ensures) in
+    let r = run-to isIndirection _ _ _ (p .at-place) (c2 .run-end .ensures) in
     omega (arith, ready-run (a .text .now) (a .at) (a .n) (a .m) _ b p r .words-room, r .onward)
 
 parse-inner-parse-one-requires : (t : ℕ) → parse-inner-lts.Need-parse-one-requires (parse-inner-claims t) (parse-inner-at t) parse-inner.Post
 parse-inner-parse-one-requires t c κs =
-    let e = c .before .before .before .before in
-    let s = e .before .before .before .before in
-    let a = s .args in
-    let p = s .pre .1 in
+    let c3 = c .before .before .before in
+    let c7 = c3 .before .before .before .before in
+    let a = c7 .args in
+    let p = c7 .pre .1 in
     let b : Lists = lists (a .words .now) (a .names .now) in
-    let r = run-to isIndirection _ _ _ (p .at-place) (e .run-end .ensures) in
-    let h = c .before .before .before .if1 .left in
+    let r = run-to isIndirection _ _ _ (p .at-place) (c3 .run-end .ensures) in
     let ready = ready-run (a .text .now) (a .at) (a .n) (a .m) _ b p r in
-    rw (whole (a .text .now)) (omega (arith, s .pre .0, r .onward), record { ready = ready; at-byte = h; direct = r .stopped h })
+    rw (whole (a .text .now)) (omega (arith, c7 .pre .0, r .onward), record { ready = ready; direct = r .stopped })
 
-parse-inner-put-indirections-requires-2 :
-    (t : ℕ) → parse-inner-lts.Need-put-indirections-requires-2 (parse-inner-claims t) (parse-inner-at t) parse-inner.Post
-parse-inner-put-indirections-requires-2 t c κs =
-    let e = c .before .before .before .before .before .before .before .before .before .before in
-    let s = e .before .before .before .before in
-    let a = s .args in
-    let p = s .pre .1 in
+parse-inner-put-indirections-requires : (t : ℕ) → parse-inner-lts.Need-put-indirections-requires (parse-inner-claims t) (parse-inner-at t) parse-inner.Post
+parse-inner-put-indirections-requires t c κs =
+    let c5 = c .before .before .before .before .before in
+    let c9 = c5 .before .before .before .before in
+    let c13 = c9 .before .before .before .before in
+    let a = c13 .args in
+    let p = c13 .pre .1 in
     let b : Lists = lists (a .words .now) (a .names .now) in
-    let r = run-to isIndirection _ _ _ (p .at-place) (e .run-end .ensures) in
-    let i = c .before .before .before .before .before .parse-one in
+    let r = run-to isIndirection _ _ _ (p .at-place) (c9 .run-end .ensures) in
+    let i = c5 .parse-one in
     let q = rw (whole (a .text .now)) at (i .ensures) in
     record {
       at-place = p .at-place;
-      ends = e .run-end .ensures;
+      ends = c9 .run-end .ensures;
       room = λ l. omega (arith, i .kept .1 .1 .0, run-room (a .text .now) (a .at) (a .n) (a .m) _ b p r l);
       after = after-bound _ _ _ _ _ _ (i .result) (q .bound);
     }
 
+parse-inner-same-length : (t : ℕ) → parse-inner-lts.Need-same-length (parse-inner-claims t) (parse-inner-at t) parse-inner.Post
+parse-inner-same-length t c =
+    let c2 = c .before .before in
+    let c8 = c2 .before .before .before .before .before .before in
+    c2 .put-indirections .kept .1 .1 .1 .1 .0 ∙ c8 .parse-one .kept .1 .1 .0
+
 parse-inner-same-length-2 : (t : ℕ) → parse-inner-lts.Need-same-length-2 (parse-inner-claims t) (parse-inner-at t) parse-inner.Post
-parse-inner-same-length-2 t c = c .before .before .put-indirections2 .kept .1 .1 .1 .1 .0 ∙ c .before .before .before .before .before .before .before .before .parse-one .kept .1 .1 .0
+parse-inner-same-length-2 t c = c .before .before .before .before .before .before .before .before .parse-one .kept .1 .1 .1 .1 .0
 
-parse-inner-same-length-3 : (t : ℕ) → parse-inner-lts.Need-same-length-3 (parse-inner-claims t) (parse-inner-at t) parse-inner.Post
-parse-inner-same-length-3 t c = c .before .before .before .before .before .before .before .before .parse-one .kept .1 .1 .1 .1 .0
+parse-inner-returns : (t : ℕ) → parse-inner-lts.Need-returns (parse-inner-claims t) (parse-inner-at t) parse-inner.Post
+parse-inner-returns t c =
+    let c2 = c .before .before in
+    let c8 = c2 .before .before .before .before .before .before in
+    let c16 = c8 .before .before .before .before .before .before .before .before in
+    let i = c8 .parse-one in
+    let a = c16 .args in
+    c2 .put-indirections .ensures (lists (a .words .now) (a .names .now)) (i .last .1 .1 .1 .1 .0) (rw (whole (a .text .now)) at (i .ensures))
 
-parse-inner-returns-2 : (t : ℕ) → parse-inner-lts.Need-returns-2 (parse-inner-claims t) (parse-inner-at t) parse-inner.Post
-parse-inner-returns-2 t c =
-    let i = c .before .before .before .before .before .before .before .before .parse-one in
-    let a = c .before .before .before .before .before .before .before .before .before .before .before .before .before .before .before .before .before .args in
-    c .before .before .put-indirections2 .ensures (lists (a .words .now) (a .names .now)) (i .last .1 .1 .1 .1 .0) (rw (whole (a .text .now)) at (i .ensures))
+parse-one-returns : (t : ℕ) → parse-one-lts.Need-returns (parse-one-claims t) (parse-one-at t) parse-one.Post
+parse-one-returns t c = reads-end _ _ _ _ _ (omega (arith, c .if1 .taken, c .before .before .before .before .pre .1 .ready .at-place))
 
 parse-one-shared-slice-read-b : (t : ℕ) → parse-one-lts.Need-shared-slice-read-b (parse-one-claims t) (parse-one-at t) parse-one.Post
-parse-one-shared-slice-read-b t c = c .before .before .before .before .pre .1 .at-byte
+parse-one-shared-slice-read-b t c = c .before .if1 .left
 
 parse-one-add-length-here : (t : ℕ) → parse-one-lts.Need-add-length-here (parse-one-claims t) (parse-one-at t) parse-one.Post
-parse-one-add-length-here t c = omega (arith, c .before .before .before .before .before .pre .1 .at-byte, c .before .before .before .before .before .good .0)
+parse-one-add-length-here t c =
+    let c2 = c .before .before in
+    let c6 = c2 .before .before .before .before in
+    omega (arith, c2 .if1 .left, c6 .good .0)
 
 parse-one-length-here-requires : (t : ℕ) → parse-one-lts.Need-length-here-requires (parse-one-claims t) (parse-one-at t) parse-one.Post
 parse-one-length-here-requires t c κs = search needs
@@ -425,31 +532,37 @@ parse-one-part-parse-inner-end t c = search needs
 
 parse-one-add-parse-inner : (t : ℕ) → parse-one-lts.Need-add-parse-inner (parse-one-claims t) (parse-one-at t) parse-one.Post
 parse-one-add-parse-inner t c =
-    let s = c .before .before .before .before .before .before .before .before .before .before .before in
-    omega (arith, s .pre .1 .ready .words-room, slack-some (s .args .text .now) (s .args .at) (s .pre .1 .at-byte))
+    let c8 = c .before .before .before .before .before .before .before .before in
+    let c12 = c8 .before .before .before .before in
+    omega (arith, c12 .pre .1 .ready .words-room, slack-some (c12 .args .text .now) (c12 .args .at) (c8 .if1 .left))
 
 parse-one-parse-inner-requires : (t : ℕ) → parse-one-lts.Need-parse-inner-requires (parse-one-claims t) (parse-one-at t) parse-one.Post
 unfolding start inSingles singles inOthers others closes
 parse-one-parse-inner-requires t c κs =
-    let u = c .before .before .before .before .before .before in
-    let s = u .before .before .before .before .before .before in
-    let a = s .args in
-    let h = s .pre .1 .at-byte in
+    let c4 = c .before .before .before .before in
+    let c6 = c4 .before .before in
+    let c7 = c6 .before in
+    let c9 = c7 .before .before in
+    let c13 = c9 .before .before .before .before in
+    let a = c13 .args in
+    let h = c9 .if1 .left in
     let b : Lists = lists (a .words .now) (a .names .now) in
-    let st = starts _ 91 (u .before .match .keys1) refl in
-    let q = rw (c .before .before .before .before .len .given .1) at (number-is (a .text .now) _ (a .at + 1) _ (omega arith) (u .length-here .ensures)) in
-    let ready = ready-part (a .text .now) (a .at) (a .n) (a .m) b _ (s .pre .1 .ready) h (ap closes st) (q .1 .0) (q .1 .1) in
-    rw (whole (a .text .now)) (omega (arith, s .pre .0, q .1), ready)
+    let st = starts _ 91 (c7 .match .keys1) refl in
+    let q = rw (c4 .len .given .1) at (number-is (a .text .now) _ (a .at + 1) _ (omega arith) (c6 .length-here .ensures)) in
+    let ready = ready-part (a .text .now) (a .at) (a .n) (a .m) b _ (c13 .pre .1 .ready) h (ap closes st) (q .1 .0) (q .1 .1) in
+    rw (whole (a .text .now)) (omega (arith, c13 .pre .0, q .1), ready)
 
 parse-one-put-array-requires : (t : ℕ) → parse-one-lts.Need-put-array-requires (parse-one-claims t) (parse-one-at t) parse-one.Post
 unfolding start inSingles singles inOthers others closes
 parse-one-put-array-requires t c κs =
-    let i = c .before .before .before .before .before .parse-inner in
-    let m = c .before .before .before .before .before .before .before .before .before .before .before .before .before in
-    let s = m .before .before .before .before .before in
-    let a = s .args in
-    let st = starts _ 91 (m .match .keys1) refl in
-    let two = room-two (a .text .now) (a .at) (a .n) (a .m) (lists (a .words .now) (a .names .now)) (s .pre .1 .ready) (s .pre .1 .at-byte) (ap closes st) in
+    let c5 = c .before .before .before .before .before in
+    let c13 = c5 .before .before .before .before .before .before .before .before in
+    let c15 = c13 .before .before in
+    let c19 = c15 .before .before .before .before in
+    let i = c5 .parse-inner in
+    let a = c19 .args in
+    let st = starts _ 91 (c13 .match .keys1) refl in
+    let two = room-two (a .text .now) (a .at) (a .n) (a .m) (lists (a .words .now) (a .names .now)) (c19 .pre .1 .ready) (c15 .if1 .left) (ap closes st) in
     (omega (arith, two, i .kept .1 .1 .0), after-parsed _ _ _ _ _ _ (i .result) (i .ensures .bound))
 
 parse-one-sub-parse-container : (t : ℕ) → parse-one-lts.Need-sub-parse-container (parse-one-claims t) (parse-one-at t) parse-one.Post
@@ -464,10 +577,14 @@ parse-one-part-parse-container-end t c = search needs
 parse-one-parse-container-requires : (t : ℕ) → parse-one-lts.Need-parse-container-requires (parse-one-claims t) (parse-one-at t) parse-one.Post
 unfolding start inSingles singles inOthers others closes
 parse-one-parse-container-requires t c κs =
-    let m = c .before .before .before in
-    let s = m .before .before .before .before .before in
-    let p = s .pre .1 in
-    rw (whole (s .args .text .now)) (omega (arith, s .pre .0), record { ready = p .ready; at-byte = p .at-byte; opens = starts _ 123 (m .match .keys2) refl })
+    let c3 = c .before .before .before in
+    let c5 = c3 .before .before in
+    let c9 = c5 .before .before .before .before in
+    let p = c9 .pre .1 in
+    rw (whole (c9 .args .text .now)) (
+      omega (arith, c9 .pre .0),
+      record { ready = p .ready; at-byte = c5 .if1 .left; opens = starts _ 123 (c3 .match .keys2) refl },
+    )
 
 parse-one-sub-parse-container-2 : (t : ℕ) → parse-one-lts.Need-sub-parse-container-2 (parse-one-claims t) (parse-one-at t) parse-one.Post
 parse-one-sub-parse-container-2 t c = search needs
@@ -481,49 +598,65 @@ parse-one-part-parse-container-end-2 t c = search needs
 parse-one-parse-container-requires-2 : (t : ℕ) → parse-one-lts.Need-parse-container-requires-2 (parse-one-claims t) (parse-one-at t) parse-one.Post
 unfolding start inSingles singles inOthers others closes
 parse-one-parse-container-requires-2 t c κs =
-    let m = c .before .before .before in
-    let s = m .before .before .before .before .before in
-    let p = s .pre .1 in
-    rw (whole (s .args .text .now)) (omega (arith, s .pre .0), record { ready = p .ready; at-byte = p .at-byte; opens = starts _ 40 (m .match .keys3) refl })
+    let c3 = c .before .before .before in
+    let c5 = c3 .before .before in
+    let c9 = c5 .before .before .before .before in
+    let p = c9 .pre .1 in
+    rw (whole (c9 .args .text .now)) (
+      omega (arith, c9 .pre .0),
+      record { ready = p .ready; at-byte = c5 .if1 .left; opens = starts _ 40 (c3 .match .keys3) refl },
+    )
 
 parse-one-parse-simple-requires : (t : ℕ) → parse-one-lts.Need-parse-simple-requires (parse-one-claims t) (parse-one-at t) parse-one.Post
 parse-one-parse-simple-requires t c κs =
-    let p = c .before .before .before .before .before .before .pre .1 in
+    let c3 = c .before .before .before in
+    let c7 = c3 .before .before .before .before in
+    let p = c7 .pre .1 in
     let r = c .before .match .rest in
-    let d = not-indirection _ (p .direct) in
-    record { at-place = p .at-byte; words-room = p .ready .words-room; plain = without-parts _ (((d, r .0 .0 .1), r .0 .1), r .1) }
-
-parse-one-returns : (t : ℕ) → parse-one-lts.Need-returns (parse-one-claims t) (parse-one-at t) parse-one.Post
-unfolding start inSingles singles inOthers others closes
-parse-one-returns t c =
-    let u = c .before .before .before in
-    let s = u .before .before .before .before .before .before in
-    let a = s .args in
-    let h = s .pre .1 .at-byte in
-    let b : Lists = lists (a .words .now) (a .names .now) in
-    let st = starts _ 91 (u .before .match .keys1) refl in
-    let q = rw (c .before .why .given .1) at (number-is (a .text .now) _ (a .at + 1) _ (omega arith) (u .length-here .ensures)) in
-    reads-no-number (a .text .now) _ (a .n) (a .m) b _ _ h st (q .0) (q .1 .1)
-
-parse-one-same-length : (t : ℕ) → parse-one-lts.Need-same-length (parse-one-claims t) (parse-one-at t) parse-one.Post
-parse-one-same-length t c = c .before .before .put-array .kept .1 .1 .1 .1 .0 ∙ c .before .before .before .before .before .before .before .before .parse-inner .kept .1 .1 .0
-
-parse-one-same-length-2 : (t : ℕ) → parse-one-lts.Need-same-length-2 (parse-one-claims t) (parse-one-at t) parse-one.Post
-parse-one-same-length-2 t c = c .before .before .before .before .before .before .before .before .parse-inner .kept .1 .1 .1 .1 .0
+    let d = not-indirection _ (p .direct (c3 .if1 .left)) in
+    record { at-place = c3 .if1 .left; words-room = p .ready .words-room; plain = without-parts _ (((d, r .0 .0 .1), r .0 .1), r .1) }
 
 parse-one-returns-2 : (t : ℕ) → parse-one-lts.Need-returns-2 (parse-one-claims t) (parse-one-at t) parse-one.Post
 unfolding start inSingles singles inOthers others closes
 parse-one-returns-2 t c =
-    let u = c .before .before .before .before .before .before .before .before .before .before .before .before .before .before .before in
-    let s = u .before .before .before .before .before .before in
-    let a = s .args in
-    let h = s .pre .1 .at-byte in
+    let c3 = c .before .before .before in
+    let c4 = c3 .before in
+    let c6 = c4 .before .before in
+    let c10 = c6 .before .before .before .before in
+    let a = c10 .args in
+    let h = c6 .if1 .left in
     let b : Lists = lists (a .words .now) (a .names .now) in
-    let st = starts _ 91 (u .before .match .keys1) refl in
-    let q = rw (c .before .before .before .before .before .before .before .before .before .before .before .before .before .len .given .1) at (number-is (a .text .now) _ (a .at + 1) _ (omega arith) (u .length-here .ensures)) in
-    let i = c .before .before .before .before .before .before .before .before .parse-inner in
+    let st = starts _ 91 (c4 .match .keys1) refl in
+    let q = rw (c .before .why .given .1) at (number-is (a .text .now) _ (a .at + 1) _ (omega arith) (c3 .length-here .ensures)) in
+    reads-no-number (a .text .now) _ (a .n) (a .m) b _ _ h st (q .0) (q .1 .1)
+
+parse-one-same-length : (t : ℕ) → parse-one-lts.Need-same-length (parse-one-claims t) (parse-one-at t) parse-one.Post
+parse-one-same-length t c =
+    let c2 = c .before .before in
+    let c8 = c2 .before .before .before .before .before .before in
+    c2 .put-array .kept .1 .1 .1 .1 .0 ∙ c8 .parse-inner .kept .1 .1 .0
+
+parse-one-same-length-2 : (t : ℕ) → parse-one-lts.Need-same-length-2 (parse-one-claims t) (parse-one-at t) parse-one.Post
+parse-one-same-length-2 t c = c .before .before .before .before .before .before .before .before .parse-inner .kept .1 .1 .1 .1 .0
+
+parse-one-returns-3 : (t : ℕ) → parse-one-lts.Need-returns-3 (parse-one-claims t) (parse-one-at t) parse-one.Post
+unfolding start inSingles singles inOthers others closes
+parse-one-returns-3 t c =
+    let c2 = c .before .before in
+    let c8 = c2 .before .before .before .before .before .before in
+    let c13 = c8 .before .before .before .before .before in
+    let c15 = c13 .before .before in
+    let c16 = c15 .before in
+    let c18 = c16 .before .before in
+    let c22 = c18 .before .before .before .before in
+    let a = c22 .args in
+    let h = c18 .if1 .left in
+    let b : Lists = lists (a .words .now) (a .names .now) in
+    let st = starts _ 91 (c16 .match .keys1) refl in
+    let q = rw (c13 .len .given .1) at (number-is (a .text .now) _ (a .at + 1) _ (omega arith) (c15 .length-here .ensures)) in
+    let i = c8 .parse-inner in
     let z : Lists = lists (i .last .1 .1 .0) (i .last .1 .1 .1 .1 .0) in
-    let d = c .before .before .put-array .ensures in
+    let d = c2 .put-array .ensures in
     rw (d .0, d .1) (reads-item (a .text .now) _ (a .n) (a .m) _ _ h st (q .0) (q .1 .0) (q .1 .1) b z (i .result) (rw (whole (a .text .now)) at (i .ensures)))
 
 parse-one-same-length-3 : (t : ℕ) → parse-one-lts.Need-same-length-3 (parse-one-claims t) (parse-one-at t) parse-one.Post
@@ -532,8 +665,11 @@ parse-one-same-length-3 t c = search needs
 parse-one-same-length-4 : (t : ℕ) → parse-one-lts.Need-same-length-4 (parse-one-claims t) (parse-one-at t) parse-one.Post
 parse-one-same-length-4 t c = search needs
 
-parse-one-returns-3 : (t : ℕ) → parse-one-lts.Need-returns-3 (parse-one-claims t) (parse-one-at t) parse-one.Post
-parse-one-returns-3 t c = rw (whole (c .before .before .before .before .before .before .before .before .before .before .before .before .before .args .text .now)) at (c .before .before .before .before .parse-container .ensures)
+parse-one-returns-4 : (t : ℕ) → parse-one-lts.Need-returns-4 (parse-one-claims t) (parse-one-at t) parse-one.Post
+parse-one-returns-4 t c =
+    let c4 = c .before .before .before .before in
+    let c14 = c4 .before .before .before .before .before .before .before .before .before .before in
+    rw (whole (c14 .args .text .now)) at (c4 .parse-container .ensures)
 
 parse-one-same-length-5 : (t : ℕ) → parse-one-lts.Need-same-length-5 (parse-one-claims t) (parse-one-at t) parse-one.Post
 parse-one-same-length-5 t c = search needs
@@ -541,14 +677,20 @@ parse-one-same-length-5 t c = search needs
 parse-one-same-length-6 : (t : ℕ) → parse-one-lts.Need-same-length-6 (parse-one-claims t) (parse-one-at t) parse-one.Post
 parse-one-same-length-6 t c = search needs
 
-parse-one-returns-4 : (t : ℕ) → parse-one-lts.Need-returns-4 (parse-one-claims t) (parse-one-at t) parse-one.Post
-parse-one-returns-4 t c = rw (whole (c .before .before .before .before .before .before .before .before .before .before .before .before .before .args .text .now)) at (c .before .before .before .before .parse-container2 .ensures)
+parse-one-returns-5 : (t : ℕ) → parse-one-lts.Need-returns-5 (parse-one-claims t) (parse-one-at t) parse-one.Post
+parse-one-returns-5 t c =
+    let c4 = c .before .before .before .before in
+    let c14 = c4 .before .before .before .before .before .before .before .before .before .before in
+    rw (whole (c14 .args .text .now)) at (c4 .parse-container2 .ensures)
 
 parse-one-same-length-7 : (t : ℕ) → parse-one-lts.Need-same-length-7 (parse-one-claims t) (parse-one-at t) parse-one.Post
 parse-one-same-length-7 t c = search needs
 
-parse-one-returns-5 : (t : ℕ) → parse-one-lts.Need-returns-5 (parse-one-claims t) (parse-one-at t) parse-one.Post
-parse-one-returns-5 t c = reads-simple _ _ _ _ _ _ _ _ (c .before .before .before .before .before .before .before .before .before .pre .1 .at-byte) (c .before .before .parse-simple .ensures)
+parse-one-returns-6 : (t : ℕ) → parse-one-lts.Need-returns-6 (parse-one-claims t) (parse-one-at t) parse-one.Post
+parse-one-returns-6 t c =
+    let c2 = c .before .before in
+    let c6 = c2 .before .before .before .before in
+    reads-simple _ _ _ _ _ _ _ _ (c6 .if1 .left) (c2 .parse-simple .ensures)
 
 pub +parse-container+parse-inner+parse-one-spec : {M : Type 1} → statement M
 +parse-container+parse-inner+parse-one-spec =
@@ -564,6 +706,12 @@ pub +parse-container+parse-inner+parse-one-spec : {M : Type 1} → statement M
     (parse-container-put-codes-requires t)
     (parse-container-sub-k t)
     (parse-container-add-k-2 t)
+    (parse-container-closes-fields-requires t)
+    (parse-container-add-t29 t)
+    (parse-container-put-container-requires t)
+    (parse-container-same-length t)
+    (parse-container-same-length-2 t)
+    (parse-container-returns t)
     (parse-container-sub-parse-inner t)
     (parse-container-part-parse-inner-start t)
     (parse-container-part-parse-inner-end t)
@@ -572,28 +720,26 @@ pub +parse-container+parse-inner+parse-one-spec : {M : Type 1} → statement M
     (parse-container-loop-less t)
     (parse-container-loop-again t)
     (parse-container-end-items-requires t)
-    (parse-container-put-container-requires t)
-    (parse-container-same-length t)
-    (parse-container-same-length-2 t)
-    (parse-container-returns t)
+    (parse-container-put-container-requires-2 t)
     (parse-container-same-length-3 t)
-    (parse-container-returns-2 t))
+    (parse-container-same-length-4 t)
+    (parse-container-returns-2 t)
+    (parse-container-same-length-5 t)
+    (parse-container-returns-3 t))
     (λ t. parse-inner-lts.spec (parse-inner-claims t) (parse-inner-at t) parse-inner.Post
     (parse-inner-run-end-requires t)
-    (parse-inner-put-indirections-requires t)
-    (parse-inner-same-length t)
-    (parse-inner-returns t)
     (parse-inner-sub-parse-one t)
     (parse-inner-part-parse-one-start t)
     (parse-inner-part-parse-one-end t)
     (parse-inner-sub-parse-one-2 t)
     (parse-inner-add-parse-one t)
     (parse-inner-parse-one-requires t)
-    (parse-inner-put-indirections-requires-2 t)
+    (parse-inner-put-indirections-requires t)
+    (parse-inner-same-length t)
     (parse-inner-same-length-2 t)
-    (parse-inner-same-length-3 t)
-    (parse-inner-returns-2 t))
+    (parse-inner-returns t))
     λ t. parse-one-lts.spec (parse-one-claims t) (parse-one-at t) parse-one.Post
+    (parse-one-returns t)
     (parse-one-shared-slice-read-b t)
     (parse-one-add-length-here t)
     (parse-one-length-here-requires t)
@@ -614,15 +760,15 @@ pub +parse-container+parse-inner+parse-one-spec : {M : Type 1} → statement M
     (parse-one-part-parse-container-end-2 t)
     (parse-one-parse-container-requires-2 t)
     (parse-one-parse-simple-requires t)
-    (parse-one-returns t)
+    (parse-one-returns-2 t)
     (parse-one-same-length t)
     (parse-one-same-length-2 t)
-    (parse-one-returns-2 t)
+    (parse-one-returns-3 t)
     (parse-one-same-length-3 t)
     (parse-one-same-length-4 t)
-    (parse-one-returns-3 t)
+    (parse-one-returns-4 t)
     (parse-one-same-length-5 t)
     (parse-one-same-length-6 t)
-    (parse-one-returns-4 t)
-    (parse-one-same-length-7 t)
     (parse-one-returns-5 t)
+    (parse-one-same-length-7 t)
+    (parse-one-returns-6 t)
