@@ -7,23 +7,24 @@ use mathlib.Core.Bool.{Bool, true, false, cond, _||_, false≢true}
 use borrow.Author.Tests.{le-leb, leb-true, leb-false, ne-eqb, eqb-true}
 use lib.ListN.{length, take, drop, List·getD-eq-default}
 use lib.Dec.{leb, eqb}
-use Rattle.kinds.proofs.SheetLaws.{arity-low, nests-step, trees-step}
-use Rattle.kinds.proofs.NodeLaws.{node-arity, node-child, node-inner, child-count, first-some, first-within, first-node, other-trees, held-trees, no-trees, walk-inner, walk-rest}
+use Rattle.kinds.proofs.SheetLaws.{trees-step}
+use Rattle.kinds.proofs.NodeLaws.{leaf-count, node-child, node-inner, child-count, first-some, first-within, first-node, other-trees, held-trees, no-trees, walk-inner, walk-rest}
+use Rattle.kinds.proofs.KindLaws.{indirection-range}
 use Rattle.kinds.proofs.TableLaws.{everyBelow, passBelow, same-bytes}
 use Rattle.kinds.specs.Byte.{among, sameBytes}
 use Rattle.kinds.specs.Container.{prefixByte}
 use Rattle.kinds.specs.Expect as E
 use Rattle.kinds.specs.Expect.{remaining, mismatch, _then_, expectByte, expectBytes, expectPrimitive, expectNode, expectEncoding}
-use Rattle.kinds.specs.Kind.{insideKind}
+use Rattle.kinds.specs.Kind.{isIndirection, insideKind}
 use Rattle.kinds.specs.Level.{indirection}
 use Rattle.kinds.specs.Primitive.{code, codes, isObject}
-use Rattle.kinds.specs.Sheet.{kindAt, secondAt, countAt, nests, trees}
+use Rattle.kinds.specs.Sheet.{kindAt, secondAt, countAt, trees}
 use Rattle.kinds.specs.Tree.{Trees, end, node, isEnd, inside}
 use Rattle.kinds.specs.Walk.{NodeAt, TreesAt, KindsAndNames}
 use Rattle.kinds.specs.declared.IndirectionKind.{IndirectionKind}
 use Rattle.kinds.specs.declared.IndirectionKind.the-variants.{Atomic, Pointer}
 use Rattle.kinds.specs.declared.NestingLevel.{NestingLevel}
-use Rattle.expect.specs.Agree.{ExpectedIs, expectAt, closing, indirectionOf, isIndirection, codeBytesByKind, codeByte, ownByte, levelAfter, OpenedAt}
+use Rattle.expect.specs.Agree.{ExpectedIs, expectAt, closing, indirectionOf, codeBytesByKind, codeByte, ownByte, levelAfter, OpenedAt}
 use Rattle.expect.specs.declared.Expected as X
 use Rattle.expect.specs.declared.Expected.the-variants as XV
 use Rattle.expect.specs.declared.Opened.{Opened}
@@ -66,17 +67,6 @@ pub code-at : (names w : List ℕ) (at : ℕ) (v : NestingLevel) (s : List ℕ) 
 code-at names w at v s h =
     let k = code-low (kindAt w at) h in
     leaf-is names w at v s (omega arith) ∙ rw (le-leb (kindAt w at) 23 (omega arith)) (code-taken (kindAt w at) h s)
-
-indirection-range : (k : ℕ) → isIndirection k ≡ true → (26 ≤ k) × (k ≤ 27)
-indirection-range k h = go (eqb k 26) refl (eqb k 27) refl h
-  where
-    within : (n : ℕ) → k ≡ n → 26 ≤ n → n ≤ 27 → (26 ≤ k) × (k ≤ 27)
-    within n e lo hi = (omega arith, omega arith)
-
-    go : (t : Bool) → eqb k 26 ≡ t → (u : Bool) → eqb k 27 ≡ u → (t || u) ≡ true → (26 ≤ k) × (k ≤ 27)
-    go true e u d r = within 26 (eqb-true k 26 e) (omega arith) (omega arith)
-    go false e true d r = within 27 (eqb-true k 27 d) (omega arith) (omega arith)
-    go false e false d r = absurd (false≢true r)
 
 module _ (k : ℕ) where
   pub own-prefix : isIndirection k ≡ true → prefixByte (indirectionOf k) ≡ ownByte k
@@ -136,9 +126,6 @@ module _ (names w : List ℕ) (here v : NestingLevel) (s : List ℕ) (n at : ℕ
   resume-end : n ≤ 0 → resume here v (trees names w n at) s ≡ remaining s
   unfolding resume
   resume-end p = ap (λ (x : Trees). resume here v x s) (no-trees names w n at p)
-
-pub leaf-count : (w : List ℕ) (at : ℕ) → NodeAt w at → kindAt w at < 25 → countAt w at ≡ 1
-leaf-count w at h p = eqb-true (countAt w at) 1 (sym (arity-low (kindAt w at) (countAt w at) (countAt w (at + 4)) p) ∙ node-arity w at h)
 
 -- The first tree lies within the `n` nodes from `at` on, and these within the node words.
 pub record Bounds (w : List ℕ) (at n : ℕ) : Type 0 where

@@ -25,7 +25,7 @@ use Rattle.kinds.specs.declared.Fields.the-variants.{Included, Dropped}
 use Rattle.kinds.specs.declared.NestingLevel.{NestingLevel}
 use Rattle.kinds.specs.declared.NestingLevel.the-variants.{Top, Within, Bottom}
 use Rattle.kinds.specs.Kind.{containerOf}
-use Rattle.expect.specs.Agree.{expectAt, ExpectedIs, InText, indirectionOf, isIndirection, opening, closing, OpenedIs, OpenedAt}
+use Rattle.expect.specs.Agree.{expectAt, ExpectedIs, InText, indirectionOf, opening, closing, OpenedIs, OpenedAt}
 use Rattle.expect.specs.declared.Expected as X
 use Rattle.expect.specs.declared.Expected.the-variants as XV
 use Rattle.expect.specs.declared.Opened.{Opened}
@@ -303,9 +303,6 @@ pub opened-at : (names w : List ℕ) (at : ℕ) (v : NestingLevel) (text : List 
 opened-at names w at v text place (O.Taken to) c h = (container-whole names w at v (drop place text) (remaining (drop to text)) (h .0), h .1)
 opened-at names w at v text place O.Mismatch c h = container-whole names w at v (drop place text) mismatch h
 opened-at names w at v text place (O.Fields to u) c h = (container-fields names w at v (drop place text) c (drop to text) u (h .2) (h .0), h .1)
-
-pub not-indirection : (k : ℕ) → isIndirection k ≡ false → (k ≡ 26 → ⊥) × (k ≡ 27 → ⊥)
-not-indirection k h = (λ e. false≢true (sym h ∙ ap isIndirection e), λ e. false≢true (sym h ∙ ap isIndirection e))
 
 -- An outcome on the whole text, lent as a slice of its own.
 pub lent-whole : (text : List ℕ) (r : X.Expected) (place : ℕ) (f : List ℕ → E.Expected)

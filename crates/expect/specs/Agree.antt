@@ -1,6 +1,6 @@
 -- What the walkers' outcomes say, against the definitions of tree against text (kinds, Expect). `w` is the words from the first node on.
 use Prim.Native.Nat.{ℕ, _+_, _-_, _≤_}
-use mathlib.Core.Bool.{Bool, cond, _||_}
+use mathlib.Core.Bool.{Bool, cond}
 use mathlib.Core.Path.{_≡_}
 use mathlib.Core.List.{List, _∷_, _++_}
 use lib.Dec.{leb, eqb}
@@ -9,7 +9,7 @@ use Rattle.kinds.specs.Byte.{byte, bytes}
 use Rattle.kinds.specs.Container.{endByte, prefixByte}
 use Rattle.kinds.specs.Expect as E
 use Rattle.kinds.specs.Expect.{remaining, mismatch, _then_, orElse, expectByte, expectBytes, expectNumber, expectPrimitive, expectFields, expectNode, expectEncoding}
-use Rattle.kinds.specs.Kind.{containerOf, insideKind}
+use Rattle.kinds.specs.Kind.{containerOf, isIndirection, insideKind}
 use Rattle.kinds.specs.Parse.{maxU64, maxU8}
 use Rattle.kinds.specs.Primitive.{code}
 use Rattle.kinds.specs.Sheet.{kindAt, secondAt, countAt, labelAt, trees}
@@ -72,9 +72,6 @@ OpenedIs text k u (O.Fields to v) q = ((inner : List ℕ → E.Expected) → q i
 -- The indirection of a kind word, 26 or 27.
 abbrev pub indirectionOf : ℕ → IndirectionKind
 indirectionOf k = cond (eqb k 26) Pointer Atomic
-
-abbrev pub isIndirection : ℕ → Bool
-isIndirection k = eqb k 26 || eqb k 27
 
 -- The codes of one byte that no other primitive is compared as, by kind; 0 for the other primitives.
 abbrev pub codeBytesByKind : List ℕ

@@ -6,13 +6,13 @@ ghost use lib.Dec.{eqb};
 ghost use lib.ListN.{length, drop};
 ghost use Rattle.kinds.specs.Expect.{_then_, expectByte, expectBytes, expectNumber, expectQuote, className, expectPrimitive, expectNode, expectEncoding, isEmpty, equivalentToStr};
 ghost use Rattle.kinds.specs.Expect as E;
-ghost use Rattle.kinds.specs.Kind.{containerOf};
+ghost use Rattle.kinds.specs.Kind.{containerOf, isIndirection};
 ghost use Rattle.kinds.specs.Parse.{container, maxU64, maxU8};
 ghost use Rattle.kinds.specs.Primitive.{codeBytes};
 ghost use Rattle.kinds.specs.Sheet.{kindAt, countAt, isContainerKind, labelAt, trees};
 ghost use Rattle.kinds.specs.Tree.{end, node, primitive, isEnd};
 ghost use Rattle.kinds.specs.Walk.{NodeAt, TreesAt, KindAndName, KindsAndNames};
-ghost use Rattle.expect.specs.Agree.{ExpectedIs, anyObject, expectLeaf, openingByte, opening, closing, afterName, InText, OpenedIs, isIndirection, codeByte, ownByte, levelAfter, OpenedAt};
+ghost use Rattle.expect.specs.Agree.{ExpectedIs, anyObject, expectLeaf, openingByte, opening, closing, afterName, InText, OpenedIs, codeByte, ownByte, levelAfter, OpenedAt};
 ghost use Rattle.expect.specs.Answer.{compared};
 use kinds::ARRAY;
 use kinds::ATOMIC;
@@ -30,6 +30,7 @@ use kinds::Refusal;
 use kinds::STRUCT;
 use kinds::TYPED_BIT_FIELD;
 use kinds::container_of;
+use kinds::is_indirection;
 use kinds::is_object;
 use kinds::primitive_code;
 use numbers::Number;
@@ -338,16 +339,6 @@ fn code_byte(kind: u64) -> u8
         return 0;
     }
     CODE_BYTES[kind as usize]
-}
-
-// Pointer and atomic.
-fn is_indirection(kind: u64) -> bool
-    ensures { λ r. ⌜ r ≡ isIndirection kind ⌝ }
-{
-    if kind == POINTER {
-        return true;
-    }
-    kind == ATOMIC
 }
 
 // The byte of a node of whose own text it is the whole: such a code, a pointer's or an atomic's. 0 for the others.

@@ -1,12 +1,12 @@
 -- What a kind word says of a node is what the node's label says.
 use Prim.Native.Nat.{ℕ, _≤_, _<_}
 use native.Mathlib.Omega.{arith}
-use mathlib.Core.Path.{_≡_, refl}
-use mathlib.Core.Bool.{Bool, true, false, cond}
+use mathlib.Core.Path.{_≡_, refl, ap, sym, _∙_, subst}
+use mathlib.Core.Bool.{Bool, true, false, cond, _||_, false≢true}
 use mathlib.Core.List.{List}
 use borrow.Author.Tests.{leb-true, leb-false, ne-eqb, eqb-true, eqb-false}
 use lib.Dec.{leb, eqb}
-use Rattle.kinds.specs.Kind.{insideKind, childrenLevel}
+use Rattle.kinds.specs.Kind.{isIndirection, insideKind, childrenLevel}
 use Rattle.kinds.specs.Level.{showsFields, containerIncludeFields}
 use Rattle.kinds.specs.Sheet.{label, isContainerKind}
 use Rattle.kinds.specs.Tree.{inside, shows}
@@ -74,6 +74,38 @@ container-kind k p q = go (eqb k 29) refl
     go : (t : Bool) → eqb k 29 ≡ t → isContainerKind k ≡ true
     go true e = rw (eqb-true k 29 e)
     go false e = rw (other (eqb-false k 29 e))
+
+-- Kinds 26 and 27.
+pub indirection-range : (k : ℕ) → isIndirection k ≡ true → (26 ≤ k) × (k ≤ 27)
+indirection-range k h = go (eqb k 26) refl (eqb k 27) refl h
+  where
+    go : (t : Bool) → eqb k 26 ≡ t → (u : Bool) → eqb k 27 ≡ u → (t || u) ≡ true → (26 ≤ k) × (k ≤ 27)
+    go true p u q r = let e = eqb-true k 26 p in (omega arith, omega arith)
+    go false p true q r = let e = eqb-true k 27 q in (omega arith, omega arith)
+    go false p false q r = absurd (false≢true r)
+
+pub not-indirection : (k : ℕ) → isIndirection k ≡ false → (k ≡ 26 → ⊥) × (k ≡ 27 → ⊥)
+not-indirection k h = (λ e. false≢true (sym h ∙ ap isIndirection e), λ e. false≢true (sym h ∙ ap isIndirection e))
+
+-- A kind that is neither a container's nor an indirection's keeps the level.
+pub inside-plain : (k : ℕ) (v : NestingLevel) → isContainerKind k ≡ false → isIndirection k ≡ false → insideKind k v ≡ v
+inside-plain k v c d = let n = not-indirection k d in sym (plain-inside k v (n .0) (n .1) (other 29 refl) (other 30 refl))
+  where
+    other : (j : ℕ) → isContainerKind j ≡ true → k ≡ j → ⊥
+    other j t e = false≢true (sym c ∙ ap isContainerKind e ∙ t)
+
+-- So do codes and bitfields.
+pub inside-low : (k : ℕ) (v : NestingLevel) → k < 26 → insideKind k v ≡ v
+inside-low k v h = sym (plain-inside k v (λ e. omega arith) (λ e. omega arith) (λ e. omega arith) (λ e. omega arith))
+
+-- Children at their parent's own level are shown.
+pub children-kept : (k : ℕ) (v : NestingLevel) → insideKind k v ≡ v → childrenLevel k v ≡ Included v
+unfolding insideKind childrenLevel
+children-kept k v h = go (isContainerKind k) refl
+  where
+    go : (t : Bool) → isContainerKind k ≡ t → childrenLevel k v ≡ Included v
+    go true e = rw e (subst (λ (u : NestingLevel). containerIncludeFields u ≡ Included u) (rw e at h) refl)
+    go false e = rw e (ap Included (rw e at h))
 
 -- Whether a container shows its fields, and at which level.
 pub dropped : (v : NestingLevel) → containerIncludeFields v ≡ Dropped → showsFields v ≡ false

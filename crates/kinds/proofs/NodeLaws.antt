@@ -11,7 +11,7 @@ use Rattle.kinds.specs.Tree as T
 use Rattle.kinds.specs.Tree.{end, primitive, bitField, typedBitField, pointer, atomic, array, struct, union, isEnd, kind, isContainer}
 use Rattle.kinds.specs.Sheet.{header, numbers, nextName, packed, isSheet, nodeWords, kindAt, firstAt, secondAt, countAt, label, isContainerKind, read, trees, arity, nests}
 use Rattle.kinds.specs.Walk.{NodeAt, TreesAt, KindAndName, KindsAndNames}
-use Rattle.kinds.proofs.SheetLaws.{Header, header-says, arity-one, nests-step, nests-zero, nests-over, nests-none, packed-first, packed-rest, container-first, container-fits}
+use Rattle.kinds.proofs.SheetLaws.{Header, header-says, arity-low, arity-one, nests-step, nests-zero, nests-over, nests-none, packed-first, packed-rest, container-first, container-fits}
 use Rattle.kinds.proofs.TableLaws.{both-left, both-right}
 
 module _ (w : List ℕ) (at : ℕ) (h : NodeAt w at) where
@@ -189,6 +189,9 @@ pub leaf-end : (s w : List ℕ) (at : ℕ) → NodeAt w at → arity (kindAt w a
 leaf-end s w at h e =
     let c = eqb-true (countAt w at) 1 (sym e ∙ node-arity w at h) in
     no-trees s w (countAt w at - 1) (at + 4) (omega arith)
+
+pub leaf-count : (w : List ℕ) (at : ℕ) → NodeAt w at → kindAt w at < 25 → countAt w at ≡ 1
+leaf-count w at h p = eqb-true (countAt w at) 1 (sym (arity-low (kindAt w at) (countAt w at) (countAt w (at + 4)) p) ∙ node-arity w at h)
 
 module _ (w : List ℕ) (m at n : ℕ) (h : KindsAndNames w m at n) where
   pub walk-here : 0 < n → KindAndName w m at

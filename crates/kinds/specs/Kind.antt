@@ -1,6 +1,6 @@
 -- What a node's kind word says of it by itself: which container it is, and the level of its children (01, "Levels").
 use Prim.Native.Nat.{ℕ}
-use mathlib.Core.Bool.{cond}
+use mathlib.Core.Bool.{Bool, cond, _||_}
 use lib.Dec.{eqb}
 use Rattle.kinds.specs.Level.{indirection, containerIncludeFields}
 use Rattle.kinds.specs.Sheet.{isContainerKind}
@@ -15,6 +15,10 @@ use Rattle.kinds.specs.declared.NestingLevel.the-variants.{Within}
 -- A container kind as the code's enum.
 abbrev pub containerOf : ℕ → ContainerKind
 containerOf k = cond (eqb k 29) Struct Union
+
+-- Pointer and atomic.
+abbrev pub isIndirection : ℕ → Bool
+isIndirection k = eqb k 26 || eqb k 27
 
 -- The level of the children of a node of kind `k`.
 unfoldable pub insideKind : ℕ → NestingLevel → NestingLevel

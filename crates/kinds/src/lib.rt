@@ -1,6 +1,6 @@
 // The types that helper.rs and parse.rs of the crate share with everything above them.
 ghost use mathlib.Core.Path.{_≡_};
-ghost use Rattle.kinds.specs.Kind.{containerOf, insideKind, childrenLevel};
+ghost use Rattle.kinds.specs.Kind.{containerOf, isIndirection, insideKind, childrenLevel};
 ghost use Rattle.kinds.specs.Level.{indirection, containerIncludeFields};
 ghost use Rattle.kinds.specs.Name.{isNameByte, verifyName};
 ghost use Rattle.kinds.specs.Primitive.{kindOf, codeBytes, code, isObject, equivalent, sizeOf, primitiveSize};
@@ -446,6 +446,16 @@ pub fn container_of(kind: u64) -> ContainerKind
         return ContainerKind::Struct;
     }
     ContainerKind::Union
+}
+
+// Pointer and atomic, by their kind words.
+pub fn is_indirection(kind: u64) -> bool
+    ensures { λ r. ⌜ r ≡ isIndirection kind ⌝ }
+{
+    if kind == POINTER {
+        return true;
+    }
+    kind == ATOMIC
 }
 
 // An ASCII letter, digit or underscore.

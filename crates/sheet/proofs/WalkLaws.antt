@@ -4,7 +4,7 @@ use native.Mathlib.Omega.{arith}
 use native.Mathlib.Numerals.{sub-one}
 use mathlib.Core.Path.{_≡_, refl, ap, ap₂, sym, _∙_}
 use mathlib.Core.List.{List}
-use mathlib.Core.Bool.{Bool, true, false, cond, _&&_, _||_, and-true, and-false, false≢true}
+use mathlib.Core.Bool.{Bool, true, false, cond, _&&_, and-true, and-false, false≢true}
 use borrow.Author.Tests.{le-leb, lt-leb, leb-true, leb-false, eq-eqb, ne-eqb, eqb-true}
 use lib.Dec.{leb, eqb}
 use lib.ListN.{take, drop}
@@ -67,14 +67,6 @@ node-code w n at p e h k =
     (sym (fits-leaf n (kindAt w at) (countAt w at) (countAt w (at + 4)) h (arity-low (kindAt w at) (countAt w at) (countAt w (at + 4)) (omega arith))))
 
 -- what is tested of a pointer or an atomic
-pub indirection-kind : (k : ℕ) → (eqb k 26 || eqb k 27) ≡ true → (26 ≤ k) × (k ≤ 27)
-indirection-kind k h = go (eqb k 26) refl (eqb k 27) refl h
-  where
-    go : (t : Bool) → eqb k 26 ≡ t → (u : Bool) → eqb k 27 ≡ u → (t || u) ≡ true → (26 ≤ k) × (k ≤ 27)
-    go true p u q r = let e = eqb-true k 26 p in (omega arith, omega arith)
-    go false p true q r = let e = eqb-true k 27 q in (omega arith, omega arith)
-    go false p false q r = absurd (false≢true r)
-
 pub node-indirection : (w : List ℕ) (n at p e : ℕ) → 26 ≤ kindAt w at → kindAt w at ≤ 27 → nodeFits w n at p e ≡ ((eqb (firstAt w at) 0 && eqb (secondAt w at) 0) && fits n (kindAt w at) (countAt w at) (countAt w (at + 4)))
 unfolding nodeFits
 node-indirection w n at p e lo hi =

@@ -2,7 +2,7 @@
 // nodes, and putting nodes and the header. Only here is it known where the nodes begin.
 ghost use Prim.Native.Nat.{ℕ, _+_, _-_, _*_, _≤_, _<_};
 ghost use mathlib.Core.Path.{_≡_};
-ghost use mathlib.Core.Bool.{true, false, _&&_, _||_};
+ghost use mathlib.Core.Bool.{true, false, _&&_};
 ghost use mathlib.Core.List.{[], _∷_};
 ghost use lib.Dec.{leb, eqb};
 ghost use lib.ListN.{length, take, drop};
@@ -13,16 +13,15 @@ ghost use Rattle.sheet.specs.Given.{Gives, GivesBoth};
 ghost use Rattle.sheet.specs.Put.{putNode, putHeader};
 ghost use Rattle.sheet.specs.Walked.{walked, fits, nodeFits, verdictOf, answer, LoneCode};
 use kinds::ARRAY;
-use kinds::ATOMIC;
 use kinds::BIT_FIELD;
 use kinds::MAX_NAMES;
 use kinds::MAX_NODES;
 use kinds::NONE;
-use kinds::POINTER;
 use kinds::PRIMITIVES;
 use kinds::Refusal;
 use kinds::TYPED_BIT_FIELD;
 use kinds::is_container;
+use kinds::is_indirection;
 use kinds::verify_name;
 
 // The most bits of a bitfield.
@@ -131,16 +130,6 @@ fn no_numbers(first: u64, second: u64) -> bool
         return false;
     }
     second == 0
-}
-
-// Pointer and atomic.
-fn is_indirection(kind: u64) -> bool
-    ensures { λ r. ⌜ r ≡ (eqb kind 26 || eqb kind 27) ⌝ }
-{
-    if kind == POINTER {
-        return true;
-    }
-    kind == ATOMIC
 }
 
 // Whether the node at `at`, no container, can stand first among the `left` nodes from there on. Codes and what points to others,

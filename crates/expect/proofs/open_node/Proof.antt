@@ -1,8 +1,9 @@
 use mathlib.Core.Path.{_∙_}
 use borrow.Author.Needs.{needs}
+use Rattle.kinds.proofs.KindLaws.{not-indirection}
 use Rattle.kinds.specs.Sheet.{kindAt, secondAt}
 use Rattle.expect.specs.Agree.{expectLeaf}
-use Rattle.expect.proofs.WalkLaws.{leaf-is, none-is, around-off, around-more, container-range, opened-at, not-indirection, lent-whole}
+use Rattle.expect.proofs.WalkLaws.{leaf-is, none-is, around-off, around-more, container-range, opened-at, lent-whole}
 use Rattle.expect.proofs.open_node.Statement.{statement}
 use Rattle.expect.proofs.open_node.Tie as tie
 

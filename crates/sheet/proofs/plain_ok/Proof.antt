@@ -1,8 +1,9 @@
 use native.Mathlib.Omega.{arith}
 use mathlib.Core.Path.{sym, _∙_}
+use Rattle.kinds.proofs.KindLaws.{indirection-range}
 use Rattle.sheet.specs.Walked.{nodeFits}
 use Rattle.sheet.proofs.TestLaws.{passed, failed}
-use Rattle.sheet.proofs.WalkLaws.{node-code, indirection-kind, node-indirection}
+use Rattle.sheet.proofs.WalkLaws.{node-code, node-indirection}
 use borrow.Author.Needs.{needs}
 use Rattle.sheet.proofs.plain_ok.Statement.{statement}
 use Rattle.sheet.proofs.plain_ok.Tie as tie
@@ -88,7 +89,7 @@ returns-3 c =
     let p1 = c .before in
     let p4 = p1 .before .before .before in
     let p5 = p4 .before in
-    λ p e. let k = indirection-kind _ (sym (p5 .is-indirection .ensures) ∙ p4 .if3 .taken) in
+    λ p e. let k = indirection-range _ (sym (p5 .is-indirection .ensures) ∙ p4 .if3 .taken) in
     sym (node-indirection _ _ _ p e (k .0) (k .1) ∙ rw (failed (p1 .no-numbers2 .ensures) (c .if4 .taken)))
 
 add-child-ok : tie.Need-add-child-ok
@@ -109,7 +110,7 @@ returns-4 c =
     let p3 = p2 .before in
     let p6 = p3 .before .before .before in
     let p7 = p6 .before in
-    λ p e. let k = indirection-kind _ (sym (p7 .is-indirection .ensures)
+    λ p e. let k = indirection-range _ (sym (p7 .is-indirection .ensures)
     ∙ p6 .if3 .taken) in
     sym (node-indirection _ _ _ p e (k .0) (k .1) ∙ rw (passed (p3 .no-numbers2 .ensures) (p2 .if4 .left)) (sym (c .child-ok .ensures _ (omega arith) (omega arith))))
 

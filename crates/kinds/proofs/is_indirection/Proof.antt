@@ -1,6 +1,6 @@
 use borrow.Author.Tests.{eq-eqb, ne-eqb}
-use Rattle.sheet.proofs.is_indirection.Statement.{statement}
-use Rattle.sheet.proofs.is_indirection.Tie as tie
+use Rattle.kinds.proofs.is_indirection.Statement.{statement}
+use Rattle.kinds.proofs.is_indirection.Tie as tie
 
 returns : tie.Need-returns
 returns c = simp (eq-eqb _ _ (c .if1 .taken))
