@@ -10,7 +10,7 @@ use Rattle.lines.proofs.front.Tie as tie
 slice-aggregate-result : tie.Need-slice-aggregate-result
 slice-aggregate-result c =
     let c2 = c .before .before in
-    sym (length-take-le (c2 .args .count) (c2 .args .s .now) (c .before .if1 .taken))
+    sym (length-take-le (c2 .args .count) (c2 .args .s .now) (omega arith))
 
 returns : tie.Need-returns
 returns c = front-is (c .before .before .args .s) _ _ refl
