@@ -7,21 +7,20 @@ use mathlib.Core.Logic.{_⊎_, inl, inr}
 use native.Mathlib.Omega.{arith}
 use lib.ListN.{getD}
 use lib.Dec.{leb, eqb}
-use borrow.Author.Tests.{ltb-true, leb-true, leb-false, eqb-true, eqb-false, eq-eqb, ne-eqb}
+use borrow.Author.Tests.{ltb-true, leb-true, leb-false, eqb-true, eqb-false, eq-eqb, ne-eqb, not-true}
 use Rattle.kinds.specs.Byte.{byte, bytes, among, sameBytes, isDigit}
 use Rattle.kinds.specs.Compare.{lengthOrOffset, bits, compareLabels, compareChildren, compareEncodings}
 use Rattle.kinds.specs.Expect.{Expected, remaining, mismatch, _then_, expectByte, expectBytes, expectNumber, expectPrimitive, expectNode, expectEncoding}
-use Rattle.kinds.specs.Parse.{noNumber, parseNumber, integral}
+use Rattle.kinds.specs.Parse.{parseNumber, integral}
 use Rattle.kinds.specs.Primitive.{codes, code, isObject, equivalent}
 use Rattle.kinds.specs.Print.{decimal, printNode, print}
 use Rattle.kinds.specs.Sound.{validCount}
 use Rattle.agreement.specs.Sound.{isNone, withoutNone, isCloser, closes, afterChildren, clearNode, clear}
 use Rattle.kinds.specs.Tree.{Label, Trees, end, node, primitive, bitField, typedBitField, pointer, atomic, array, struct, union, none, inside, shows, kind, name, isContainer, isEnd, isOne}
-use Rattle.kinds.specs.declared.ErrorKind.the-variants.{ExpectedInteger}
 use Rattle.kinds.specs.declared.NestingLevel.{NestingLevel}
-use Rattle.kinds.proofs.TableLaws.{both}
-use Rattle.agreement.proofs.ByteLaws.{not-false, Each, each, apart, every, passes, _also_}
-use Rattle.kinds.proofs.ParseLaws.{within-limit, beyond-limit}
+use Rattle.kinds.proofs.TableLaws.{both, Each}
+use Rattle.agreement.proofs.ByteLaws.{each, apart, every, passes, _also_}
+use Rattle.kinds.proofs.ParseLaws.{number-none, within-limit, beyond-limit}
 use Rattle.agreement.proofs.DigitLaws.{startsDigit, read-decimal}
 use Rattle.agreement.proofs.FitLaws.{fitLabel, fit, fit-parts}
 use Rattle.agreement.proofs.FollowLaws.{mayFollow}
@@ -92,7 +91,7 @@ unfolding isCloser
 no-closer test a b h = go (isCloser b) refl
   where
     go : (y : Bool) → isCloser b ≡ y → y ≡ false
-    go true e = absurd (false≢true (sym (not-false (test b) (passes (λ c. not (test c)) (bytes "]})") a b e)) ∙ h))
+    go true e = absurd (false≢true (sym (not-true (test b) (passes (λ c. not (test c)) (bytes "]})") a b e)) ∙ h))
     go false e = refl
 
 digit-stuck : (r t : List ℕ) → startsDigit t ≡ true → stuck r t ≡ true
@@ -113,7 +112,7 @@ stuck-on v (node l cs ts) ra rb (b ∷ t) g w h = go (isDigit b) refl (λ k. stu
     w' = both (not (isNone l)) (withoutNone ts) w
 
     o : isNone l ≡ false
-    o = not-false (isNone l) (w' .0)
+    o = not-true (isNone l) (w' .0)
 
     c : closes ((printNode l v (print (inside l v) cs) ++ print v ts) ++ ra) ≡ false
     c = rw append-assoc (node-opens l v (print (inside l v) cs) (print v ts ++ ra) (g' .0) o)
@@ -287,14 +286,10 @@ number-mismatch limit n m r d e = go (leb m limit) refl
     go true l = rw (read-decimal limit m r d ∙ within-limit limit m r (leb-true m limit l), expectNumber) (rw (eqb-swap n m e))
     go false l = rw (read-decimal limit m r d ∙ beyond-limit limit m r (leb-false m limit l), expectNumber)
 
-not-number : (limit : ℕ) (b : ℕ) (r : List ℕ) → startsDigit (b ∷ r) ≡ false → parseNumber limit (b ∷ r) ≡ noNumber ExpectedInteger (b ∷ r)
-unfolding parseNumber startsDigit
-not-number limit b r d = rw (d, parseNumber)
-
 pub no-number-mismatch : (limit n : ℕ) (r : List ℕ) → startsDigit r ≡ false → expectNumber limit n r ≡ mismatch
-unfolding expectNumber parseNumber
+unfolding expectNumber parseNumber startsDigit
 no-number-mismatch limit n [] d = refl
-no-number-mismatch limit n (b ∷ r) d = rw (not-number limit b r d, expectNumber)
+no-number-mismatch limit n (b ∷ r) d = rw (number-none limit b r d, expectNumber)
 
 pub node-ok : (v : NestingLevel) (l : Label) (cs ts : Trees) (r : List ℕ) → fit (node l cs ts) ≡ true → clear v (node l cs ts) r ≡ true → NodeOk l v cs (print v ts ++ r)
 node-ok v l cs ts r g c =

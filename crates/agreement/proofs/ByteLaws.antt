@@ -8,11 +8,7 @@ use lib.Dec.{eqb}
 use borrow.Author.Tests.{eqb-true, eqb-false, ne-eqb}
 use Rattle.kinds.specs.Byte.{byte, among}
 use Rattle.kinds.specs.Name.{isNameByte, allNameBytes, verifyName}
-use Rattle.kinds.proofs.TableLaws.{both}
-
-pub not-false : (a : Bool) → not a ≡ true → a ≡ false
-not-false true h = absurd (false≢true h)
-not-false false h = refl
+use Rattle.kinds.proofs.TableLaws.{both, Each}
 
 infixr 20 _also_
 infixl 20 _next_
@@ -36,11 +32,7 @@ below P (suc n) a i h = go (eqb i n) refl (λ k. below P n (a .0) i k)
     go true e rec = subst P (sym (eqb-true i n e)) (a .1)
     go false e rec = rec (omega (arith, eqb-false i n e))
 
--- A family over the members of a list.
-abbrev pub Each : (ℕ → Type 0) → List ℕ → Type 0
-Each P [] = Unit {0}
-Each P (x ∷ s) = P x × Each P s
-
+-- What holds of each member of a list holds of a byte among them.
 pub each : (P : ℕ → Type 0) (s : List ℕ) → Each P s → (b : ℕ) → among b s ≡ true → P b
 unfolding among
 each P [] a b h = absurd (false≢true h)

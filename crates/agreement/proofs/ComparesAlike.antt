@@ -4,6 +4,7 @@ use mathlib.Core.Path.{_≡_, refl, sym, subst}
 use mathlib.Core.List.{List, [], _∷_, _++_, append-assoc, append-nil}
 use mathlib.Core.Bool.{Bool, true, false, _&&_, _||_, not, false≢true, true≢false, and-assoc}
 use native.Mathlib.Omega.{arith}
+use borrow.Author.Tests.{not-true}
 use Rattle.kinds.specs.Byte.{among}
 use Rattle.kinds.specs.Compare.{lengthOrOffset, bits, compareLabels, compareChildren, compareEncodings, equivalentTo}
 use Rattle.kinds.specs.Expect.{Expected, remaining, mismatch, _then_, expectEncoding, isEmpty, equivalentToStr}
@@ -15,7 +16,6 @@ use Rattle.kinds.specs.declared.ContainerKind.the-variants.{Struct, Union}
 use Rattle.kinds.specs.declared.NestingLevel.{NestingLevel}
 use Rattle.kinds.specs.declared.NestingLevel.the-variants.{Top}
 use Rattle.kinds.proofs.TableLaws.{both}
-use Rattle.agreement.proofs.ByteLaws.{not-false}
 use Rattle.agreement.proofs.FitLaws.{fit, fit-parts, sound-parts}
 use Rattle.agreement.proofs.FollowLaws.{mayFollow, trees-follow}
 use Rattle.agreement.proofs.RoundTrip.{isNone-none, clear-parts}
@@ -62,7 +62,7 @@ fields-end (node l cs ts) v ra rb a c n q b d m p h = stuck-open ra (print v (no
 fields-node : (l : Label) (cs ts : Trees) → MatchOne l cs → MatchFields ts → MatchFields (node l cs ts)
 unfolding compareEncodings expectEncoding print withoutNone _then_ expectTree printTree compareTree
 fields-node l cs ts one fields end v ra rb a c n q b d m p h = missed ra rb (expectTree v l cs rb then (λ x. expectEncoding v ts x))
-    (rw (node-mismatch-closes l v (isEnd cs) (λ t. expectEncoding (inside l v) cs t) rb (fit-parts l cs ts a .0) (not-false (isNone l) (both (not (isNone l)) (withoutNone ts) n .0)) p))
+    (rw (node-mismatch-closes l v (isEnd cs) (λ t. expectEncoding (inside l v) cs t) rb (fit-parts l cs ts a .0) (not-true (isNone l) (both (not (isNone l)) (withoutNone ts) n .0)) p))
 fields-node l cs ts one fields (node k ds us) v ra rb a c n q b d m p h =
     let t = print v us ++ rb in
     let n' = both (not (isNone l)) (withoutNone ts) n .1 in

@@ -4,7 +4,7 @@ use mathlib.Core.Path.{_≡_, refl, ap}
 use mathlib.Core.List.{List, [], _∷_, _++_, append-assoc}
 use mathlib.Core.Bool.{Bool, true, false, _&&_, not}
 use lib.Dec.{eqb}
-use borrow.Author.Tests.{ltb-true}
+use borrow.Author.Tests.{ltb-true, not-true}
 use Rattle.kinds.specs.Byte.{byte, bytes, among, isDigit}
 use Rattle.kinds.specs.Container.{endByte}
 use Rattle.kinds.specs.Parse.{integral}
@@ -15,7 +15,7 @@ use Rattle.kinds.specs.declared.ContainerKind.{ContainerKind}
 use Rattle.kinds.specs.declared.ContainerKind.the-variants.{Struct, Union}
 use Rattle.kinds.specs.declared.NestingLevel.{NestingLevel}
 use Rattle.kinds.proofs.TableLaws.{both}
-use Rattle.agreement.proofs.ByteLaws.{not-false, below, every, passes}
+use Rattle.agreement.proofs.ByteLaws.{below, every, passes}
 use Rattle.agreement.proofs.DigitLaws.{startsDigit}
 use Rattle.agreement.proofs.FitLaws.{fitLabel, fit, fit-parts}
 
@@ -34,7 +34,7 @@ next-byte test e b r h = passes test nextBytes e b (both (among b nextBytes) (no
 pub no-digit : (r : List ℕ) → mayFollow r ≡ true → startsDigit r ≡ false
 unfolding startsDigit nextBytes every isDigit
 no-digit [] h = refl
-no-digit (b ∷ r) h = not-false (isDigit b) (next-byte (λ x. not (isDigit x)) refl b r h)
+no-digit (b ∷ r) h = not-true (isDigit b) (next-byte (λ x. not (isDigit x)) refl b r h)
 
 -- A bitfield's type and size begin here.
 unfoldable pub startsTyped : List ℕ → Bool
@@ -44,7 +44,7 @@ startsTyped (b ∷ r) = integral b && startsDigit r
 pub no-typed : (r : List ℕ) → mayFollow r ≡ true → startsTyped r ≡ false
 unfolding startsTyped mayFollow
 no-typed [] h = refl
-no-typed (b ∷ r) h = not-false (integral b && startsDigit r) (both (among b nextBytes) (not (integral b && startsDigit r)) h .1)
+no-typed (b ∷ r) h = not-true (integral b && startsDigit r) (both (among b nextBytes) (not (integral b && startsDigit r)) h .1)
 
 unfoldable pub startsQuote : List ℕ → Bool
 startsQuote [] = false
@@ -53,7 +53,7 @@ startsQuote (b ∷ r) = eqb b (byte "\"")
 pub no-quote : (r : List ℕ) → mayFollow r ≡ true → startsQuote r ≡ false
 unfolding startsQuote nextBytes every
 no-quote [] h = refl
-no-quote (b ∷ r) h = not-false (eqb b (byte "\"")) (next-byte (λ x. not (eqb x (byte "\""))) refl b r h)
+no-quote (b ∷ r) h = not-true (eqb b (byte "\"")) (next-byte (λ x. not (eqb x (byte "\""))) refl b r h)
 
 pub closer-follows : (k : ContainerKind) (r : List ℕ) → mayFollow (endByte k ∷ r) ≡ true
 unfolding mayFollow nextBytes among integral

@@ -6,7 +6,7 @@ use mathlib.Core.Bool.{Bool, true, false, _&&_, _||_, not, cond}
 use native.Mathlib.Omega.{arith}
 use lib.ListN.{length}
 use lib.Dec.{eqb}
-use borrow.Author.Tests.{leb-true, eqb-true}
+use borrow.Author.Tests.{leb-true, eqb-true, not-true}
 use Rattle.kinds.specs.Byte.{byte, among, sameBytes}
 use Rattle.kinds.specs.Compare.{lengthOrOffset, bits, compareLabels, compareChildren, compareEncodings}
 use Rattle.kinds.specs.Container.{endByte, startByte}
@@ -24,7 +24,7 @@ use Rattle.kinds.specs.declared.ContainerKind.the-variants.{Struct, Union}
 use Rattle.kinds.specs.declared.NestingLevel.{NestingLevel}
 use Rattle.kinds.specs.declared.NestingLevel.the-variants.{Top, Within, Bottom}
 use Rattle.kinds.proofs.TableLaws.{both}
-use Rattle.agreement.proofs.ByteLaws.{not-false, apart, lacks}
+use Rattle.agreement.proofs.ByteLaws.{apart, lacks}
 use Rattle.agreement.proofs.DigitLaws.{startsDigit}
 use Rattle.agreement.proofs.FitLaws.{fitLabel, fit, fit-parts}
 use Rattle.agreement.proofs.FollowLaws.{mayFollow, no-digit, closer-follows, bracket-follows, trees-follow}
@@ -72,8 +72,8 @@ then-then mismatch f g = refl
 names-match : (c : ℕ) (s t u : List ℕ) → lacks c s ≡ true → lacks c t ≡ true → (expectBytes s (t ++ (c ∷ u)) then (λ x. expectByte c x)) ≡ cond (sameBytes s t) (remaining u) mismatch
 unfolding lacks expectBytes _then_ sameBytes
 names-match c [] [] u a b = byte-matches c u
-names-match c [] (y ∷ t) u a b = byte-mismatch c y (t ++ (c ∷ u)) (not-false (eqb y c) (both (not (eqb y c)) (lacks c t) b .0))
-names-match c (x ∷ s) [] u a b = rw (byte-mismatch x c u (eqb-swap x c (not-false (eqb x c) (both (not (eqb x c)) (lacks c s) a .0))))
+names-match c [] (y ∷ t) u a b = byte-mismatch c y (t ++ (c ∷ u)) (not-true (eqb y c) (both (not (eqb y c)) (lacks c t) b .0))
+names-match c (x ∷ s) [] u a b = rw (byte-mismatch x c u (eqb-swap x c (not-true (eqb x c) (both (not (eqb x c)) (lacks c s) a .0))))
 names-match c (x ∷ s) (y ∷ t) u a b = go (eqb x y) refl (names-match c s t u (both (not (eqb x c)) (lacks c s) a .1) (both (not (eqb y c)) (lacks c t) b .1))
   where
     go : (z : Bool) → eqb x y ≡ z → (expectBytes s (t ++ (c ∷ u)) then (λ w. expectByte c w)) ≡ cond (sameBytes s t) (remaining u) mismatch
@@ -110,7 +110,7 @@ skip-fields k ds r g c w =
 
 pub trees-open : (v : NestingLevel) (m : Label) (ds us : Trees) (r : List ℕ) → fit (node m ds us) ≡ true → withoutNone (node m ds us) ≡ true → closes (print v (node m ds us) ++ r) ≡ false
 unfolding print withoutNone
-trees-open v m ds us r g w = rw append-assoc (node-opens m v (print (inside m v) ds) (print v us ++ r) (fit-parts m ds us g .0) (not-false (isNone m) (both (not (isNone m)) (withoutNone us) w .0)))
+trees-open v m ds us r g w = rw append-assoc (node-opens m v (print (inside m v) ds) (print v us ++ r) (fit-parts m ds us g .0) (not-true (isNone m) (both (not (isNone m)) (withoutNone us) w .0)))
 
 fields-pair : (k : ContainerKind) (cs : Trees) → MatchFields cs → (ds : Trees) (ra rb : List ℕ) → fit cs ≡ true → (withoutNone cs && clear Within cs (endByte k ∷ ra)) ≡ true → fit ds ≡ true
     → (withoutNone ds && clear Within ds (endByte k ∷ rb)) ≡ true

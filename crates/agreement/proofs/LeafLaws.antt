@@ -5,7 +5,7 @@ use mathlib.Core.List.{List, [], _∷_, _++_}
 use mathlib.Core.Bool.{Bool, true, false, _&&_, _||_, not, and-false, and-true, or-true}
 use native.Mathlib.Omega.{arith}
 use lib.Dec.{leb, ltb, eqb}
-use borrow.Author.Tests.{ltb-true, leb-true, eqb-true, eq-eqb, ne-eqb}
+use borrow.Author.Tests.{ltb-true, leb-true, eqb-true, eq-eqb, ne-eqb, not-true}
 use Rattle.kinds.specs.Byte.{byte, bytes, among, sameBytes, isDigit}
 use Rattle.kinds.specs.Compare.{lengthOrOffset, bits, compareLabels, compareChildren, compareEncodings}
 use Rattle.kinds.specs.Expect.{Expected, remaining, mismatch, _then_, expectByte, expectBytes, orElse, expectNumber, className, expectPrimitive, expectNode, expectEncoding}
@@ -18,7 +18,7 @@ use Rattle.kinds.specs.Tree.{Trees, end, node, primitive, bitField, typedBitFie
 use Rattle.kinds.specs.declared.NestingLevel.{NestingLevel}
 use Rattle.kinds.specs.declared.NestingLevel.the-variants.{Top}
 use Rattle.kinds.proofs.TableLaws.{both}
-use Rattle.agreement.proofs.ByteLaws.{not-false, each, every, passes, _also_}
+use Rattle.agreement.proofs.ByteLaws.{each, every, passes, _also_}
 use Rattle.agreement.proofs.DigitLaws.{startsDigit, decimal-start}
 use Rattle.agreement.proofs.FitLaws.{fitLabel}
 use Rattle.agreement.proofs.FollowLaws.{mayFollow, no-digit, startsTyped, no-typed, startsQuote, no-quote}
@@ -118,7 +118,7 @@ integral-opening p a = each (λ q. sameOpening q ≡ q ∷ []) integrals (refl, 
 
 integral-not-object : (p : ℕ) → among p integrals ≡ true → isObject p ≡ false
 unfolding integrals every among isObject
-integral-not-object p a = not-false (isObject p) (passes (λ x. not (isObject x)) integrals refl p a)
+integral-not-object p a = not-true (isObject p) (passes (λ x. not (isObject x)) integrals refl p a)
 
 other-integral : (p q : ℕ) → among p integrals ≡ true → eqb p q ≡ false → among q (sameOpening p) ≡ false
 unfolding among
@@ -199,7 +199,7 @@ object-text : (r : List ℕ) (q : ℕ) → among q (20 ∷ 19 ∷ 21 ∷ []) ≡
 unfolding code codes expectBytes expectByte _then_ orElse
 object-text r q a = each (λ x. not (eqb x 19 && unknownNext r) ≡ true
     → orElse (expectBytes (code 20) (code x ++ r)) (orElse (expectBytes (code 19) (code x ++ r)) (expectBytes (code 21) (code x ++ r))) ≡ remaining r) (20 ∷ 19 ∷ 21 ∷ [])
-    ((λ h. refl), ((λ h. rw (not-block r (not-false (unknownNext r) h))), ((λ h. refl), tt))) q a
+    ((λ h. refl), ((λ h. rw (not-block r (not-true (unknownNext r) h))), ((λ h. refl), tt))) q a
 
 expect-object : (p q : ℕ) (r : List ℕ) → isObject p ≡ true → among q (20 ∷ 19 ∷ 21 ∷ []) ≡ true → not (eqb q 19 && unknownNext r) ≡ true → startsQuote r ≡ false → expectPrimitive p (code q ++ r) ≡ remaining r
 unfolding expectPrimitive _then_

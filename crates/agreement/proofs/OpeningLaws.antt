@@ -6,7 +6,7 @@ use mathlib.Core.Bool.{Bool, true, false, _&&_, _||_, not, cond, false≢true, t
 use native.Mathlib.Omega.{arith}
 use lib.ListN.{getD}
 use lib.Dec.{eqb}
-use borrow.Author.Tests.{ltb-true, eq-eqb}
+use borrow.Author.Tests.{ltb-true, eq-eqb, not-true}
 use Rattle.kinds.specs.Byte.{byte, bytes, among, sameBytes, isDigit}
 use Rattle.kinds.specs.Expect.{Expected, remaining, mismatch, _then_, expectByte, expectBytes, orElse, expectPrimitive, expectNode}
 use Rattle.kinds.specs.Parse.{integral}
@@ -16,7 +16,7 @@ use Rattle.agreement.specs.Sound.{isNone, isCloser, closes}
 use Rattle.kinds.specs.Tree.{Label, primitive, bitField, typedBitField, pointer, atomic, array, struct, union, none, kind}
 use Rattle.kinds.specs.declared.NestingLevel.{NestingLevel}
 use Rattle.kinds.proofs.TableLaws.{both, everyBelow, passBelow, same-bytes}
-use Rattle.agreement.proofs.ByteLaws.{not-false, apart, every, passes}
+use Rattle.agreement.proofs.ByteLaws.{apart, every, passes}
 use Rattle.agreement.proofs.FitLaws.{fitLabel}
 use Rattle.agreement.proofs.RoundTrip.{integrals}
 
@@ -64,7 +64,7 @@ pub unlike : (k j : ℕ) → k < 31 → j < 31 → among j (sameOpening k) ≡ f
 unfolding distinct
 unlike k j a b s =
     let t = both (not (equivalent k j)) (every (λ i. differing (opening i) (opening j)) (tried k)) (rw s at (passBelow (distinct k) 31 (passBelow (λ x. everyBelow (distinct x) 31) 31 all-distinct k a) j b)) in
-    (not-false (equivalent k j) (t .0), t .1)
+    (not-true (equivalent k j) (t .0), t .1)
 
 pub kind-bound : (l : Label) → fitLabel l ≡ true → isNone l ≡ false → kind l < 31
 unfolding kind fitLabel isNone
@@ -162,7 +162,7 @@ byte-matches c s = rw (eq-eqb c c refl, expectByte)
 head-mismatch : (test : ℕ → Bool) (s : List ℕ) → headFails test s ≡ true → (b : ℕ) (t : List ℕ) → test b ≡ true → expectBytes s (b ∷ t) ≡ mismatch
 unfolding headFails expectBytes _then_
 head-mismatch test [] h b t k = absurd (false≢true h)
-head-mismatch test (x ∷ s) h b t k = rw (byte-mismatch x b t (apart test b x k (not-false (test x) h)))
+head-mismatch test (x ∷ s) h b t k = rw (byte-mismatch x b t (apart test b x k (not-true (test x) h)))
 
 head-mismatch-end : (test : ℕ → Bool) (s : List ℕ) → headFails test s ≡ true → expectBytes s [] ≡ mismatch
 unfolding headFails expectBytes expectByte _then_
@@ -204,7 +204,7 @@ opening-closer k h = passBelow (λ j. headFails isCloser (opening j)) 31 refl k 
 head-closes : (s u : List ℕ) → headFails isCloser s ≡ true → closes (s ++ u) ≡ false
 unfolding headFails closes
 head-closes [] u h = absurd (false≢true h)
-head-closes (x ∷ s) u h = not-false (isCloser x) h
+head-closes (x ∷ s) u h = not-true (isCloser x) h
 
 -- Its print does not begin with a closer.
 pub node-opens : (l : Label) (v : NestingLevel) (c r : List ℕ) → fitLabel l ≡ true → isNone l ≡ false → closes (printNode l v c ++ r) ≡ false

@@ -6,6 +6,7 @@ use mathlib.Core.Bool.{Bool, true, false, not, false≢true}
 use mathlib.Core.Logic.{_↔_}
 use native.Mathlib.Omega.{arith}
 use lib.ListN.{length}
+use borrow.Author.Tests.{not-true}
 use Rattle.kinds.specs.Byte.{among}
 use Rattle.kinds.specs.Parse.{encoded, encodingOrNone, parseEncodingOrNone, parseInner, parse, qualifiers, isQualifier, stripLeadingQualifiers, fromStr, whole}
 use Rattle.kinds.specs.Print.{printNode, print}
@@ -13,7 +14,7 @@ use Rattle.agreement.specs.Sound.{isNone, clear, sound}
 use Rattle.kinds.specs.Tree.{Label, Trees, end, node, none, inside, shows, keep, shown, isEnd, isOne}
 use Rattle.kinds.specs.declared.NestingLevel.the-variants.{Top}
 use Rattle.agreement.specs.ReadTree.{trees, readTree}
-use Rattle.agreement.proofs.ByteLaws.{not-false, every}
+use Rattle.agreement.proofs.ByteLaws.{every}
 use Rattle.agreement.proofs.FitLaws.{fit, fit-parts, sound-parts}
 use Rattle.agreement.proofs.ShownLaws.{print-shown}
 use Rattle.agreement.proofs.FollowLaws.{nextBytes, mayFollow, next-byte, trees-follow}
@@ -23,7 +24,7 @@ use Rattle.agreement.proofs.RoundTrip.{isNone-none, clear-parts, none-p
 not-qualified : (s : List ℕ) → mayFollow s ≡ true → stripLeadingQualifiers s ≡ s
 unfolding stripLeadingQualifiers isQualifier qualifiers nextBytes every among
 not-qualified [] h = refl
-not-qualified (b ∷ s) h = rw (not-false (isQualifier b) (next-byte (λ x. not (isQualifier x)) refl b s h), stripLeadingQualifiers)
+not-qualified (b ∷ s) h = rw (not-true (isQualifier b) (next-byte (λ x. not (isQualifier x)) refl b s h), stripLeadingQualifiers)
 
 pub unqualified : (t : Trees) → fit t ≡ true → stripLeadingQualifiers (print Top t) ≡ print Top t
 unfolding mayFollow

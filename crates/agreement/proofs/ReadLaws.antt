@@ -3,7 +3,7 @@ use Prim.Native.Nat.{ℕ, zero, suc, _+_, _*_, _-_, _≤_, _<_}
 use native.Mathlib.Omega.{arith}
 use mathlib.Core.Path.{_≡_, refl, ap, subst}
 use mathlib.Core.List.{List, [], _∷_, _++_}
-use mathlib.Core.Bool.{Bool, true, false, _&&_, false≢true}
+use mathlib.Core.Bool.{Bool, true, false, _&&_}
 use lib.Dec.{leb, ltb, eqb}
 use lib.ListN.{length, length-append}
 use Rattle.kinds.specs.Byte.{byte, isDigit}
@@ -13,7 +13,7 @@ use Rattle.kinds.specs.Parse as P
 use Rattle.kinds.specs.Parse.{container, maxU64, maxU8, Number, value, noNumber, moreDigits, bounded, parseNumber, Parsed, empty, encoding, containerEnd, arrayEnd, refused, Items}
 use Rattle.kinds.specs.Parse.{items, itemsRefused, Start, single, complex, object, bits, indirection, openArray, closeArray, openContainer, closeContainer, nothing, singles}
 use Rattle.kinds.specs.Parse.{others, inOthers, inSingles, start, leaf, parseComplex, parseQuoted, parseObject, integral, singleKind, typed, untyped, parseBitField, parseBits}
-use Rattle.kinds.specs.Parse.{Named, named, unnamed, checkName, parseName, held, closeItem, item, contained, addItem, begin, nextItem, parseInner, parseItems, parse, isQualifier}
+use Rattle.kinds.specs.Parse.{Named, named, unnamed, checkName, parseName, held, closeItem, item, contained, addItem, begin, nextItem, parseInner, parseItems, parse}
 use Rattle.kinds.specs.Parse.{stripLeadingQualifiers, Encoded, encoded, notEncoded, encodingOrNone, parseEncodingOrNone, Whole, tree, whole, fromStr, FromStart, treeThen}
 use Rattle.kinds.specs.Parse.{unknownDigit, fromStart, fromStartOfStr}
 use Rattle.kinds.specs.Sheet.{namesOf}
@@ -21,6 +21,8 @@ use Rattle.kinds.specs.Sound.{validLabel, validCount, valid, goodName, goodName
 use Rattle.kinds.specs.Tree.{Label, Trees, end, node, primitive, bitField, pointer, atomic, array, none, isEnd, isOne, count, name}
 use Rattle.kinds.specs.declared.ContainerKind.{ContainerKind}
 use Rattle.kinds.specs.declared.ContainerKind.the-variants.{Struct, Union}
+use Rattle.kinds.proofs.NameLaws.{name-some}
+use Rattle.kinds.proofs.ParseLaws.{strip-shorter}
 use Rattle.agreement.specs.Readable.{Readable}
 
 -- ---- What a byte begins.
@@ -207,11 +209,6 @@ name-ok k (b ∷ s) m n h = go (eqb b (byte "=")) refl (eqb b (endByte k)) refl 
     go true e y f r = rw (e, parseName) (check-ok k m (b ∷ s) s n (omega arith))
     go false e true f r = rw (e, parseName) (rw f (check-ok k m (b ∷ s) (b ∷ s) n h))
     go false e false f r = rw (e, parseName) (rw f (r (omega (arith, length-append m (b ∷ [])))))
-
-some-name : (m : List ℕ) → verifyName m ≡ true → 1 ≤ length m
-unfolding verifyName
-some-name [] h = absurd (false≢true h)
-some-name (b ∷ m) h = omega arith
 
 -- ---- What is read of a text `s`, and what is left of it.
 
@@ -412,7 +409,7 @@ module _ (b : ℕ) (s : List ℕ) (o : opens (b ∷ s) ≡ 1) where
   unfolding contained
   contained-found k m u g h (items ts t) w =
       let c = container-ok k m ts g in
-      let n = some-name m g in
+      let n = name-some m g in
       let e = ap length (c .2) in
       record {
         node-ok = c .0;
@@ -499,15 +496,6 @@ mutual
 
 -- ---- The two readings.
 
-strip-length : (s : List ℕ) → length (stripLeadingQualifiers s) ≤ length s
-unfolding stripLeadingQualifiers
-strip-length [] = omega arith
-strip-length (b ∷ s) = go (isQualifier b) refl (strip-length s)
-  where
-    go : (t : Bool) → isQualifier b ≡ t → length (stripLeadingQualifiers s) ≤ length s → length (stripLeadingQualifiers (b ∷ s)) ≤ length (b ∷ s)
-    go true e r = rw (e, stripLeadingQualifiers) (omega arith)
-    go false e r = rw (e, stripLeadingQualifiers) (omega arith)
-
 abbrev EncodedOk : ℕ → Encoded → Type 0
 EncodedOk n (encoded l cs t) = Readable n (node l cs end)
 EncodedOk n (notEncoded e t) = Unit {0}
@@ -534,7 +522,7 @@ encoded-ok : (text : List ℕ) → EncodedOk (length text) (parseEncodingOrNone 
 unfolding parseEncodingOrNone parse
 encoded-ok text =
     let s = stripLeadingQualifiers text in
-    or-none (length text) s (strip-length text) (parseInner (length s + length s) s) (well (length s + length s) s (omega arith))
+    or-none (length text) s (strip-shorter text) (parseInner (length s + length s) s) (well (length s + length s) s (omega arith))
 
 abbrev WholeOk : ℕ → Whole → Type 0
 WholeOk n (tree l cs) = Readable n (node l cs end)

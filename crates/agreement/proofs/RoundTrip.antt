@@ -6,7 +6,7 @@ use mathlib.Core.Bool.{Bool, true, false, _&&_, not, cond, false≢true, true≢
 use native.Mathlib.Omega.{arith}
 use lib.ListN.{length, length-append}
 use lib.Dec.{leb, eqb}
-use borrow.Author.Tests.{ltb-true, leb-true, le-leb}
+use borrow.Author.Tests.{ltb-true, leb-true, le-leb, not-true}
 use Rattle.kinds.specs.Byte.{byte, bytes, among, isDigit}
 use Rattle.kinds.specs.Container.{startByte, endByte}
 use Rattle.kinds.specs.Level.{showsFields}
@@ -24,8 +24,8 @@ use Rattle.kinds.specs.declared.ContainerKind.the-variants.{Struct, Union}
 use Rattle.kinds.specs.declared.NestingLevel.{NestingLevel}
 use Rattle.kinds.specs.declared.NestingLevel.the-variants.{Top, Within, Bottom}
 use Rattle.kinds.proofs.TableLaws.{both}
-use Rattle.agreement.proofs.ByteLaws.{not-false, below, each, lacks, name-lacks, _also_, _next_}
-use Rattle.kinds.proofs.ParseLaws.{within-limit}
+use Rattle.agreement.proofs.ByteLaws.{below, each, lacks, name-lacks, _also_, _next_}
+use Rattle.kinds.proofs.ParseLaws.{within-limit, name-checked}
 use Rattle.agreement.proofs.DigitLaws.{startsDigit, decimal-start, read-decimal}
 use Rattle.agreement.proofs.FitLaws.{fitLabel, fit, fit-parts}
 use Rattle.agreement.proofs.FollowLaws.{mayFollow, no-digit, startsTyped, no-typed, startsQuote, no-quote, closer-follows, bracket-follows, trees-follow}
@@ -41,7 +41,7 @@ read-primitive f r h p l =
     below (λ q. not (eqb q 19 && unknownNext r) ≡ true → parseInner (suc f) (code q ++ r) ≡ encoding (primitive q) end r) 24
     (tt next (λ _. refl) next (λ _. refl) next (λ _. refl) next (λ _. refl) next (λ _. refl) next (λ _. refl) next (λ _. refl) next (λ _. refl) next (λ _. refl) next (λ _. refl)
     next (λ _. refl) next (λ _. refl) next (λ _. refl) next (λ _. refl) next (λ _. refl) next (λ _. refl) next (λ _. refl) next (λ _. refl) next (λ _. refl)
-    next (λ u. plain-object r (not-false (unknownNext r) u) (no-quote r h)) next (λ _. refl) next (λ _. refl) next (λ _. refl) next (λ _. refl))
+    next (λ u. plain-object r (not-true (unknownNext r) u) (no-quote r h)) next (λ _. refl) next (λ _. refl) next (λ _. refl) next (λ _. refl))
     p
     l
 
@@ -138,7 +138,7 @@ name-until k acc [] u a b = rw append-nil
 name-until k acc (x ∷ s) u a b =
     let a' = both (not (eqb x (byte "="))) (lacks (byte "=") s) a in
     let b' = both (not (eqb x (endByte k))) (lacks (endByte k) s) b in
-    rw (not-false (eqb x (byte "=")) (a' .0), not-false (eqb x (endByte k)) (b' .0), parseName) (name-until k (acc ++ (x ∷ [])) s u (a' .1) (b' .1) ∙ ap (λ y. checkName k y (byte "=" ∷ u) u) (append-assoc acc (x ∷ []) s))
+    rw (not-true (eqb x (byte "=")) (a' .0), not-true (eqb x (endByte k)) (b' .0), parseName) (name-until k (acc ++ (x ∷ [])) s u (a' .1) (b' .1) ∙ ap (λ y. checkName k y (byte "=" ∷ u) u) (append-assoc acc (x ∷ []) s))
 
 name-end : (k : ContainerKind) (acc u : List ℕ) → parseName k acc (endByte k ∷ u) ≡ checkName k acc (endByte k ∷ u) (endByte k ∷ u)
 unfolding parseName
@@ -151,12 +151,8 @@ name-only k acc [] u a b = name-end k acc u ∙ ap (λ y. checkName k y (endByte
 name-only k acc (x ∷ s) u a b =
     let a' = both (not (eqb x (byte "="))) (lacks (byte "=") s) a in
     let b' = both (not (eqb x (endByte k))) (lacks (endByte k) s) b in
-    rw (not-false (eqb x (byte "=")) (a' .0), not-false (eqb x (endByte k)) (b' .0), parseName)
+    rw (not-true (eqb x (byte "=")) (a' .0), not-true (eqb x (endByte k)) (b' .0), parseName)
     (name-only k (acc ++ (x ∷ [])) s u (a' .1) (b' .1) ∙ ap (λ y. checkName k y (endByte k ∷ u) (endByte k ∷ u)) (append-assoc acc (x ∷ []) s))
-
-name-checked : (k : ContainerKind) (s here rest : List ℕ) → verifyName s ≡ true → checkName k s here rest ≡ named s rest
-unfolding checkName
-name-checked k s here rest g = rw (g, checkName)
 
 pub lacks-equals : (s : List ℕ) → verifyName s ≡ true → lacks (byte "=") s ≡ true
 unfolding isNameByte isDigit
@@ -385,7 +381,7 @@ fields-read-node l cs ts one many v k r (suc f) g c w n =
     let g' = fit-parts l cs ts g in
     let c' = clear-parts v l cs ts (endByte k ∷ r) c in
     let w' = both (not (isNone l)) (withoutNone ts) w in
-    let o = not-false (isNone l) (w' .0) in
+    let o = not-true (isNone l) (w' .0) in
     let m = trees-follow v ts (endByte k ∷ r) (g' .3) (closer-follows k r) in
     rw (append-assoc p (print v ts) (endByte k ∷ r), one v t f (g' .0) (g' .1) (g' .2) (c' .0) o m (omega arith), many v k r f (g' .3) (c' .1) (w' .1) (omega (arith, node-length l v (print (inside l v) cs) t (g' .0) o)))
 

@@ -13,16 +13,16 @@ use Rattle.kinds.specs.Byte.{among, sameBytes}
 use Rattle.kinds.specs.Compare.{compareEncodings, compareLabels, compareChildren, lengthOrOffset, bits, levelFor}
 use Rattle.kinds.specs.Level.{showsFields, containerIncludeFields}
 use Rattle.kinds.specs.Primitive.{isObject, equivalent}
-use Rattle.kinds.specs.Sheet.{kindAt, firstAt, secondAt, countAt, labelAt, label, isContainerKind, read, trees, nests, arity}
+use Rattle.kinds.specs.Sheet.{kindAt, firstAt, secondAt, countAt, labelAt, label, isContainerKind, read, trees, nests}
 use Rattle.kinds.specs.Tree.{Label, Trees, end, node, isEnd, kind, name, isContainer, inside, shows}
 use Rattle.kinds.specs.Walk.{NodeAt, TreesAt, KindsAndNames}
 use Rattle.kinds.specs.declared.Fields.the-variants.{Included, Dropped}
 use Rattle.kinds.specs.declared.NestingLevel.{NestingLevel}
 use Rattle.kinds.specs.declared.NestingLevel.the-variants.{Top, Within, Bottom}
 use Rattle.kinds.proofs.KindLaws.{inside-kind, included, dropped}
-use Rattle.kinds.proofs.SheetLaws.{arity-low, arity-high, nests-none, trees-step}
+use Rattle.kinds.proofs.SheetLaws.{nests-none, trees-step}
 use Rattle.kinds.proofs.TableLaws.{both-left}
-use Rattle.kinds.proofs.NodeLaws.{node-arity, node-child, node-inner, child-count, first-some, first-within, first-node, other-trees, label-primitive, label-struct, label-union, by-kind, kind-label}
+use Rattle.kinds.proofs.NodeLaws.{leaf-count, none-count, node-child, node-inner, child-count, first-some, first-within, first-node, other-trees, label-primitive, label-struct, label-union, by-kind, kind-label}
 use Rattle.kinds.proofs.NodeLaws.{container-label, no-trees, some-trees, walk-here, walk-inner, walk-rest, held-trees}
 use Rattle.helper.specs.Measure.{compareFields, shownCount, levelAfter}
 
@@ -139,21 +139,12 @@ module _ (s w : List ℕ) (at : ℕ) (s' w' : List ℕ) (bt : ℕ) where
 
 -- The nodes after one that is no container: what it holds, or the trees after it.
 module _ (w : List ℕ) (at n : ℕ) (h : TreesAt w at n) (p : 0 < n) (plain : isContainerKind (kindAt w at) ≡ false) where
-  pub leaf-count : (kindAt w at < 25 → countAt w at ≡ 1) × (28 < kindAt w at → countAt w at ≡ 1)
-  leaf-count = (
-    λ q. eqb-true (countAt w at) 1 (sym (arity-low (kindAt w at) (countAt w at) (countAt w (at + 4)) q) ∙ node-arity w at (first-node w at n h p)),
-    λ q. eqb-true (countAt w at) 1 (sym (arity-high (kindAt w at) (countAt w at) (countAt w (at + 4)) q plain) ∙ node-arity w at (first-node w at n h p)),
-  )
-
   module _ (lo : 25 ≤ kindAt w at) (hi : kindAt w at ≤ 28) where
     held : NodeAt w (at + 4)
     held = node-child w at (first-node w at n h p) lo hi
 
     held-count : countAt w at ≡ countAt w (at + 4) + 1
     held-count = child-count w at (first-node w at n h p) lo hi
-
-    held-arity : arity (kindAt w (at + 4)) (countAt w (at + 4)) (countAt w (at + 4 + 4)) ≡ true
-    held-arity = node-arity w (at + 4) held
 
     -- the trees from the held one on have those after the node at their end
     pub held-then : (s : List ℕ) → trees s w (n - 1) (at + 4) ≡ node (labelAt s w (at + 4)) (trees s w (countAt w (at + 4) - 1) (at + 4 + 4)) (trees s w (n - countAt w at) (at + 4 * countAt w at))
@@ -180,8 +171,8 @@ module _ (w : List ℕ) (at n : ℕ) (h : TreesAt w at n) (p : 0 < n) (plain : i
 
       go : (t : Bool) → leb 25 (kindAt w at) ≡ t → (u : Bool) → leb (kindAt w at) 28 ≡ u → TreesAt w (at + 4) (n - 1)
       go true e true d = held-trees w at n h p (leb-true 25 (kindAt w at) e) (leb-true (kindAt w at) 28 d)
-      go true e false d = alone (leaf-count .1 (leb-false (kindAt w at) 28 d))
-      go false e u d = alone (leaf-count .0 (leb-false 25 (kindAt w at) e))
+      go true e false d = alone (none-count w at (first-node w at n h p) (leb-false (kindAt w at) 28 d) plain)
+      go false e u d = alone (leaf-count w at (first-node w at n h p) (leb-false 25 (kindAt w at) e))
 
 -- ---- The walk over trees side by side.
 
@@ -326,7 +317,7 @@ module _ (all : Bool) (here v : NestingLevel) (s w s' w' : List ℕ) (n m at bt 
               ∙ sym (ap₂ (resume all (inside (labelAt s w at) (levelFor all here)) v) (held-then w at n g p c lo hi s) (held-then w' bt m h q c' lo' hi' s'))
 
         leaf-low : kindAt w at < 25 → countAt w' bt ≡ 1
-        leaf-low lo = eqb-true (countAt w' bt) 1 (sym (arity-low (kindAt w' bt) (countAt w' bt) (countAt w' (bt + 4)) low) ∙ node-arity w' bt (first-node w' bt m h q))
+        leaf-low lo = leaf-count w' bt (first-node w' bt m h q) low
           where
             low : kindAt w' bt < 25
             low = go (leb 24 (kindAt w at)) refl
@@ -336,7 +327,7 @@ module _ (all : Bool) (here v : NestingLevel) (s w s' w' : List ℕ) (n m at bt 
                 go false i = let k = low-partner (kindAt w at) (kindAt w' bt) twin (leb-false 24 (kindAt w at) i) in omega arith
 
         leaf-high : 28 < kindAt w at → countAt w' bt ≡ 1
-        leaf-high lo = let k = partner (kindAt w at) (kindAt w' bt) twin (omega arith) in leaf-count w' bt m h q other-plain .1 (omega arith)
+        leaf-high lo = let k = partner (kindAt w at) (kindAt w' bt) twin (omega arith) in none-count w' bt (first-node w' bt m h q) (omega arith) other-plain
 
         -- another node: what it holds, or the trees after it
         pub resume-plain : resume all here v (trees s w n at) (trees s' w' m bt) ≡ resume all (levelAfter all (kindAt w at) v here) v (trees s w (n - 1) (at + 4)) (trees s' w' (m - 1) (bt + 4))
@@ -346,8 +337,10 @@ module _ (all : Bool) (here v : NestingLevel) (s w s' w' : List ℕ) (n m at bt 
             go : (t : Bool) → leb 25 (kindAt w at) ≡ t → (u : Bool) → leb (kindAt w at) 28 ≡ u → resume all here v (trees s w n at) (trees s' w' m bt)
                 ≡ resume all (levelAfter all (kindAt w at) v here) v (trees s w (n - 1) (at + 4)) (trees s' w' (m - 1) (bt + 4))
             go true i true j = holder (leb-true 25 (kindAt w at) i) (leb-true (kindAt w at) 28 j) ∙ rw (i, j, inside-kind s (kindAt w at) (firstAt w at) (secondAt w at) (levelFor all here))
-            go true i false j = leaf (leaf-count w at n g p c .1 (leb-false (kindAt w at) 28 j)) (leaf-high (leb-false (kindAt w at) 28 j)) ∙ rw (i, j) (sym (resume-level all v (trees s w (n - 1) (at + 4)) (trees s' w' (m - 1) (bt + 4))))
-            go false i u j = leaf (leaf-count w at n g p c .0 (leb-false 25 (kindAt w at) i)) (leaf-low (leb-false 25 (kindAt w at) i)) ∙ rw i (sym (resume-level all v (trees s w (n - 1) (at + 4)) (trees s' w' (m - 1) (bt + 4))))
+            go true i false j = leaf (none-count w at (first-node w at n g p) (leb-false (kindAt w at) 28 j) c) (leaf-high (leb-false (kindAt w at) 28 j))
+                ∙ rw (i, j) (sym (resume-level all v (trees s w (n - 1) (at + 4)) (trees s' w' (m - 1) (bt + 4))))
+            go false i u j = leaf (leaf-count w at (first-node w at n g p) (leb-false 25 (kindAt w at) i)) (leaf-low (leb-false 25 (kindAt w at) i))
+                ∙ rw i (sym (resume-level all v (trees s w (n - 1) (at + 4)) (trees s' w' (m - 1) (bt + 4))))
 
 -- ---- The comparison of fields.
 

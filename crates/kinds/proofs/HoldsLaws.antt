@@ -1,5 +1,6 @@
 -- The test of a sheet and the layout of a tree agree: what passes is the layout of the tree that it holds, and a layout passes.
 use Prim.Native.Nat.{ℕ, zero, suc, _+_, _-_, _*_, _≤_, _<_}
+use native.Mathlib.Nat.{add-zero}
 use native.Mathlib.Omega.{arith}
 use native.Mathlib.Numerals.{add-one}
 use mathlib.Core.Path.{_≡_, refl, ap, ap₂, sym, _∙_, subst}
@@ -45,9 +46,6 @@ module _ (s : List ℕ) (a b p e : ℕ) (pe : p ≤ e) (es : e ≤ length s) whe
       P : ℕ → Type 0
       P j = numbers j a b p e ≡ true → Says s j a b p e
 
-      plain : (n : ℕ) → n ≡ n + 0
-      plain n = omega arith
-
       over : p + 0 ≤ e
       over = omega arith
 
@@ -70,16 +68,16 @@ module _ (s : List ℕ) (a b p e : ℕ) (pe : p ≤ e) (es : e ≤ length s) whe
                 the-kind = rw q;
                 the-first = rw q (z .0);
                 the-second = rw q (z .1);
-                the-next = rw (q, ne-eqb k 29 (λ d. omega arith), ne-eqb k 30 (λ d. omega arith)) (plain p);
+                the-next = rw (q, ne-eqb k 29 (λ d. omega arith), ne-eqb k 30 (λ d. omega arith)) (sym (add-zero p));
                 the-name = rw q none-stands;
                 the-end = rw q over;
               }
       go false q = by-kind P
-          (λ g. record { the-kind = refl; the-first = bits g; the-second = refl; the-next = plain p; the-name = none-stands; the-end = over })
-          (λ g. record { the-kind = refl; the-first = refl; the-second = refl; the-next = plain p; the-name = none-stands; the-end = over })
-          (λ g. record { the-kind = refl; the-first = zeros true g .0; the-second = zeros true g .1; the-next = plain p; the-name = none-stands; the-end = over })
-          (λ g. record { the-kind = refl; the-first = zeros true g .0; the-second = zeros true g .1; the-next = plain p; the-name = none-stands; the-end = over })
-          (λ g. record { the-kind = refl; the-first = refl; the-second = sym (eqb-true b 0 (both-right (leb a maxU64) (eqb b 0) g)); the-next = plain p; the-name = none-stands; the-end = over })
+          (λ g. record { the-kind = refl; the-first = bits g; the-second = refl; the-next = sym (add-zero p); the-name = none-stands; the-end = over })
+          (λ g. record { the-kind = refl; the-first = refl; the-second = refl; the-next = sym (add-zero p); the-name = none-stands; the-end = over })
+          (λ g. record { the-kind = refl; the-first = zeros true g .0; the-second = zeros true g .1; the-next = sym (add-zero p); the-name = none-stands; the-end = over })
+          (λ g. record { the-kind = refl; the-first = zeros true g .0; the-second = zeros true g .1; the-next = sym (add-zero p); the-name = none-stands; the-end = over })
+          (λ g. record { the-kind = refl; the-first = refl; the-second = sym (eqb-true b 0 (both-right (leb a maxU64) (eqb b 0) g)); the-next = sym (add-zero p); the-name = none-stands; the-end = over })
           (λ g. record {
             the-kind = refl;
             the-first = sym (named g .0);
@@ -96,7 +94,7 @@ module _ (s : List ℕ) (a b p e : ℕ) (pe : p ≤ e) (es : e ≤ length s) whe
             the-name = subst (λ (n : ℕ). Stands s p (take b (drop n s))) (sym (named g .0)) (take-stands s p b);
             the-end = subst (λ (n : ℕ). p + n ≤ e) (sym (name-length (named g .0) (named g .1))) (named g .1);
           })
-          (λ g. record { the-kind = refl; the-first = zeros true g .0; the-second = zeros true g .1; the-next = plain p; the-name = none-stands; the-end = over })
+          (λ g. record { the-kind = refl; the-first = zeros true g .0; the-second = zeros true g .1; the-next = sym (add-zero p); the-name = none-stands; the-end = over })
           k (leb-false k 23 q) (numbers-kind k a b p e h) h
 
 stands-append : (w : List ℕ) (at : ℕ) (xs ys : List ℕ) → Stands w at xs → Stands w (at + length xs) ys → Stands w at (xs ++ ys)
@@ -178,15 +176,12 @@ module _ (s w : List ℕ) (e : ℕ) (es : e ≤ length s) where
     names = (drop p s, refl);
     ok = refl;
     cnt = refl;
-    on = subst (λ (j : ℕ). packed w m j (p + 0) e ≡ true) (plain at) (subst (λ (j : ℕ). packed w m at j e ≡ true) (zero-end p) h);
+    on = subst (λ (j : ℕ). packed w m j (p + 0) e ≡ true) (plain at) (subst (λ (j : ℕ). packed w m at j e ≡ true) (sym (add-zero p)) h);
     le = omega arith;
   }
     where
       plain : (x : ℕ) → x ≡ x + 4 * 0
       plain x = omega arith
-
-      zero-end : (x : ℕ) → x ≡ x + 0
-      zero-end x = omega arith
 
   laid-node : (l : Label) (cs ts : Trees) (n at p m : ℕ)
       → NodeAt w at → kind l ≡ kindAt w at → first l p ≡ firstAt w at → second l ≡ secondAt w at → okNode l cs ≡ true → Stands s p (name l) → 1 ≤ countAt w at → countAt w at ≤ n
@@ -286,7 +281,7 @@ test-holds w s h =
     let v = nodeWords w in
     let rm = r .head .room in
     let ld = length-drop 4 w in
-    let all : packed v (n + 0) 0 0 b ≡ true = subst (λ (j : ℕ). packed v j 0 0 b ≡ true) (zero-right n) (r .packs) in
+    let all : packed v (n + 0) 0 0 b ≡ true = subst (λ (j : ℕ). packed v j 0 0 b ≡ true) (sym (add-zero n)) (r .packs) in
     let x = laid s v b (r .head .bytes) n n 0 0 0 (omega arith) (record { room = omega arith; nested = subst (λ (j : ℕ). nests v j 0 ≡ true) c (r .root .nested) }) (omega arith) all in
     let end-at : 0 + length (namesOf (trees s v n 0)) ≡ b = eqb-true (0 + length (namesOf (trees s v n 0))) b (sym (packed-none v 0 (0 + 4 * n) (0 + length (namesOf (trees s v n 0))) b (omega arith)) ∙ x .on) in
     let few = r .head .few-nodes in
@@ -300,9 +295,6 @@ test-holds w s h =
       words-are = begins w (sheetOf (trees s v n 0)) (4 + 4 * count (trees s v n 0)) (sheet-length (trees s v n 0)) (header-stands w (trees s v n 0) (r .head) k (omega arith) (x .stands));
       names-are = begins s (namesOf (trees s v n 0)) (length (namesOf (trees s v n 0))) refl (x .names);
     }
-  where
-    zero-right : (a : ℕ) → a ≡ a + 0
-    zero-right a = omega arith
 
 -- A layout passes.
 pub holds-test : (w s : List ℕ) (t : Trees) → Holds w s t → isSheet w s ≡ true

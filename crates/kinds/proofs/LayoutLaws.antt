@@ -1,7 +1,8 @@
 -- The layout of a tree passes the test of a sheet and reads back as the tree.
 use Prim.Native.Nat.{ℕ, suc, _+_, _-_, _*_, _≤_, _<_}
+use native.Mathlib.Nat.{add-zero}
 use native.Mathlib.Omega.{arith}
-use mathlib.Core.Path.{_≡_, refl, ap, ap₂, sym, _∙_, subst}
+use mathlib.Core.Path.{_≡_, refl, ap, ap₂, sym, _∙_}
 use mathlib.Core.List.{List, [], _∷_, _++_, append-assoc}
 use mathlib.Core.Bool.{Bool, true, _&&_, false≢true}
 use borrow.Author.Tests.{le-leb, ltb-true, eq-eqb, ne-eqb}
@@ -35,15 +36,9 @@ stands-next w at xs ys h = (h .0, sym (drop-drop (length xs) at w) ∙ ap (drop 
 stands-take : (w : List ℕ) (at : ℕ) (xs : List ℕ) → Stands w at xs → take (length xs) (drop at w) ≡ xs
 stands-take w at xs h = ap (take (length xs)) (h .1) ∙ take-append-seam xs (h .0)
 
-at-move : (w : List ℕ) (xs : List ℕ) (a b : ℕ) → a ≡ b → Stands w a xs → Stands w b xs
-at-move w xs a b e h = subst (λ (n : ℕ). Stands w n xs) e h
-
 module _ (w : List ℕ) (at : ℕ) (a b c d : ℕ) (xs : List ℕ) (h : Stands w at (a ∷ b ∷ c ∷ d ∷ xs)) where
   word-0 : kindAt w at ≡ a
-  word-0 = ap (λ (j : ℕ). getD w j 0) (z at) ∙ sym (getD-drop at w 0 0) ∙ ap (λ (l : List ℕ). getD l 0 0) (h .1)
-    where
-      z : (n : ℕ) → n ≡ n + 0
-      z n = omega arith
+  word-0 = ap (λ (j : ℕ). getD w j 0) (sym (add-zero at)) ∙ sym (getD-drop at w 0 0) ∙ ap (λ (l : List ℕ). getD l 0 0) (h .1)
 
   word-1 : firstAt w at ≡ b
   word-1 = sym (getD-drop at w 1 0) ∙ ap (λ (l : List ℕ). getD l 1 0) (h .1)

@@ -1,7 +1,7 @@
--- Laws of names at a place.
+-- Laws of names, and of their bytes at a place.
 use Prim.Native.Nat.{ℕ, _+_, _≤_, _<_}
-use mathlib.Core.Path.{_≡_, refl, ap, _∙_}
-use mathlib.Core.Bool.{Bool, true, false, _&&_}
+use mathlib.Core.Path.{_≡_, refl, ap, sym, _∙_}
+use mathlib.Core.Bool.{Bool, true, false, _&&_, and-true, false≢true}
 use mathlib.Core.List.{List, [], _∷_}
 use native.Mathlib.Omega.{arith}
 use lib.ListN.{length, drop, getD}
@@ -26,20 +26,21 @@ unfolding verifyName
 name-empty [] h = refl
 name-empty (b ∷ s) h = absurd (omega arith)
 
+pub name-some : (s : List ℕ) → verifyName s ≡ true → 0 < length s
+unfolding verifyName
+name-some [] h = absurd (false≢true h)
+name-some (b ∷ s) h = omega arith
+
 pub name-unknown : (s : List ℕ) → length s ≡ 1 → getD s 0 0 ≡ 63 → verifyName s ≡ true
 unfolding verifyName
 name-unknown [] h e = absurd (omega arith)
 name-unknown (b ∷ []) h e = rw (eq-eqb b 63 e)
 name-unknown (b ∷ c ∷ s) h e = absurd (omega arith)
 
-and-true : (a : Bool) → a ≡ a && true
-and-true true = refl
-and-true false = refl
-
 pub name-one : (s : List ℕ) → length s ≡ 1 → (getD s 0 0 ≡ 63 → ⊥) → verifyName s ≡ allNameBytes s
 unfolding verifyName allNameBytes
 name-one [] h e = absurd (omega arith)
-name-one (b ∷ []) h e = rw (ne-eqb b 63 e) (and-true (isNameByte b))
+name-one (b ∷ []) h e = rw (ne-eqb b 63 e) (sym (and-true (isNameByte b)))
 name-one (b ∷ c ∷ s) h e = absurd (omega arith)
 
 pub name-more : (s : List ℕ) → 1 < length s → verifyName s ≡ allNameBytes s

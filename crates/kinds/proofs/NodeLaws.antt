@@ -11,7 +11,7 @@ use Rattle.kinds.specs.Tree as T
 use Rattle.kinds.specs.Tree.{end, primitive, bitField, typedBitField, pointer, atomic, array, struct, union, isEnd, kind, isContainer}
 use Rattle.kinds.specs.Sheet.{header, numbers, nextName, packed, isSheet, nodeWords, kindAt, firstAt, secondAt, countAt, label, isContainerKind, read, trees, arity, nests}
 use Rattle.kinds.specs.Walk.{NodeAt, TreesAt, KindAndName, KindsAndNames}
-use Rattle.kinds.proofs.SheetLaws.{Header, header-says, arity-low, arity-one, nests-step, nests-zero, nests-over, nests-none, packed-first, packed-rest, container-first, container-fits}
+use Rattle.kinds.proofs.SheetLaws.{Header, header-says, arity-one, arity-low, arity-high, nests-step, nests-zero, nests-over, nests-none, packed-first, packed-rest, container-first, container-fits}
 use Rattle.kinds.proofs.TableLaws.{both-left, both-right}
 
 module _ (w : List ℕ) (at : ℕ) (h : NodeAt w at) where
@@ -20,6 +20,13 @@ module _ (w : List ℕ) (at : ℕ) (h : NodeAt w at) where
 
   pub node-arity : arity (kindAt w at) (countAt w at) (countAt w (at + 4)) ≡ true
   node-arity = both-left (arity (kindAt w at) (countAt w at) (countAt w (at + 4))) _ step
+
+  -- a code or a bitfield without a type is one node, and so is None
+  pub leaf-count : kindAt w at < 25 → countAt w at ≡ 1
+  leaf-count p = eqb-true (countAt w at) 1 (sym (arity-low (kindAt w at) (countAt w at) (countAt w (at + 4)) p) ∙ node-arity)
+
+  pub none-count : 28 < kindAt w at → isContainerKind (kindAt w at) ≡ false → countAt w at ≡ 1
+  none-count p plain = eqb-true (countAt w at) 1 (sym (arity-high (kindAt w at) (countAt w at) (countAt w (at + 4)) p plain) ∙ node-arity)
 
   pub node-inner : TreesAt w (at + 4) (countAt w at - 1)
   node-inner = record {

@@ -19,6 +19,11 @@ both-right false b h = absurd (false≢true h)
 pub both : (a b : Bool) → (a && b) ≡ true → (a ≡ true) × (b ≡ true)
 both a b h = (both-left a b h, both-right a b h)
 
+-- A family over the members of a list.
+abbrev pub Each : (ℕ → Type 0) → List ℕ → Type 0
+Each P [] = Unit {0}
+Each P (x ∷ xs) = P x × Each P xs
+
 -- The test passes at each number below `n`.
 unfoldable pub everyBelow : (ℕ → Bool) → ℕ → Bool
 everyBelow test zero = true

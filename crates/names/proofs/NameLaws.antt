@@ -11,7 +11,8 @@ use lib.Seq.{take-suc, getD-drop, length-take-le}
 use lib.Dec.{eqb}
 use borrow.Author.Tests.{eq-eqb, ne-eqb}
 use Rattle.kinds.proofs.ListLaws.{unread, unread-end}
-use Rattle.kinds.specs.Byte.{byte}
+use Rattle.kinds.proofs.NameLaws.{name-some}
+use Rattle.kinds.proofs.ParseLaws.{name-checked, name-bad}
 use Rattle.kinds.specs.Container.{endByte}
 use Rattle.kinds.specs.Name.{verifyName}
 use Rattle.kinds.specs.Parse.{parseName, checkName, Named, named, unnamed}
@@ -49,14 +50,6 @@ pub name-ends : (k : ContainerKind) (acc s : List ℕ) (i : ℕ) → length s �
 unfolding parseName
 name-ends k acc s i h = ap (parseName k acc) (unread-end s i h) ∙ sym (ap (unnamed (WrongEndContainer k)) (unread-end s i h))
 
-pub name-good : (k : ContainerKind) (acc here next : List ℕ) → verifyName acc ≡ true → checkName k acc here next ≡ named acc next
-unfolding checkName
-name-good k acc here next e = rw (e, checkName)
-
-pub name-bad : (k : ContainerKind) (acc here next : List ℕ) → verifyName acc ≡ false → checkName k acc here next ≡ unnamed (InvalidIdentifier k) here
-unfolding checkName
-name-bad k acc here next e = rw (e, checkName)
-
 -- The bytes passed, with one more.
 pub passed-more : (s : List ℕ) (at i : ℕ) → at ≤ i → i < length s → take (i - at) (drop at s) ++ (getD s i 0 ∷ []) ≡ take (i + 1 - at) (drop at s)
 passed-more s at i l h =
@@ -72,11 +65,6 @@ taken-none s at = rw sub-self
 
 pub passed-length : (s : List ℕ) (at i : ℕ) → at ≤ i → i ≤ length s → length (take (i - at) (drop at s)) ≡ i - at
 passed-length s at i l h = length-take-le (i - at) (drop at s) (simp length-drop (omega arith))
-
-pub good-some : (s : List ℕ) → verifyName s ≡ true → 0 < length s
-unfolding verifyName
-good-some [] e = let z : _≡_ {A = ℕ} 0 1 = cc in absurd (omega arith)
-good-some (b ∷ s) e = omega arith
 
 -- A bad name is refused where it ends, whichever byte ends it.
 pub bad-name : (text : List ℕ) (at : ℕ) (k : ContainerKind) (r : ℕ) → NameEnd text at k r → r < length text → verifyName (take (r - at) (drop at text)) ≡ false
@@ -108,10 +96,10 @@ answer-name text at e to q l h m i =
 -- A good name, after which reading goes on past `=` or at the closer.
 module _ (text : List ℕ) (at : ℕ) (k : ContainerKind) (r : ℕ) (e : NameEnd text at k r) (h : r < length text) (good : verifyName (take (r - at) (drop at text)) ≡ true) where
   pub answer-equals : getD text r 0 ≡ 61 → Is r (r + 1) ≡ nameAt text at (parseName k [] (drop at text))
-  answer-equals p = answer-name text at r (r + 1) _ (e .onward) (e .within) (omega arith) (e .scanned ∙ name-equals k _ text r h p ∙ name-good k _ _ _ good)
+  answer-equals p = answer-name text at r (r + 1) _ (e .onward) (e .within) (omega arith) (e .scanned ∙ name-equals k _ text r h p ∙ name-checked k _ _ _ good)
 
   pub answer-closes : (getD text r 0 ≡ 61 → ⊥) → Is r r ≡ nameAt text at (parseName k [] (drop at text))
-  answer-closes n = answer-name text at r r _ (e .onward) (e .within) (e .within) (e .scanned ∙ name-closes k _ text r h n (e .stopped h n) ∙ name-good k _ _ _ good)
+  answer-closes n = answer-name text at r r _ (e .onward) (e .within) (e .within) (e .scanned ∙ name-closes k _ text r h n (e .stopped h n) ∙ name-checked k _ _ _ good)
 
 -- ---- What an answer says of the text.
 
@@ -142,7 +130,7 @@ unfolding checkName
 found-here k acc s t r = go (verifyName acc) refl
   where
     go : (d : Bool) → verifyName acc ≡ d → NamedOf acc s (elim d [ true ↦ named acc t | false ↦ unnamed (InvalidIdentifier k) s ])
-    go true e = record { size = 0; inside = omega arith; is = sym (append-nil acc); some = good-some acc e; after = r }
+    go true e = record { size = 0; inside = omega arith; is = sym (append-nil acc); some = name-some acc e; after = r }
     go false e = rest-all
 
 pub name-found : (k : ContainerKind) (acc s : List ℕ) → NamedOf acc s (parseName k acc s)

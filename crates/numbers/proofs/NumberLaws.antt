@@ -6,16 +6,16 @@ use mathlib.Core.Bool.{Bool, true, false}
 use native.Mathlib.Omega.{arith}
 use lib.ListN.{length, drop, getD}
 use lib.Dec.{leb}
-use borrow.Author.Tests.{lt-leb, le-leb, leb-true}
+use borrow.Author.Tests.{leb-true}
 use Rattle.kinds.proofs.ListLaws.{unread, unread-end}
+use Rattle.kinds.proofs.ParseLaws.{number-none, beyond-limit}
 use Rattle.kinds.proofs.TableLaws.{both}
 use Rattle.kinds.specs.Byte.{isDigit}
 use Rattle.kinds.specs.Parse as R
 use Rattle.kinds.specs.Parse.{value, noNumber, moreDigits, bounded, parseNumber}
 use Rattle.kinds.specs.declared.ErrorKind.{ErrorKind}
 use Rattle.kinds.specs.declared.ErrorKind.the-variants.{UnexpectedEnd, ExpectedInteger, IntegerTooLarge}
-use Rattle.parser.specs.Place.{placeOf}
-use Rattle.parser.proofs.RestLaws.{RestOf, rest-all, rest-later, Unread, unread-at, place-of-drop}
+use Rattle.parser.proofs.RestLaws.{RestOf, rest-all, rest-later, unread-at, place-of-drop}
 use Rattle.numbers.specs.Answer.{numberAt}
 use Rattle.parser.specs.Run.{after}
 use Rattle.numbers.specs.declared.Number.{Number}
@@ -33,28 +33,20 @@ pub digits-end : (n : ℕ) → moreDigits n [] ≡ value n []
 unfolding moreDigits
 digits-end n = refl
 
-pub fits-limit : (limit n : ℕ) (s : List ℕ) → n ≤ limit → bounded limit (value n s) ≡ value n s
-unfolding bounded
-fits-limit limit n s h = rw (le-leb n limit h, bounded)
-
 -- Past the limit the digits are passed, and the number is too large.
 pub too-large : (limit : ℕ) (s : List ℕ) (n : ℕ) → limit < n → bounded limit (moreDigits n s) ≡ noNumber IntegerTooLarge (after isDigit s)
 unfolding bounded moreDigits after
-too-large limit [] n h = rw (lt-leb n limit h, bounded)
+too-large limit [] n h = beyond-limit limit n [] h
 too-large limit (b ∷ s) n h = go (too-large limit s (n * 10 + (b - 48)) (omega arith)) (isDigit b)
   where
     go : bounded limit (moreDigits (n * 10 + (b - 48)) s) ≡ noNumber IntegerTooLarge (after isDigit s)
         → (d : Bool) → bounded limit (elim d [ true ↦ moreDigits (n * 10 + (b - 48)) s | false ↦ value n (b ∷ s) ]) ≡ noNumber IntegerTooLarge (elim d [ true ↦ after isDigit s | false ↦ b ∷ s ])
     go more true = more
-    go more false = rw (lt-leb n limit h, bounded)
+    go more false = beyond-limit limit n (b ∷ s) h
 
 pub number-starts : (limit b : ℕ) (s : List ℕ) → isDigit b ≡ true → parseNumber limit (b ∷ s) ≡ bounded limit (moreDigits 0 (b ∷ s))
 unfolding parseNumber
 number-starts limit b s e = rw (e, parseNumber)
-
-pub number-none : (limit b : ℕ) (s : List ℕ) → isDigit b ≡ false → parseNumber limit (b ∷ s) ≡ noNumber ExpectedInteger (b ∷ s)
-unfolding parseNumber
-number-none limit b s e = rw (e, parseNumber)
 
 pub number-end : (limit : ℕ) → parseNumber limit [] ≡ noNumber UnexpectedEnd []
 unfolding parseNumber

@@ -10,6 +10,7 @@ use lib.Seq.{drop-nil, drop-length}
 use denote.Ref.{RefT, now}
 use borrow.Rule.Slice.PartAt.{part-to-end}
 use Rattle.kinds.specs.Parse.{isQualifier, stripLeadingQualifiers}
+use Rattle.kinds.proofs.ParseLaws.{strip-shorter}
 use borrow.Author.Tests.{lt-ltb, le-ltb}
 use Rattle.parser.specs.Place.{endOf, remainingAt, peekAt, advanceAt, stripAt}
 use Rattle.parser.specs.Reader.{newParser, remaining, stripQualifiers, skipQualifiers}
@@ -31,16 +32,6 @@ advance-on s at h = rw (lt-ltb at (length s) h, advanceAt) refl
 pub advance-stays : (s : List ℕ) (at : ℕ) → length s ≤ at → advanceAt s at ≡ at
 unfolding advanceAt
 advance-stays s at h = rw (le-ltb at (length s) h, advanceAt) refl
-
--- Stripping takes off a beginning and adds nothing.
-pub strip-shorter : (s : List ℕ) → length (stripLeadingQualifiers s) ≤ length s
-unfolding stripLeadingQualifiers
-strip-shorter [] = omega arith
-strip-shorter (b ∷ s) = go (isQualifier b) (strip-shorter s)
-  where
-    go : (y : Bool) → length (stripLeadingQualifiers s) ≤ length s → length {A = ℕ} (elim y [ true ↦ stripLeadingQualifiers s | false ↦ b ∷ s ]) ≤ length (b ∷ s)
-    go true h = omega (arith, h)
-    go false h = omega arith
 
 pub strip-at-more : (s : List ℕ) (i : ℕ) → i < length s → isQualifier (getD s i 0) ≡ true → stripAt s i ≡ stripAt s (i + 1)
 unfolding stripAt

@@ -1,5 +1,6 @@
 -- Laws that lead from the pass over all nodes to the answer of the check.
 use Prim.Native.Nat.{ℕ, zero, suc, _+_, _-_, _*_, _≤_, _<_}
+use native.Mathlib.Nat.{suc-add}
 use native.Mathlib.Omega.{arith}
 use mathlib.Core.Path.{_≡_, refl, ap, ap₂, sym, _∙_}
 use mathlib.Core.List.{List}
@@ -37,9 +38,6 @@ module _ (s w : List ℕ) where
       ap (λ (n : ℕ). namesGood s w n at) (suc-add j k)
       ∙ ap (λ (x : Bool). goodName (labelAt s w at) && x) (names-split j k (at + 4) ∙ ap (λ (n : ℕ). namesGood s w j (at + 4) && namesGood s w k n) (omega arith))
       ∙ sym (and-assoc (goodName (labelAt s w at)) (namesGood s w j (at + 4)) (namesGood s w k (at + 4 * suc j)))
-    where
-      suc-add : (a b : ℕ) → suc a + b ≡ suc (a + b)
-      suc-add a b = omega arith
 
   names-none : (n at : ℕ) → n ≤ 0 → namesGood s w n at ≡ true
   unfolding namesGood

@@ -4,7 +4,7 @@ use native.Mathlib.Omega.{arith}
 use mathlib.Core.Path.{_≡_, refl, ap, ap₂, sym, _∙_, subst}
 use mathlib.Core.List.{List}
 use mathlib.Core.Bool.{Bool, true, false, cond}
-use borrow.Author.Tests.{ltb-true, eqb-true, lt-ltb, le-ltb, le-leb}
+use borrow.Author.Tests.{ltb-true, lt-ltb, le-ltb, le-leb}
 use lib.Dec.{ltb}
 use lib.ListN.{length, getD, take, drop}
 use lib.Seq.{getD-drop}
@@ -15,8 +15,8 @@ use Rattle.kinds.specs.declared.Refusal.{Refusal}
 use Rattle.kinds.specs.declared.Refusal.the-variants.{NotASheet, BadName}
 use Rattle.kinds.proofs.ListLaws.{part-rest}
 use Rattle.kinds.proofs.HoldsLaws.{test-holds}
-use Rattle.kinds.proofs.NodeLaws.{SheetSays, sheet-says, packed-walk, node-arity, label-primitive, no-trees}
-use Rattle.kinds.proofs.SheetLaws.{arity-low, trees-step}
+use Rattle.kinds.proofs.NodeLaws.{SheetSays, sheet-says, packed-walk, leaf-count, label-primitive, no-trees}
+use Rattle.kinds.proofs.SheetLaws.{trees-step}
 use Rattle.sheet.specs.Answer.{Held, held, refused, holding, heldBoth, refusedBoth, ofHeld, ofSheet, ofSheets, found, checked, both, checkedBoth}
 use Rattle.sheet.specs.Given.{CodeIn, NodesAre, NodesIn, Gives, GivesBoth}
 use Rattle.sheet.specs.declared.Checked.{Checked}
@@ -83,7 +83,7 @@ module _ (words names : List ℕ) (h : isSheet words names ≡ true) (e : held w
   module _ (k : kindAt (nodeWords words) 0 < 24) where
     -- a code is the only node
     code-count : countAt (nodeWords words) 0 ≡ 1
-    code-count = let w = nodeWords words in eqb-true (countAt w 0) 1 (sym (arity-low (kindAt w 0) (countAt w 0) (countAt w (0 + 4)) (omega arith)) ∙ node-arity w 0 (says .root))
+    code-count = leaf-count (nodeWords words) 0 (says .root) (omega arith)
 
     code-alone : getD words 0 0 ≡ 1
     code-alone = sym (says .count) ∙ code-count

@@ -1,5 +1,6 @@
 -- Laws of the one pass over the nodes of a sheet, a node at a time.
 use Prim.Native.Nat.{ℕ, zero, suc, _+_, _-_, _*_, _≤_, _<_}
+use native.Mathlib.Nat.{suc-add}
 use native.Mathlib.Omega.{arith}
 use native.Mathlib.Numerals.{sub-one}
 use mathlib.Core.Path.{_≡_, refl, ap, ap₂, sym, _∙_}
@@ -220,9 +221,6 @@ module _ (s w : List ℕ) (e : ℕ) where
   order-append (suc j) k at p g = ap (λ (n : ℕ). inOrder s w n at p e g) (suc-add j k)
       ∙ go (numbers (kindAt w at) (firstAt w at) (secondAt w at) p e) _ _ (order-append j k (at + 4) (nextName (kindAt w at) (secondAt w at) p) (g && goodName (labelAt s w at)))
     where
-      suc-add : (a b : ℕ) → suc a + b ≡ suc (a + b)
-      suc-add a b = omega arith
-
       go : (t : Bool) (x y : Walked) → x ≡ then y (λ (q : ℕ) (f : Bool). inOrder s w k (at + 4 + 4 * j) q e f) → cond t x Broken ≡ then (cond t y Broken) (λ (q : ℕ) (f : Bool). inOrder s w k (at + 4 * suc j) q e f)
       go true x y h = h ∙ ap (λ (i : ℕ). then y (λ (q : ℕ) (f : Bool). inOrder s w k i q e f)) (omega arith)
       go false x y h = refl

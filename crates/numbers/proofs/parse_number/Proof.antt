@@ -8,7 +8,8 @@ use Rattle.kinds.specs.Parse.{bounded, moreDigits, parseNumber, noNumber}
 use Rattle.kinds.specs.declared.ErrorKind.the-variants.{IntegerTooLarge}
 use Rattle.kinds.specs.Byte.{isDigit}
 use Rattle.parser.proofs.RunLaws.{run-to}
-use Rattle.numbers.proofs.NumberLaws.{digit-range, digits-more-at, digits-stop-at, digits-end-at, number-starts-at, number-none-at, number-end-at, fits-limit, too-large, answer-value, answer-refused, answer-ended}
+use Rattle.kinds.proofs.ParseLaws.{within-limit}
+use Rattle.numbers.proofs.NumberLaws.{digit-range, digits-more-at, digits-stop-at, digits-end-at, number-starts-at, number-none-at, too-large, answer-value, answer-refused, answer-ended}
 use Rattle.numbers.proofs.parse_number.Statement.{statement}
 use Rattle.numbers.proofs.parse_number.Tie as tie
 
@@ -48,7 +49,7 @@ returns-3 c =
     let l = c .before .before .before .before .loop in
     let h = c .before .before .before .loop-test .taken in
     let stop = digits-stop-at _ _ _ h (sym (c .before .is-digit2 .ensures) ∙ not-true _ (c .if3 .taken)) in
-    answer-value _ _ _ _ (omega arith) (l .inv .0 ∙ ap (bounded _) stop ∙ fits-limit _ _ _ (l .inv .1 .2))
+    answer-value _ _ _ _ (omega arith) (l .inv .0 ∙ ap (bounded _) stop ∙ within-limit _ _ _ (l .inv .1 .2))
 
 sub-wide : tie.Need-sub-wide Inv-loop μ-loop
 sub-wide c = omega (arith, digit-range _ (sym (c .before .is-digit2 .ensures) ∙ not-false _ (c .if3 .left)))
@@ -98,7 +99,7 @@ loop-again c =
 returns-5 : tie.Need-returns-5 Inv-loop μ-loop
 returns-5 c =
     let l = c .before .loop in
-    answer-value _ _ _ _ (omega arith) (l .inv .0 ∙ ap (bounded _) (digits-end-at _ _ _ (c .loop-test .left)) ∙ fits-limit _ _ _ (l .inv .1 .2))
+    answer-value _ _ _ _ (omega arith) (l .inv .0 ∙ ap (bounded _) (digits-end-at _ _ _ (c .loop-test .left)) ∙ within-limit _ _ _ (l .inv .1 .2))
 
 pub parse-number-spec : {M : Type 1} → statement M
 parse-number-spec =

@@ -5,7 +5,7 @@ use native.Mathlib.Omega.{arith}
 use lib.ListN.{length}
 use borrow.Author.Needs.{needs}
 use Rattle.kinds.specs.Parse.{stripLeadingQualifiers}
-use Rattle.parser.proofs.PlaceLaws.{strip-shorter}
+use Rattle.kinds.proofs.ParseLaws.{strip-shorter}
 use Rattle.parser.specs.Place.{endOf}
 use Rattle.parser.specs.Reader.{skipQualifiers}
 use Rattle.parser.proofs.strip_leading_qualifiers.Statement.{statement}
