@@ -1,30 +1,28 @@
 -- The size of each kind of node, and the walk over a container's fields.
-use Prim.Native.Nat.{ℕ, zero, suc, _+_, _-_, _*_, _/_, _≤_, _<_, max}
+use Prim.Native.Nat.{ℕ, zero, suc, _+_, _-_, _*_, _≤_, _<_, max}
 use native.Mathlib.Omega.{arith}
 use mathlib.Core.Path.{_≡_, refl, ap, ap₂, sym, _∙_, subst}
 use mathlib.Core.List.{List, _∷_}
-use mathlib.Core.Option.{Option, some, none}
+use mathlib.Core.Option.{Option, some, none, Option·getD}
 use mathlib.Core.Bool.{Bool, true, false, cond, _||_, false≢true}
 use borrow.Author.Tests.{le-leb, lt-leb, leb-true, leb-false, ne-eqb, eqb-true, eqb-false}
 use lib.Dec.{leb, eqb}
 use lib.ListN.{length}
 use Rattle.kinds.specs.Level.{showsFields, containerIncludeFields}
-use Rattle.kinds.specs.Parse.{maxU64}
 use Rattle.kinds.specs.Sheet.{kindAt, firstAt, secondAt, countAt, labelAt, isContainerKind, read, trees}
-use Rattle.kinds.specs.Size.{bitBytes, plus, larger, times, orZero, sum, largest, only, nodeSize, sizes}
+use Rattle.kinds.specs.Size.{bitBytes, plus, larger, times, sum, largest, only, nodeSize, sizes}
 use Rattle.kinds.specs.Tree.{Trees, inside}
 use Rattle.kinds.specs.Walk.{NodeAt, TreesAt}
 use Rattle.kinds.specs.declared.Fields.the-variants.{Included, Dropped}
 use Rattle.kinds.specs.declared.NestingLevel.{NestingLevel}
 use Rattle.kinds.specs.declared.NestingLevel.the-variants.{Within, Bottom}
 use Rattle.kinds.proofs.KindLaws.{included, dropped}
-use Rattle.kinds.proofs.SheetLaws.{arity-low, trees-step}
-use Rattle.kinds.proofs.NodeLaws.{node-arity, node-inner, no-trees, child-count, node-child, first-some, first-within, first-node, other-trees, inner-count, inner-end, inner-trees, label-primitive}
+use Rattle.kinds.proofs.SheetLaws.{trees-step}
+use Rattle.kinds.proofs.NodeLaws.{leaf-count, node-inner, no-trees, child-count, node-child, first-some, first-within, first-node, other-trees, inner-count, inner-end, inner-trees, label-primitive}
 use Rattle.kinds.proofs.NodeLaws.{label-bits, label-typed, label-pointer, label-atomic, label-array, label-struct, label-union, label-none}
 use Rattle.helper.specs.Measure.{clip, joinMeasured, join, fold, holding, isLeaf, leafSize, sizeAt}
 use Rattle.helper.specs.declared.Measured.{Measured}
-use Rattle.helper.specs.declared.Measured.the-variants.{Bytes}
-use Rattle.helper.proofs.SizeLaws.{clip-some, clip-join, join-assoc, join-unit, fold-cons, larger-some}
+use Rattle.helper.proofs.SizeLaws.{clip-join, join-assoc, join-unit, fold-cons, larger-some}
 
 lt-of : {k : ℕ} → k ≤ 23 → k < 24
 lt-of p = omega arith
@@ -79,7 +77,7 @@ module _ (s w : List ℕ) (at : ℕ) where
         go : (t : Bool) → eqb (kindAt w at) 25 ≡ t → (u : Bool) → eqb (kindAt w at) 28 ≡ u → sizeAt s w at v ≡ holding (kindAt w at) (firstAt w at) (secondAt w at) (sizeAt s w (at + 4) (inside (labelAt s w at) v))
         go true e u d =
             rw (label-typed s (kindAt w at) (firstAt w at) (secondAt w at) (eqb-true (kindAt w at) 25 e), e)
-            (ap (λ (x : Option ℕ). some (max (bitBytes (secondAt w at)) (orZero x))) (only-child v) ∙ larger-some (bitBytes (secondAt w at)) (sizeAt s w (at + 4) v))
+            (ap (λ (x : Option ℕ). some (max (bitBytes (secondAt w at)) (Option·getD x 0))) (only-child v) ∙ larger-some (bitBytes (secondAt w at)) (sizeAt s w (at + 4) v))
         go false e true d =
             rw (label-array s (kindAt w at) (firstAt w at) (secondAt w at) (eqb-true (kindAt w at) 28 d), e, d) (ap (times (firstAt w at)) (only-child v))
         go false e false d =
@@ -111,21 +109,6 @@ fold-end s w at k v zero e p = go (eqb k 29)
     go true = plus-end e
     go false = larger-end e
 fold-end s w at k v (suc n) e p = absurd (omega arith)
-
-pub bits-fit : (n : ℕ) → bitBytes n ≤ maxU64
-unfolding bitBytes
-bits-fit n = go (leb n 8) (leb n 16) (leb n 32) (leb n 64) (leb n 128)
-  where
-    go : (a b c d e : Bool) → cond a 8 (cond b 16 (cond c 32 (cond d 64 (cond e 128 256)))) / 8 ≤ maxU64
-    go true b c d e = omega arith
-    go false true c d e = omega arith
-    go false false true d e = omega arith
-    go false false false true e = omega arith
-    go false false false false true = omega arith
-    go false false false false false = omega arith
-
-pub clip-bits : (b : ℕ) → clip (some (bitBytes b)) ≡ Bytes (bitBytes b)
-clip-bits b = clip-some (bitBytes b) (bits-fit b)
 
 pub low-leaf : (k : ℕ) → k < 25 → isLeaf k ≡ true
 unfolding isLeaf
@@ -221,7 +204,7 @@ module _ {k : ℕ} {v : NestingLevel} {w : List ℕ} {at n : ℕ} {all : Measure
     -- a code, or a bitfield without a type, is one node
     pub gathered-code : kindAt w at < 25 → (x : Measured) → ((s : List ℕ) → x ≡ clip (sizeAt s w at v)) → {y : Measured} → y ≡ joinMeasured k all x → Gathered k v w (at + 4) (n - 1) y total
     gathered-code lo x e {y} d = subst (λ (c : ℕ). Gathered k v w (at + 4 * c) (n - c) y total)
-        (eqb-true (countAt w at) 1 (sym (arity-low (kindAt w at) (countAt w at) (countAt w (at + 4)) lo) ∙ node-arity w at gathered-node)) (gathered-turn x e d)
+        (leaf-count w at gathered-node lo) (gathered-turn x e d)
 
     -- a container of the same kind: its fields stand in its place
     pub gathered-inner : isContainerKind k ≡ true → kindAt w at ≡ k → v ≡ Within → Gathered k v w (at + 4) (n - 1) all total

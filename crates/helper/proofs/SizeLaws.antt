@@ -4,12 +4,13 @@ use native.Mathlib.Omega.{arith}
 use native.Mathlib.Nat.{zero-mul, mul-comm, mul-le-mul-right, max-zero, add-assoc, le-div-iff-mul-le, div-lt-iff-lt-mul}
 use mathlib.Core.Path.{_≡_, refl, ap, sym, _∙_, subst}
 use mathlib.Core.List.{List, [], _∷_}
-use mathlib.Core.Option.{Option, some, none}
+use mathlib.Core.Option.{Option, some, none, Option·getD}
 use mathlib.Core.Bool.{Bool, true, false, cond}
 use borrow.Author.Tests.{le-leb, lt-leb, leb-true, leb-false, ne-eqb}
 use lib.Dec.{leb, eqb}
-use Rattle.kinds.specs.Size.{plus, larger, times, orZero, sum, largest, bitBytes}
+use Rattle.kinds.specs.Size.{plus, larger, times, sum, largest, raised, bitBytes}
 use Rattle.kinds.specs.Parse.{maxU64}
+use Rattle.kinds.proofs.SizeLaws.{raised-there, raised-on, bit-bytes}
 use Rattle.helper.specs.Measure.{fit, clip, plusMeasured, largerMeasured, timesMeasured, joinMeasured, join, fold, holding, holdingMeasured}
 use Rattle.helper.specs.declared.Measured.{Measured}
 use Rattle.helper.specs.declared.Measured.the-variants.{Nothing, Bytes, TooLarge}
@@ -120,8 +121,8 @@ join-unit k xs = go (eqb k 29)
     go true = plus-zero (sum xs)
     go false = larger-none (largest xs)
 
-pub larger-some : (b : ℕ) (x : Option ℕ) → some (max b (orZero x)) ≡ larger (some b) x
-unfolding larger orZero
+pub larger-some : (b : ℕ) (x : Option ℕ) → some (max b (Option·getD x 0)) ≡ larger (some b) x
+unfolding larger
 larger-some b none = ap some (max-zero b)
 larger-some b (some n) = refl
 
@@ -132,14 +133,52 @@ product-fits n a p h = subst (λ (j : ℕ). j ≤ maxU64) (mul-comm a n) (le-div
 pub product-over : (n a : ℕ) → (n ≡ 0 → ⊥) → maxU64 / n < a → maxU64 < n * a
 product-over n a p h = subst (λ (j : ℕ). maxU64 < j) (mul-comm a n) (div-lt-iff-lt-mul (omega arith) .0 h)
 
-pub clip-holding : (k a b : ℕ) (x : Option ℕ) → bitBytes b ≤ maxU64 → holdingMeasured k a b (clip x) ≡ clip (holding k a b x)
-unfolding holdingMeasured holding
-clip-holding k a b x le = go (eqb k 25) (eqb k 28)
+pub clip-holding : (k a b : ℕ) (x : Option ℕ) → holdingMeasured k a b (clip x) ≡ clip (holding k a b x)
+unfolding holdingMeasured holding clip
+clip-holding k a b x = go (eqb k 25) (eqb k 28)
   where
-    bits : largerMeasured (Bytes (bitBytes b)) (clip x) ≡ clip (larger (some (bitBytes b)) x)
-    bits = ap (λ (y : Measured). largerMeasured y (clip x)) (sym (clip-some (bitBytes b) le)) ∙ clip-larger (some (bitBytes b)) x
-
-    go : (t u : Bool) → cond t (largerMeasured (Bytes (bitBytes b)) (clip x)) (cond u (timesMeasured a (clip x)) (clip x)) ≡ clip (cond t (larger (some (bitBytes b)) x) (cond u (times a x) x))
-    go true u = bits
+    go : (t u : Bool) → cond t (largerMeasured (fit (bitBytes b)) (clip x)) (cond u (timesMeasured a (clip x)) (clip x)) ≡ clip (cond t (larger (some (bitBytes b)) x) (cond u (times a x) x))
+    go true u = clip-larger (some (bitBytes b)) x
     go false true = clip-times a x
     go false false = refl
+
+-- ---- The bytes of a bitfield of a 64-bit number of bits.
+
+-- They fit.
+pub bits-fit : (n : ℕ) → n ≤ maxU64 → fit (bitBytes n) ≡ Bytes (bitBytes n)
+bits-fit n h = fit-le (bitBytes n) (most (bit-bytes n .least 61 (room h)))
+  where
+    room : n ≤ 18446744073709551615 → n ≤ 18446744073709551616
+    room p = omega arith
+
+    most : bitBytes n ≤ 2305843009213693952 → bitBytes n ≤ 18446744073709551615
+    most p = omega arith
+
+-- With `bytes` so far, which may yet be doubled, they come to those of `n` bits.
+pub record Raising (n bytes : ℕ) : Type 0 where
+  pub some-bytes : 1 ≤ bytes
+  pub fuel : ℕ
+  pub reaches : n ≤ fuel + 8 * bytes
+  pub comes-to : raised fuel n (8 * bytes) / 8 ≡ bitBytes n
+
+pub raising-start : (n : ℕ) → Raising n 1
+unfolding bitBytes
+raising-start n = record { some-bytes = omega arith; fuel = n; reaches = omega arith; comes-to = refl }
+
+pub raising-next : {n bytes : ℕ} → 8 * bytes < n → Raising n bytes → Raising n (bytes * 2)
+raising-next {n} {bytes} h r = go (r .fuel) (r .reaches) (r .comes-to)
+  where
+    go : (f : ℕ) → n ≤ f + 8 * bytes → raised f n (8 * bytes) / 8 ≡ bitBytes n → Raising n (bytes * 2)
+    go zero l e = absurd (omega arith)
+    go (suc f) l e = record {
+      some-bytes = let o = r .some-bytes in omega arith;
+      fuel = f;
+      reaches = omega arith;
+      comes-to = ap (λ (p : ℕ). raised f n p / 8) (omega arith) ∙ ap (λ (x : ℕ). x / 8) (sym (raised-on f n (8 * bytes) h)) ∙ e;
+    }
+
+pub raising-end : {n bytes : ℕ} → n ≤ 8 * bytes → Raising n bytes → bytes ≡ bitBytes n
+raising-end {n} {bytes} h r = eighth (8 * bytes) refl ∙ ap (λ (x : ℕ). x / 8) (sym (raised-there (r .fuel) n (8 * bytes) h)) ∙ r .comes-to
+  where
+    eighth : (x : ℕ) → x ≡ 8 * bytes → bytes ≡ x / 8
+    eighth x e = omega arith

@@ -70,7 +70,7 @@ fold k xs = cond (eqb k 29) (sum xs) (largest xs)
 
 -- What a typed bitfield, an atomic or an array with the numbers `a` and `b` makes of the size of what it holds.
 unfoldable pub holdingMeasured : ℕ → ℕ → ℕ → Measured → Measured
-holdingMeasured k a b x = cond (eqb k 25) (largerMeasured (Bytes (bitBytes b)) x) (cond (eqb k 28) (timesMeasured a x) x)
+holdingMeasured k a b x = cond (eqb k 25) (largerMeasured (fit (bitBytes b)) x) (cond (eqb k 28) (timesMeasured a x) x)
 
 unfoldable pub holding : ℕ → ℕ → ℕ → Option ℕ → Option ℕ
 holding k a b x = cond (eqb k 25) (larger (some (bitBytes b)) x) (cond (eqb k 28) (times a x) x)

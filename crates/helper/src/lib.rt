@@ -175,22 +175,13 @@ impl Measured {
 fn bit_bytes(n: u64) -> u64
     ensures { λ r. ⌜ r ≡ bitBytes n ⌝ }
 {
-    if n <= 8 {
-        return 1;
+    // so many bytes hold the bits
+    let enough = n / 8 + (n % 8 + 7) / 8;
+    let mut bytes = 1;
+    while bytes < enough {
+        bytes *= 2;
     }
-    if n <= 16 {
-        return 2;
-    }
-    if n <= 32 {
-        return 4;
-    }
-    if n <= 64 {
-        return 8;
-    }
-    if n <= 128 {
-        return 16;
-    }
-    32
+    bytes
 }
 
 // A node whose size does not depend on what it holds: a primitive, a bitfield without a type, a pointer, None.

@@ -7,5 +7,6 @@ pub mod SheetLaws
 pub mod NodeLaws
 pub mod KindLaws
 pub mod ParseLaws
+pub mod SizeLaws
 pub mod LayoutLaws
 pub mod HoldsLaws

@@ -1,7 +1,7 @@
 -- Why an input is turned away (01, "Why an input is turned away"): the number of each refusal and the values that it carries.
 use Prim.Native.Nat.{ℕ}
 use mathlib.Core.List.{List, [], _∷_}
-use mathlib.Core.Option.{Option, some, none}
+use mathlib.Core.Option.{Option, some, none, Option·getD}
 use Rattle.kinds.specs.declared.ContainerKind.{ContainerKind}
 use Rattle.kinds.specs.declared.ContainerKind.the-variants.{Struct, Union}
 use Rattle.kinds.specs.declared.ErrorKind.the-variants as E
@@ -59,10 +59,6 @@ refusedContainer r = row r .its-container
 
 -- ---- The same as plain numbers, 0 where a refusal carries none; a container by its kind word.
 
-abbrev pub orZero : Option ℕ → ℕ
-orZero none = 0
-orZero (some n) = n
-
 abbrev pub containerWord : Option ContainerKind → ℕ
 containerWord none = 0
 containerWord (some Struct) = 29
@@ -70,7 +66,7 @@ containerWord (some Union) = 30
 
 -- Place, byte and container.
 abbrev pub values : Refusal → List ℕ
-values r = orZero (place r) ∷ orZero (refusedByte r) ∷ containerWord (refusedContainer r) ∷ []
+values r = Option·getD (place r) 0 ∷ Option·getD (refusedByte r) 0 ∷ containerWord (refusedContainer r) ∷ []
 
 -- The number and these.
 abbrev pub words : Refusal → List ℕ

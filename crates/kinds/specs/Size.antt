@@ -2,7 +2,7 @@
 use Prim.Native.Nat.{ℕ, zero, suc, _+_, _*_, _/_, max}
 use mathlib.Core.Bool.{cond}
 use mathlib.Core.List.{List, [], _∷_}
-use mathlib.Core.Option.{Option, some, none}
+use mathlib.Core.Option.{Option, some, none, Option·getD}
 use lib.Dec.{leb}
 use Rattle.kinds.specs.Level.{showsFields}
 use Rattle.kinds.specs.Primitive.{appleArm, primitiveSize}
@@ -11,14 +11,14 @@ use Rattle.kinds.specs.Tree.{Label, Trees, end, node, primitive, bitFiel
 use Rattle.kinds.specs.declared.NestingLevel.{NestingLevel}
 use Rattle.kinds.specs.declared.NestingLevel.the-variants.{Top}
 
--- `n` raised to a power of two, at least `p`, by at most `fuel` doublings.
+-- `n` raised to a power of two, at least `p`: doublings of `p` until `n` is reached, of which `n` are always enough.
 abbrev pub raised : ℕ → ℕ → ℕ → ℕ
 raised zero n p = p
 raised (suc fuel) n p = cond (leb n p) p (raised fuel n (2 * p))
 
--- The bits of a bitfield raised to a power of two, at least 8, divided by 8; it has at most 255, so the last power is 256.
+-- The bits of a bitfield raised to a power of two, at least 8, divided by 8.
 unfoldable pub bitBytes : ℕ → ℕ
-bitBytes n = raised 5 n 8 / 8
+bitBytes n = raised n n 8 / 8
 
 unfoldable pub plus : Option ℕ → Option ℕ → Option ℕ
 plus none b = none
@@ -33,10 +33,6 @@ larger (some a) (some b) = some (max a b)
 unfoldable pub times : ℕ → Option ℕ → Option ℕ
 times n none = none
 times n (some a) = some (n * a)
-
-unfoldable pub orZero : Option ℕ → ℕ
-orZero none = 0
-orZero (some a) = a
 
 -- A struct: none if a field has none.
 unfoldable pub sum : List (Option ℕ) → Option ℕ
@@ -57,7 +53,7 @@ only (a ∷ s) = a
 unfoldable pub nodeSize : Label → NestingLevel → List (Option ℕ) → Option ℕ
 nodeSize (primitive p) v xs = primitiveSize p
 nodeSize (bitField n) v xs = some (bitBytes n)
-nodeSize (typedBitField o n) v xs = some (max (bitBytes n) (orZero (only xs)))
+nodeSize (typedBitField o n) v xs = some (max (bitBytes n) (Option·getD (only xs) 0))
 nodeSize pointer v xs = some (appleArm .pointer)
 nodeSize atomic v xs = only xs
 nodeSize (array n) v xs = times n (only xs)

@@ -27,26 +27,26 @@ use Rattle.kinds.proofs.ListLaws.{whole}
 use Rattle.kinds.proofs.NodeLaws.{node-inner, child-count, node-child}
 use Rattle.helper.specs.Measure.{clip, holdingMeasured, fold, sizeAt}
 use Rattle.helper.proofs.SizeLaws.{clip-holding, join-unit}
-use Rattle.helper.proofs.NodeSizeLaws.{Gathered, gathered-end, gathered-node, gathered-within, gathered-turn, gathered-code, gathered-inner, low-leaf, size-leaf, not-leaf, size-held, size-dropped, size-included, bits-fit}
+use Rattle.helper.proofs.NodeSizeLaws.{Gathered, gathered-end, gathered-node, gathered-within, gathered-turn, gathered-code, gathered-inner, low-leaf, size-leaf, not-leaf, size-held, size-dropped, size-included}
 
 abbrev μ-size-of : Measures 1 size-of-kinds.ps ℕ
 μ-size-of κs a = countAt (a .0 .now) (a .1 .0)
 
-abbrev size-of-at : ℕ → In 1 size-of-kinds.ps
-size-of-at t = and 1 size-of-kinds.ps (is 1 size-of-kinds.ps μ-size-of t) size-of.Pre
+abbrev asked : ℕ → In 1 size-of-kinds.ps
+asked t = and 1 size-of-kinds.ps (is 1 size-of-kinds.ps μ-size-of t) size-of.Pre
 
-abbrev size-of-below : ℕ → In 1 size-of-kinds.ps
-size-of-below t = and 1 size-of-kinds.ps (falls 1 size-of-kinds.ps _<_ μ-size-of t) size-of.Pre
+abbrev below : ℕ → In 1 size-of-kinds.ps
+below t = and 1 size-of-kinds.ps (falls 1 size-of-kinds.ps _<_ μ-size-of t) size-of.Pre
 
-abbrev size-of-claims : ℕ → size-of-lts.Claims
-size-of-claims t = (
+abbrev claims : ℕ → size-of-lts.Claims
+claims t = (
   is-leaf-reads.Asked,
   is-leaf-reads.Learnt,
   leaf-size-reads.Asked,
   leaf-size-reads.Learnt,
   inside-reads.Asked,
   inside-reads.Learnt,
-  size-of-below t,
+  below t,
   size-of.Post,
   held-by-reads.Asked,
   held-by-reads.Learnt,
@@ -58,54 +58,56 @@ size-of-claims t = (
   join-reads.Learnt,
 )
 
-abbrev size-of-Inv-loop : size-of-lts.InvT-loop
-size-of-Inv-loop nodes at kind inner child₀ left₀ all₀ child left all = (left < countAt nodes at) × Gathered kind inner nodes child left all (λ s. fold kind (sizes inner (trees s nodes (countAt nodes at - 1) (at + 4))))
+abbrev Inv-loop : size-of-lts.InvT-loop
+Inv-loop nodes at kind inner child₀ left₀ all₀ child left all = (left < countAt nodes at) × Gathered kind inner nodes child left all
+    (λ s. fold kind (sizes inner (trees s nodes (countAt nodes at - 1) (at + 4))))
 
-abbrev size-of-μ-loop : size-of-lts.MeasureT-loop
-size-of-μ-loop nodes at kind inner child₀ left₀ all₀ child left all = left
+abbrev μ-loop : size-of-lts.MeasureT-loop
+μ-loop nodes at kind inner child₀ left₀ all₀ child left all = left
 
-size-of-mul-kind : (t : ℕ) → size-of-lts.Need-mul-kind (size-of-claims t) (size-of-at t) size-of.Post size-of-Inv-loop size-of-μ-loop
+size-of-mul-kind : (t : ℕ) → size-of-lts.Need-mul-kind (claims t) (asked t) size-of.Post Inv-loop μ-loop
 size-of-mul-kind t c = search needs
 
-size-of-shared-slice-read-kind : (t : ℕ) → size-of-lts.Need-shared-slice-read-kind (size-of-claims t) (size-of-at t) size-of.Post size-of-Inv-loop size-of-μ-loop
+size-of-shared-slice-read-kind : (t : ℕ) → size-of-lts.Need-shared-slice-read-kind (claims t) (asked t) size-of.Post Inv-loop μ-loop
 size-of-shared-slice-read-kind t c = search needs
 
-size-of-is-leaf-requires : (t : ℕ) → size-of-lts.Need-is-leaf-requires (size-of-claims t) (size-of-at t) size-of.Post size-of-Inv-loop size-of-μ-loop
+size-of-is-leaf-requires : (t : ℕ) → size-of-lts.Need-is-leaf-requires (claims t) (asked t) size-of.Post Inv-loop μ-loop
 size-of-is-leaf-requires t c κs = search needs
 
-size-of-add-leaf-size : (t : ℕ) → size-of-lts.Need-add-leaf-size (size-of-claims t) (size-of-at t) size-of.Post size-of-Inv-loop size-of-μ-loop
+size-of-add-leaf-size : (t : ℕ) → size-of-lts.Need-add-leaf-size (claims t) (asked t) size-of.Post Inv-loop μ-loop
 size-of-add-leaf-size t c = search needs
 
-size-of-mul-leaf-size : (t : ℕ) → size-of-lts.Need-mul-leaf-size (size-of-claims t) (size-of-at t) size-of.Post size-of-Inv-loop size-of-μ-loop
+size-of-mul-leaf-size : (t : ℕ) → size-of-lts.Need-mul-leaf-size (claims t) (asked t) size-of.Post Inv-loop μ-loop
 size-of-mul-leaf-size t c = search needs
 
-size-of-shared-slice-read-leaf-size : (t : ℕ) → size-of-lts.Need-shared-slice-read-leaf-size (size-of-claims t) (size-of-at t) size-of.Post size-of-Inv-loop size-of-μ-loop
+size-of-shared-slice-read-leaf-size : (t : ℕ) → size-of-lts.Need-shared-slice-read-leaf-size (claims t) (asked t) size-of.Post Inv-loop μ-loop
 size-of-shared-slice-read-leaf-size t c = search needs
 
-size-of-leaf-size-requires : (t : ℕ) → size-of-lts.Need-leaf-size-requires (size-of-claims t) (size-of-at t) size-of.Post size-of-Inv-loop size-of-μ-loop
+size-of-leaf-size-requires : (t : ℕ) → size-of-lts.Need-leaf-size-requires (claims t) (asked t) size-of.Post Inv-loop μ-loop
 size-of-leaf-size-requires t c κs = search needs
 
-size-of-returns : (t : ℕ) → size-of-lts.Need-returns (size-of-claims t) (size-of-at t) size-of.Post size-of-Inv-loop size-of-μ-loop
+size-of-returns : (t : ℕ) → size-of-lts.Need-returns (claims t) (asked t) size-of.Post Inv-loop μ-loop
 size-of-returns t c =
     let a = c .before .before .before .before .before .before .args in
-    λ s. c .leaf-size .ensures ∙ sym (ap clip (size-leaf s (a .nodes .now) (a .at) (a .level) (sym (c .before .before .before .is-leaf .ensures) ∙ c .before .before .if1 .taken)))
+    λ s. c .leaf-size .ensures ∙ sym (ap clip (size-leaf s (a .nodes .now) (a .at) (a .level)
+    (sym (c .before .before .before .is-leaf .ensures) ∙ c .before .before .if1 .taken)))
 
-size-of-sub-size-of : (t : ℕ) → size-of-lts.Need-sub-size-of (size-of-claims t) (size-of-at t) size-of.Post size-of-Inv-loop size-of-μ-loop
+size-of-sub-size-of : (t : ℕ) → size-of-lts.Need-sub-size-of (claims t) (asked t) size-of.Post Inv-loop μ-loop
 size-of-sub-size-of t c = search needs
 
-size-of-part-size-of-start : (t : ℕ) → size-of-lts.Need-part-size-of-start (size-of-claims t) (size-of-at t) size-of.Post size-of-Inv-loop size-of-μ-loop
+size-of-part-size-of-start : (t : ℕ) → size-of-lts.Need-part-size-of-start (claims t) (asked t) size-of.Post Inv-loop μ-loop
 size-of-part-size-of-start t c = search needs
 
-size-of-part-size-of-end : (t : ℕ) → size-of-lts.Need-part-size-of-end (size-of-claims t) (size-of-at t) size-of.Post size-of-Inv-loop size-of-μ-loop
+size-of-part-size-of-end : (t : ℕ) → size-of-lts.Need-part-size-of-end (claims t) (asked t) size-of.Post Inv-loop μ-loop
 size-of-part-size-of-end t c = search needs
 
-size-of-add-size-of : (t : ℕ) → size-of-lts.Need-add-size-of (size-of-claims t) (size-of-at t) size-of.Post size-of-Inv-loop size-of-μ-loop
+size-of-add-size-of : (t : ℕ) → size-of-lts.Need-add-size-of (claims t) (asked t) size-of.Post Inv-loop μ-loop
 size-of-add-size-of t c = search needs
 
-size-of-inside-requires : (t : ℕ) → size-of-lts.Need-inside-requires (size-of-claims t) (size-of-at t) size-of.Post size-of-Inv-loop size-of-μ-loop
+size-of-inside-requires : (t : ℕ) → size-of-lts.Need-inside-requires (claims t) (asked t) size-of.Post Inv-loop μ-loop
 size-of-inside-requires t c κs = search needs
 
-size-of-size-of-requires : (t : ℕ) → size-of-lts.Need-size-of-requires (size-of-claims t) (size-of-at t) size-of.Post size-of-Inv-loop size-of-μ-loop
+size-of-size-of-requires : (t : ℕ) → size-of-lts.Need-size-of-requires (claims t) (asked t) size-of.Post Inv-loop μ-loop
 size-of-size-of-requires t c κs =
     let a = c .before .before .before .before .before .before .before .args in
     let pre = c .before .before .before .before .before .before .before .pre in
@@ -115,133 +117,144 @@ size-of-size-of-requires t c κs =
     let k = child-count _ _ (pre .1) lo hi in
     rw whole (omega arith, node-child _ _ (pre .1) lo hi)
 
-size-of-add-held-by : (t : ℕ) → size-of-lts.Need-add-held-by (size-of-claims t) (size-of-at t) size-of.Post size-of-Inv-loop size-of-μ-loop
+size-of-add-held-by : (t : ℕ) → size-of-lts.Need-add-held-by (claims t) (asked t) size-of.Post Inv-loop μ-loop
 size-of-add-held-by t c = search needs
 
-size-of-mul-held-by : (t : ℕ) → size-of-lts.Need-mul-held-by (size-of-claims t) (size-of-at t) size-of.Post size-of-Inv-loop size-of-μ-loop
+size-of-mul-held-by : (t : ℕ) → size-of-lts.Need-mul-held-by (claims t) (asked t) size-of.Post Inv-loop μ-loop
 size-of-mul-held-by t c = search needs
 
-size-of-shared-slice-read-held-by : (t : ℕ) → size-of-lts.Need-shared-slice-read-held-by (size-of-claims t) (size-of-at t) size-of.Post size-of-Inv-loop size-of-μ-loop
+size-of-shared-slice-read-held-by : (t : ℕ) → size-of-lts.Need-shared-slice-read-held-by (claims t) (asked t) size-of.Post Inv-loop μ-loop
 size-of-shared-slice-read-held-by t c = search needs
 
-size-of-add-held-by-2 : (t : ℕ) → size-of-lts.Need-add-held-by-2 (size-of-claims t) (size-of-at t) size-of.Post size-of-Inv-loop size-of-μ-loop
+size-of-add-held-by-2 : (t : ℕ) → size-of-lts.Need-add-held-by-2 (claims t) (asked t) size-of.Post Inv-loop μ-loop
 size-of-add-held-by-2 t c = search needs
 
-size-of-mul-held-by-2 : (t : ℕ) → size-of-lts.Need-mul-held-by-2 (size-of-claims t) (size-of-at t) size-of.Post size-of-Inv-loop size-of-μ-loop
+size-of-mul-held-by-2 : (t : ℕ) → size-of-lts.Need-mul-held-by-2 (claims t) (asked t) size-of.Post Inv-loop μ-loop
 size-of-mul-held-by-2 t c = search needs
 
-size-of-shared-slice-read-held-by-2 : (t : ℕ) → size-of-lts.Need-shared-slice-read-held-by-2 (size-of-claims t) (size-of-at t) size-of.Post size-of-Inv-loop size-of-μ-loop
+size-of-shared-slice-read-held-by-2 : (t : ℕ) → size-of-lts.Need-shared-slice-read-held-by-2 (claims t) (asked t) size-of.Post Inv-loop μ-loop
 size-of-shared-slice-read-held-by-2 t c = search needs
 
-size-of-held-by-requires : (t : ℕ) → size-of-lts.Need-held-by-requires (size-of-claims t) (size-of-at t) size-of.Post size-of-Inv-loop size-of-μ-loop
+size-of-held-by-requires : (t : ℕ) → size-of-lts.Need-held-by-requires (claims t) (asked t) size-of.Post Inv-loop μ-loop
 size-of-held-by-requires t c κs = search needs
 
-size-of-returns-2 : (t : ℕ) → size-of-lts.Need-returns-2 (size-of-claims t) (size-of-at t) size-of.Post size-of-Inv-loop size-of-μ-loop
+size-of-returns-2 : (t : ℕ) → size-of-lts.Need-returns-2 (claims t) (asked t) size-of.Post Inv-loop μ-loop
 size-of-returns-2 t c =
     let a = c .before .before .before .before .before .before .before .before .before .before .before .args in
     let pre = c .before .before .before .before .before .before .before .before .before .before .before .pre in
-    let n = not-leaf (kindAt (a .nodes .now) (a .at)) (sym (c .before .before .before .before .before .before .before .before .is-leaf .ensures) ∙ c .before .before .before .before .before .before .before .if1 .left) in
+    let n = not-leaf (kindAt (a .nodes .now) (a .at)) (sym (c .before .before .before .before .before .before .before .before .is-leaf .ensures)
+    ∙ c .before .before .before .before .before .before .before .if1 .left) in
     let lo : 25 ≤ kindAt (a .nodes .now) (a .at) = omega arith in
     let hi : kindAt (a .nodes .now) (a .at) ≤ 28 = omega arith in
     λ s. c .held-by .ensures
     ∙ ap (holdingMeasured _ _ _) ((rw whole at (c .before .before .before .size-of .ensures s))
-    ∙ ap (λ v. clip (sizeAt s (a .nodes .now) (a .at + 4) v)) (c .before .before .before .before .inside .ensures ∙ sym (inside-kind s _ _ _ _))) ∙ clip-holding _ _ _ _ (bits-fit _)
+    ∙ ap (λ v. clip (sizeAt s (a .nodes .now) (a .at + 4) v)) (c .before .before .before .before .inside .ensures ∙ sym (inside-kind s _ _ _ _)))
+    ∙ clip-holding _ _ _ _
     ∙ sym (ap clip (size-held s (a .nodes .now) (a .at) (pre .1) lo hi (a .level) (n .2)))
 
-size-of-container-include-fields-requires : (t : ℕ) → size-of-lts.Need-container-include-fields-requires (size-of-claims t) (size-of-at t) size-of.Post size-of-Inv-loop size-of-μ-loop
+size-of-container-include-fields-requires : (t : ℕ) → size-of-lts.Need-container-include-fields-requires (claims t) (asked t) size-of.Post Inv-loop μ-loop
 size-of-container-include-fields-requires t c κs = search needs
 
-size-of-enum-known-inner : (t : ℕ) → size-of-lts.Need-enum-known-inner (size-of-claims t) (size-of-at t) size-of.Post size-of-Inv-loop size-of-μ-loop
+size-of-enum-known-inner : (t : ℕ) → size-of-lts.Need-enum-known-inner (claims t) (asked t) size-of.Post Inv-loop μ-loop
 size-of-enum-known-inner t c = search needs
 
-size-of-enum-told : (t : ℕ) → size-of-lts.Need-enum-told (size-of-claims t) (size-of-at t) size-of.Post size-of-Inv-loop size-of-μ-loop
+size-of-enum-told : (t : ℕ) → size-of-lts.Need-enum-told (claims t) (asked t) size-of.Post Inv-loop μ-loop
 size-of-enum-told t c = search needs
 
-size-of-returns-3 : (t : ℕ) → size-of-lts.Need-returns-3 (size-of-claims t) (size-of-at t) size-of.Post size-of-Inv-loop size-of-μ-loop
+size-of-returns-3 : (t : ℕ) → size-of-lts.Need-returns-3 (claims t) (asked t) size-of.Post Inv-loop μ-loop
 unfolding clip
 size-of-returns-3 t c =
     let a = c .before .before .before .before .before .before .before .before .args in
-    let n = not-leaf (kindAt (a .nodes .now) (a .at)) (sym (c .before .before .before .before .before .is-leaf .ensures) ∙ c .before .before .before .before .if1 .left) in
-    λ s. sym (ap clip (size-dropped s (a .nodes .now) (a .at) (a .level) (container-kind (kindAt (a .nodes .now) (a .at)) (omega arith) (omega arith)) (sym (c .before .before .container-include-fields .ensures) ∙ c .enum-told .given .1)))
+    let n = not-leaf (kindAt (a .nodes .now) (a .at)) (sym (c .before .before .before .before .before .is-leaf .ensures)
+    ∙ c .before .before .before .before .if1 .left) in
+    λ s. sym (ap clip (size-dropped s (a .nodes .now) (a .at) (a .level) (container-kind (kindAt (a .nodes .now) (a .at)) (omega arith) (omega arith))
+    (sym (c .before .before .container-include-fields .ensures) ∙ c .enum-told .given .1)))
 
-size-of-add-child : (t : ℕ) → size-of-lts.Need-add-child (size-of-claims t) (size-of-at t) size-of.Post size-of-Inv-loop size-of-μ-loop
+size-of-add-child : (t : ℕ) → size-of-lts.Need-add-child (claims t) (asked t) size-of.Post Inv-loop μ-loop
 size-of-add-child t c = search needs
 
-size-of-add-left : (t : ℕ) → size-of-lts.Need-add-left (size-of-claims t) (size-of-at t) size-of.Post size-of-Inv-loop size-of-μ-loop
+size-of-add-left : (t : ℕ) → size-of-lts.Need-add-left (claims t) (asked t) size-of.Post Inv-loop μ-loop
 size-of-add-left t c = search needs
 
-size-of-mul-left : (t : ℕ) → size-of-lts.Need-mul-left (size-of-claims t) (size-of-at t) size-of.Post size-of-Inv-loop size-of-μ-loop
+size-of-mul-left : (t : ℕ) → size-of-lts.Need-mul-left (claims t) (asked t) size-of.Post Inv-loop μ-loop
 size-of-mul-left t c = search needs
 
-size-of-shared-slice-read-left : (t : ℕ) → size-of-lts.Need-shared-slice-read-left (size-of-claims t) (size-of-at t) size-of.Post size-of-Inv-loop size-of-μ-loop
+size-of-shared-slice-read-left : (t : ℕ) → size-of-lts.Need-shared-slice-read-left (claims t) (asked t) size-of.Post Inv-loop μ-loop
 size-of-shared-slice-read-left t c = search needs
 
-size-of-sub-left : (t : ℕ) → size-of-lts.Need-sub-left (size-of-claims t) (size-of-at t) size-of.Post size-of-Inv-loop size-of-μ-loop
+size-of-sub-left : (t : ℕ) → size-of-lts.Need-sub-left (claims t) (asked t) size-of.Post Inv-loop μ-loop
 size-of-sub-left t c = search needs
 
-size-of-of-no-fields-requires : (t : ℕ) → size-of-lts.Need-of-no-fields-requires (size-of-claims t) (size-of-at t) size-of.Post size-of-Inv-loop size-of-μ-loop
+size-of-of-no-fields-requires : (t : ℕ) → size-of-lts.Need-of-no-fields-requires (claims t) (asked t) size-of.Post Inv-loop μ-loop
 size-of-of-no-fields-requires t c κs = search needs
 
-size-of-loop-holds : (t : ℕ) → size-of-lts.Need-loop-holds (size-of-claims t) (size-of-at t) size-of.Post size-of-Inv-loop size-of-μ-loop
+size-of-loop-holds : (t : ℕ) → size-of-lts.Need-loop-holds (claims t) (asked t) size-of.Post Inv-loop μ-loop
 size-of-loop-holds t c =
     let pre = c .before .before .before .before .before .before .before .before .before .before .before .pre in
     let a = c .before .before .before .before .before .before .before .before .before .before .before .args in
     let o = pre .1 .some-node in
     (omega arith, record { there = node-inner _ _ (pre .1); rest = λ s. (fold (kindAt (a .nodes .now) (a .at)) [], c .of-no-fields .ensures, join-unit _ _) })
 
-size-of-mul-field : (t : ℕ) → size-of-lts.Need-mul-field (size-of-claims t) (size-of-at t) size-of.Post size-of-Inv-loop size-of-μ-loop
+size-of-mul-field : (t : ℕ) → size-of-lts.Need-mul-field (claims t) (asked t) size-of.Post Inv-loop μ-loop
 size-of-mul-field t c = let b = gathered-within (c .before .loop .inv .1) (c .loop-test .taken) in omega arith
 
-size-of-shared-slice-read-field : (t : ℕ) → size-of-lts.Need-shared-slice-read-field (size-of-claims t) (size-of-at t) size-of.Post size-of-Inv-loop size-of-μ-loop
+size-of-shared-slice-read-field : (t : ℕ) → size-of-lts.Need-shared-slice-read-field (claims t) (asked t) size-of.Post Inv-loop μ-loop
 size-of-shared-slice-read-field t c = let b = gathered-within (c .before .before .loop .inv .1) (c .before .loop-test .taken) in omega arith
 
-size-of-add-leaf-size-2 : (t : ℕ) → size-of-lts.Need-add-leaf-size-2 (size-of-claims t) (size-of-at t) size-of.Post size-of-Inv-loop size-of-μ-loop
+size-of-add-leaf-size-2 : (t : ℕ) → size-of-lts.Need-add-leaf-size-2 (claims t) (asked t) size-of.Post Inv-loop μ-loop
 size-of-add-leaf-size-2 t c = let b = gathered-within (c .before .before .before .loop .inv .1) (c .before .before .loop-test .taken) in omega arith
 
-size-of-mul-leaf-size-2 : (t : ℕ) → size-of-lts.Need-mul-leaf-size-2 (size-of-claims t) (size-of-at t) size-of.Post size-of-Inv-loop size-of-μ-loop
+size-of-mul-leaf-size-2 : (t : ℕ) → size-of-lts.Need-mul-leaf-size-2 (claims t) (asked t) size-of.Post Inv-loop μ-loop
 size-of-mul-leaf-size-2 t c = let b = gathered-within (c .before .before .before .loop .inv .1) (c .before .before .loop-test .taken) in omega arith
 
-size-of-shared-slice-read-leaf-size-2 : (t : ℕ) → size-of-lts.Need-shared-slice-read-leaf-size-2 (size-of-claims t) (size-of-at t) size-of.Post size-of-Inv-loop size-of-μ-loop
-size-of-shared-slice-read-leaf-size-2 t c = let b = gathered-within (c .before .before .before .before .loop .inv .1) (c .before .before .before .loop-test .taken) in omega arith
+size-of-shared-slice-read-leaf-size-2 : (t : ℕ) → size-of-lts.Need-shared-slice-read-leaf-size-2 (claims t) (asked t) size-of.Post Inv-loop μ-loop
+size-of-shared-slice-read-leaf-size-2 t c = let b = gathered-within (c .before .before .before .before .loop .inv .1)
+    (c .before .before .before .loop-test .taken) in omega arith
 
-size-of-leaf-size-requires-2 : (t : ℕ) → size-of-lts.Need-leaf-size-requires-2 (size-of-claims t) (size-of-at t) size-of.Post size-of-Inv-loop size-of-μ-loop
+size-of-leaf-size-requires-2 : (t : ℕ) → size-of-lts.Need-leaf-size-requires-2 (claims t) (asked t) size-of.Post Inv-loop μ-loop
 size-of-leaf-size-requires-2 t c κs = search needs
 
-size-of-join-requires : (t : ℕ) → size-of-lts.Need-join-requires (size-of-claims t) (size-of-at t) size-of.Post size-of-Inv-loop size-of-μ-loop
+size-of-join-requires : (t : ℕ) → size-of-lts.Need-join-requires (claims t) (asked t) size-of.Post Inv-loop μ-loop
 size-of-join-requires t c κs = search needs
 
-size-of-add-child-2 : (t : ℕ) → size-of-lts.Need-add-child-2 (size-of-claims t) (size-of-at t) size-of.Post size-of-Inv-loop size-of-μ-loop
-size-of-add-child-2 t c = let b = gathered-within (c .before .before .before .before .before .before .loop .inv .1) (c .before .before .before .before .before .loop-test .taken) in omega arith
+size-of-add-child-2 : (t : ℕ) → size-of-lts.Need-add-child-2 (claims t) (asked t) size-of.Post Inv-loop μ-loop
+size-of-add-child-2 t c = let b = gathered-within (c .before .before .before .before .before .before .loop .inv .1)
+    (c .before .before .before .before .before .loop-test .taken) in omega arith
 
-size-of-sub-left-2 : (t : ℕ) → size-of-lts.Need-sub-left-2 (size-of-claims t) (size-of-at t) size-of.Post size-of-Inv-loop size-of-μ-loop
-size-of-sub-left-2 t c = let b = gathered-within (c .before .before .before .before .before .before .loop .inv .1) (c .before .before .before .before .before .loop-test .taken) in omega arith
+size-of-sub-left-2 : (t : ℕ) → size-of-lts.Need-sub-left-2 (claims t) (asked t) size-of.Post Inv-loop μ-loop
+size-of-sub-left-2 t c = let b = gathered-within (c .before .before .before .before .before .before .loop .inv .1)
+    (c .before .before .before .before .before .loop-test .taken) in omega arith
 
-size-of-loop-less : (t : ℕ) → size-of-lts.Need-loop-less (size-of-claims t) (size-of-at t) size-of.Post size-of-Inv-loop size-of-μ-loop
-size-of-loop-less t c = let b = gathered-within (c .before .before .before .before .before .before .loop .inv .1) (c .before .before .before .before .before .loop-test .taken) in omega arith
+size-of-loop-less : (t : ℕ) → size-of-lts.Need-loop-less (claims t) (asked t) size-of.Post Inv-loop μ-loop
+size-of-loop-less t c = let b = gathered-within (c .before .before .before .before .before .before .loop .inv .1)
+    (c .before .before .before .before .before .loop-test .taken) in omega arith
 
-size-of-loop-again : (t : ℕ) → size-of-lts.Need-loop-again (size-of-claims t) (size-of-at t) size-of.Post size-of-Inv-loop size-of-μ-loop
+size-of-loop-again : (t : ℕ) → size-of-lts.Need-loop-again (claims t) (asked t) size-of.Post Inv-loop μ-loop
 size-of-loop-again t c =
     let a = c .before .before .before .before .before .before .before .before .before .before .before .before .before .before .before .before .before .before .args in
     let b = gathered-within (c .before .before .before .before .before .before .loop .inv .1) (c .before .before .before .before .before .loop-test .taken) in
     let k : kindAt (a .nodes .now) (c .before .before .before .before .before .before .loop .child) < 25 = omega arith in (
       omega arith,
-      gathered-code (c .before .before .before .before .before .before .loop .inv .1) (c .before .before .before .before .before .loop-test .taken) k (c .before .leaf-size2 .result)
-          (λ s. c .before .leaf-size2 .ensures ∙ sym (ap clip (size-leaf s (a .nodes .now) (c .before .before .before .before .before .before .loop .child) _ (low-leaf _ k)))) (c .join .ensures),
+      gathered-code (c .before .before .before .before .before .before .loop .inv .1) (c .before .before .before .before .before .loop-test .taken) k
+          (c .before .leaf-size2 .result)
+          (λ s. c .before .leaf-size2 .ensures ∙ sym (ap clip
+          (size-leaf s (a .nodes .now) (c .before .before .before .before .before .before .loop .child) _ (low-leaf _ k)))) (c .join .ensures),
     )
 
-size-of-add-child-3 : (t : ℕ) → size-of-lts.Need-add-child-3 (size-of-claims t) (size-of-at t) size-of.Post size-of-Inv-loop size-of-μ-loop
+size-of-add-child-3 : (t : ℕ) → size-of-lts.Need-add-child-3 (claims t) (asked t) size-of.Post Inv-loop μ-loop
 size-of-add-child-3 t c = let b = gathered-within (c .before .before .before .before .loop .inv .1) (c .before .before .before .loop-test .taken) in omega arith
 
-size-of-sub-left-3 : (t : ℕ) → size-of-lts.Need-sub-left-3 (size-of-claims t) (size-of-at t) size-of.Post size-of-Inv-loop size-of-μ-loop
+size-of-sub-left-3 : (t : ℕ) → size-of-lts.Need-sub-left-3 (claims t) (asked t) size-of.Post Inv-loop μ-loop
 size-of-sub-left-3 t c = let b = gathered-within (c .before .before .before .before .loop .inv .1) (c .before .before .before .loop-test .taken) in omega arith
 
-size-of-loop-less-2 : (t : ℕ) → size-of-lts.Need-loop-less-2 (size-of-claims t) (size-of-at t) size-of.Post size-of-Inv-loop size-of-μ-loop
+size-of-loop-less-2 : (t : ℕ) → size-of-lts.Need-loop-less-2 (claims t) (asked t) size-of.Post Inv-loop μ-loop
 size-of-loop-less-2 t c = let b = gathered-within (c .before .before .before .before .loop .inv .1) (c .before .before .before .loop-test .taken) in omega arith
 
-size-of-loop-again-2 : (t : ℕ) → size-of-lts.Need-loop-again-2 (size-of-claims t) (size-of-at t) size-of.Post size-of-Inv-loop size-of-μ-loop
+size-of-loop-again-2 : (t : ℕ) → size-of-lts.Need-loop-again-2 (claims t) (asked t) size-of.Post Inv-loop μ-loop
 size-of-loop-again-2 t c =
     let a = c .before .before .before .before .before .before .before .before .before .before .before .before .before .before .before .before .args in
-    let n = not-leaf (kindAt (a .nodes .now) (a .at)) (sym (c .before .before .before .before .before .before .before .before .before .before .before .before .before .is-leaf .ensures)
+    let n = not-leaf (kindAt (a .nodes .now) (a .at)) (sym
+    (c .before .before .before .before .before .before .before .before .before .before .before .before .before .is-leaf .ensures)
     ∙ c .before .before .before .before .before .before .before .before .before .before .before .before .if1 .left) in
     let b = gathered-within (c .before .before .before .before .loop .inv .1) (c .before .before .before .loop-test .taken) in
     let k : kindAt (a .nodes .now) (c .before .before .before .before .loop .child) ≡ kindAt (a .nodes .now) (a .at) = omega arith in (
@@ -252,68 +265,78 @@ size-of-loop-again-2 t c =
           ∙ c .before .before .before .before .before .before .before .before .inner .given .1) .1),
     )
 
-size-of-add-leaf-size-3 : (t : ℕ) → size-of-lts.Need-add-leaf-size-3 (size-of-claims t) (size-of-at t) size-of.Post size-of-Inv-loop size-of-μ-loop
-size-of-add-leaf-size-3 t c = let b = gathered-within (c .before .before .before .before .loop .inv .1) (c .before .before .before .loop-test .taken) in omega arith
+size-of-add-leaf-size-3 : (t : ℕ) → size-of-lts.Need-add-leaf-size-3 (claims t) (asked t) size-of.Post Inv-loop μ-loop
+size-of-add-leaf-size-3 t c = let b = gathered-within (c .before .before .before .before .loop .inv .1) (c .before .before .before .loop-test .taken)
+    in omega arith
 
-size-of-mul-leaf-size-3 : (t : ℕ) → size-of-lts.Need-mul-leaf-size-3 (size-of-claims t) (size-of-at t) size-of.Post size-of-Inv-loop size-of-μ-loop
-size-of-mul-leaf-size-3 t c = let b = gathered-within (c .before .before .before .before .loop .inv .1) (c .before .before .before .loop-test .taken) in omega arith
+size-of-mul-leaf-size-3 : (t : ℕ) → size-of-lts.Need-mul-leaf-size-3 (claims t) (asked t) size-of.Post Inv-loop μ-loop
+size-of-mul-leaf-size-3 t c = let b = gathered-within (c .before .before .before .before .loop .inv .1) (c .before .before .before .loop-test .taken)
+    in omega arith
 
-size-of-shared-slice-read-leaf-size-3 : (t : ℕ) → size-of-lts.Need-shared-slice-read-leaf-size-3 (size-of-claims t) (size-of-at t) size-of.Post size-of-Inv-loop size-of-μ-loop
-size-of-shared-slice-read-leaf-size-3 t c = let b = gathered-within (c .before .before .before .before .before .loop .inv .1) (c .before .before .before .before .loop-test .taken) in omega arith
+size-of-shared-slice-read-leaf-size-3 : (t : ℕ) → size-of-lts.Need-shared-slice-read-leaf-size-3 (claims t) (asked t) size-of.Post Inv-loop μ-loop
+size-of-shared-slice-read-leaf-size-3 t c = let b = gathered-within (c .before .before .before .before .before .loop .inv .1)
+    (c .before .before .before .before .loop-test .taken) in omega arith
 
-size-of-leaf-size-requires-3 : (t : ℕ) → size-of-lts.Need-leaf-size-requires-3 (size-of-claims t) (size-of-at t) size-of.Post size-of-Inv-loop size-of-μ-loop
+size-of-leaf-size-requires-3 : (t : ℕ) → size-of-lts.Need-leaf-size-requires-3 (claims t) (asked t) size-of.Post Inv-loop μ-loop
 size-of-leaf-size-requires-3 t c κs = search needs
 
-size-of-is-leaf-requires-2 : (t : ℕ) → size-of-lts.Need-is-leaf-requires-2 (size-of-claims t) (size-of-at t) size-of.Post size-of-Inv-loop size-of-μ-loop
+size-of-is-leaf-requires-2 : (t : ℕ) → size-of-lts.Need-is-leaf-requires-2 (claims t) (asked t) size-of.Post Inv-loop μ-loop
 size-of-is-leaf-requires-2 t c κs = search needs
 
-size-of-sub-size-of-2 : (t : ℕ) → size-of-lts.Need-sub-size-of-2 (size-of-claims t) (size-of-at t) size-of.Post size-of-Inv-loop size-of-μ-loop
+size-of-sub-size-of-2 : (t : ℕ) → size-of-lts.Need-sub-size-of-2 (claims t) (asked t) size-of.Post Inv-loop μ-loop
 size-of-sub-size-of-2 t c = search needs
 
-size-of-part-size-of-start-2 : (t : ℕ) → size-of-lts.Need-part-size-of-start-2 (size-of-claims t) (size-of-at t) size-of.Post size-of-Inv-loop size-of-μ-loop
+size-of-part-size-of-start-2 : (t : ℕ) → size-of-lts.Need-part-size-of-start-2 (claims t) (asked t) size-of.Post Inv-loop μ-loop
 size-of-part-size-of-start-2 t c = search needs
 
-size-of-part-size-of-end-2 : (t : ℕ) → size-of-lts.Need-part-size-of-end-2 (size-of-claims t) (size-of-at t) size-of.Post size-of-Inv-loop size-of-μ-loop
+size-of-part-size-of-end-2 : (t : ℕ) → size-of-lts.Need-part-size-of-end-2 (claims t) (asked t) size-of.Post Inv-loop μ-loop
 size-of-part-size-of-end-2 t c = search needs
 
-size-of-size-of-requires-2 : (t : ℕ) → size-of-lts.Need-size-of-requires-2 (size-of-claims t) (size-of-at t) size-of.Post size-of-Inv-loop size-of-μ-loop
+size-of-size-of-requires-2 : (t : ℕ) → size-of-lts.Need-size-of-requires-2 (claims t) (asked t) size-of.Post Inv-loop μ-loop
 size-of-size-of-requires-2 t c κs =
-    let b = gathered-within (c .before .before .before .before .before .before .before .before .before .loop .inv .1) (c .before .before .before .before .before .before .before .before .loop-test .taken) in
-    rw whole (omega arith, gathered-node (c .before .before .before .before .before .before .before .before .before .loop .inv .1) (c .before .before .before .before .before .before .before .before .loop-test .taken))
+    let b = gathered-within (c .before .before .before .before .before .before .before .before .before .loop .inv .1)
+    (c .before .before .before .before .before .before .before .before .loop-test .taken) in
+    rw whole (
+      omega arith,
+      gathered-node (c .before .before .before .before .before .before .before .before .before .loop .inv .1)
+          (c .before .before .before .before .before .before .before .before .loop-test .taken),
+    )
 
-size-of-join-requires-2 : (t : ℕ) → size-of-lts.Need-join-requires-2 (size-of-claims t) (size-of-at t) size-of.Post size-of-Inv-loop size-of-μ-loop
+size-of-join-requires-2 : (t : ℕ) → size-of-lts.Need-join-requires-2 (claims t) (asked t) size-of.Post Inv-loop μ-loop
 size-of-join-requires-2 t c κs = search needs
 
-size-of-add-count : (t : ℕ) → size-of-lts.Need-add-count (size-of-claims t) (size-of-at t) size-of.Post size-of-Inv-loop size-of-μ-loop
-size-of-add-count t c = let b = gathered-within (c .before .before .before .before .before .before .before .before .before .loop .inv .1) (c .before .before .before .before .before .before .before .before .loop-test .taken) in omega arith
+size-of-add-count : (t : ℕ) → size-of-lts.Need-add-count (claims t) (asked t) size-of.Post Inv-loop μ-loop
+size-of-add-count t c = let b = gathered-within (c .before .before .before .before .before .before .before .before .before .loop .inv .1)
+    (c .before .before .before .before .before .before .before .before .loop-test .taken) in omega arith
 
-size-of-mul-count : (t : ℕ) → size-of-lts.Need-mul-count (size-of-claims t) (size-of-at t) size-of.Post size-of-Inv-loop size-of-μ-loop
+size-of-mul-count : (t : ℕ) → size-of-lts.Need-mul-count (claims t) (asked t) size-of.Post Inv-loop μ-loop
 size-of-mul-count t c = search needs
 
-size-of-shared-slice-read-count : (t : ℕ) → size-of-lts.Need-shared-slice-read-count (size-of-claims t) (size-of-at t) size-of.Post size-of-Inv-loop size-of-μ-loop
+size-of-shared-slice-read-count : (t : ℕ) → size-of-lts.Need-shared-slice-read-count (claims t) (asked t) size-of.Post Inv-loop μ-loop
 size-of-shared-slice-read-count t c = let b = gathered-within (c .before .before .before .before .before .before .before .before .before .before .loop .inv .1)
     (c .before .before .before .before .before .before .before .before .before .loop-test .taken) in omega arith
 
-size-of-mul-child : (t : ℕ) → size-of-lts.Need-mul-child (size-of-claims t) (size-of-at t) size-of.Post size-of-Inv-loop size-of-μ-loop
+size-of-mul-child : (t : ℕ) → size-of-lts.Need-mul-child (claims t) (asked t) size-of.Post Inv-loop μ-loop
 size-of-mul-child t c = let b = gathered-within (c .before .before .before .before .before .before .before .before .before .before .loop .inv .1)
     (c .before .before .before .before .before .before .before .before .before .loop-test .taken) in omega arith
 
-size-of-add-child-4 : (t : ℕ) → size-of-lts.Need-add-child-4 (size-of-claims t) (size-of-at t) size-of.Post size-of-Inv-loop size-of-μ-loop
+size-of-add-child-4 : (t : ℕ) → size-of-lts.Need-add-child-4 (claims t) (asked t) size-of.Post Inv-loop μ-loop
 size-of-add-child-4 t c = let b = gathered-within (c .before .before .before .before .before .before .before .before .before .before .loop .inv .1)
     (c .before .before .before .before .before .before .before .before .before .loop-test .taken) in omega arith
 
-size-of-sub-left-4 : (t : ℕ) → size-of-lts.Need-sub-left-4 (size-of-claims t) (size-of-at t) size-of.Post size-of-Inv-loop size-of-μ-loop
+size-of-sub-left-4 : (t : ℕ) → size-of-lts.Need-sub-left-4 (claims t) (asked t) size-of.Post Inv-loop μ-loop
 size-of-sub-left-4 t c = let b = gathered-within (c .before .before .before .before .before .before .before .before .before .before .loop .inv .1)
     (c .before .before .before .before .before .before .before .before .before .loop-test .taken) in omega arith
 
-size-of-loop-less-3 : (t : ℕ) → size-of-lts.Need-loop-less-3 (size-of-claims t) (size-of-at t) size-of.Post size-of-Inv-loop size-of-μ-loop
+size-of-loop-less-3 : (t : ℕ) → size-of-lts.Need-loop-less-3 (claims t) (asked t) size-of.Post Inv-loop μ-loop
 size-of-loop-less-3 t c = let b = gathered-within (c .before .before .before .before .before .before .before .before .before .before .loop .inv .1)
     (c .before .before .before .before .before .before .before .before .before .loop-test .taken) in omega arith
 
-size-of-loop-again-3 : (t : ℕ) → size-of-lts.Need-loop-again-3 (size-of-claims t) (size-of-at t) size-of.Post size-of-Inv-loop size-of-μ-loop
+size-of-loop-again-3 : (t : ℕ) → size-of-lts.Need-loop-again-3 (claims t) (asked t) size-of.Post Inv-loop μ-loop
 size-of-loop-again-3 t c =
     let a = c .before .before .before .before .before .before .before .before .before .before .before .before .before .before .before .before .before .before .before .before .before .before .args in
-    let b = gathered-within (c .before .before .before .before .before .before .before .before .before .before .loop .inv .1) (c .before .before .before .before .before .before .before .before .before .loop-test .taken) in (
+    let b = gathered-within (c .before .before .before .before .before .before .before .before .before .before .loop .inv .1)
+    (c .before .before .before .before .before .before .before .before .before .loop-test .taken) in (
       omega arith,
       gathered-turn (c .before .before .before .before .before .before .before .before .before .before .loop .inv .1)
           (c .before .before .before .before .before .before .before .before .before .loop-test .taken) (c .before .before .if5 .item)
@@ -322,21 +345,22 @@ size-of-loop-again-3 t c =
           (sym (c .before .before .before .is-leaf2 .ensures) ∙ not-false _ (j .0 .left))))) (c .before .before .if5 .came)) (c .before .join2 .ensures),
     )
 
-size-of-returns-4 : (t : ℕ) → size-of-lts.Need-returns-4 (size-of-claims t) (size-of-at t) size-of.Post size-of-Inv-loop size-of-μ-loop
+size-of-returns-4 : (t : ℕ) → size-of-lts.Need-returns-4 (claims t) (asked t) size-of.Post Inv-loop μ-loop
 size-of-returns-4 t c =
     let a = c .before .before .before .before .before .before .before .before .before .before .before .before .before .args in
     let n = not-leaf (kindAt (a .nodes .now) (a .at)) (sym (c .before .before .before .before .before .before .before .before .before .before .is-leaf .ensures)
     ∙ c .before .before .before .before .before .before .before .before .before .if1 .left) in
     λ s. gathered-end (c .before .loop .inv .1) (c .loop-test .left) s
     ∙ ap clip (size-included s (a .nodes .now) (a .at) (a .level) (container-kind (kindAt (a .nodes .now) (a .at)) (omega arith) (omega arith)) _
-    (sym (c .before .before .before .before .before .before .before .container-include-fields .ensures) ∙ c .before .before .before .before .before .inner .given .1))
+    (sym (c .before .before .before .before .before .before .before .container-include-fields .ensures)
+    ∙ c .before .before .before .before .before .inner .given .1))
 
 pub +size-of-spec : {M : Type 1} → statement M
-+size-of-spec = close μ-size-of λ t. size-of-lts.spec (size-of-claims t)
-    (size-of-at t)
++size-of-spec = close μ-size-of λ t. size-of-lts.spec (claims t)
+    (asked t)
     size-of.Post
-    size-of-Inv-loop
-    size-of-μ-loop
+    Inv-loop
+    μ-loop
     (size-of-mul-kind t)
     (size-of-shared-slice-read-kind t)
     (size-of-is-leaf-requires t)

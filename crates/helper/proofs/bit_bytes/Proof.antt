@@ -1,31 +1,36 @@
+use Prim.Native.Nat.{_+_, _-_, _/_, _%_}
+use mathlib.Core.Path.{_≡_, refl}
+use native.Mathlib.Omega.{arith}
+use Rattle.helper.proofs.SizeLaws.{Raising, raising-start, raising-next, raising-end}
 use Rattle.helper.proofs.bit_bytes.Statement.{statement}
 use Rattle.helper.proofs.bit_bytes.Tie as tie
-use borrow.Author.Tests.{le-leb, lt-leb}
-use Rattle.kinds.specs.Size.{bitBytes}
 
-returns : tie.Need-returns
-unfolding bitBytes
-returns c = rw (le-leb _ _ (c .if1 .taken))
+abbrev Inv-loop : tie.InvT-loop
+Inv-loop n enough bytes₀ bytes = (enough ≡ n / 8 + (n % 8 + 7) / 8) × Raising n bytes
 
-returns-2 : tie.Need-returns-2
-unfolding bitBytes
-returns-2 c = rw (lt-leb _ _ (c .before .if1 .left), le-leb _ _ (c .if2 .taken))
+abbrev μ-loop : tie.MeasureT-loop
+μ-loop n enough bytes₀ bytes = n - bytes
 
-returns-3 : tie.Need-returns-3
-unfolding bitBytes
-returns-3 c = rw (lt-leb _ _ (c .before .before .if1 .left), lt-leb _ _ (c .before .if2 .left), le-leb _ _ (c .if3 .taken))
+add-enough : tie.Need-add-enough Inv-loop μ-loop
+add-enough c = omega arith
 
-returns-4 : tie.Need-returns-4
-unfolding bitBytes
-returns-4 c = rw (lt-leb _ _ (c .before .before .before .if1 .left), lt-leb _ _ (c .before .before .if2 .left), lt-leb _ _ (c .before .if3 .left), le-leb _ _ (c .if4 .taken))
+add-enough-2 : tie.Need-add-enough-2 Inv-loop μ-loop
+add-enough-2 c = omega arith
 
-returns-5 : tie.Need-returns-5
-unfolding bitBytes
-returns-5 c = rw (lt-leb _ _ (c .before .before .before .before .if1 .left), lt-leb _ _ (c .before .before .before .if2 .left), lt-leb _ _ (c .before .before .if3 .left), lt-leb _ _ (c .before .if4 .left), le-leb _ _ (c .if5 .taken))
+loop-holds : tie.Need-loop-holds Inv-loop μ-loop
+loop-holds c = (refl, raising-start _)
 
-returns-6 : tie.Need-returns-6
-unfolding bitBytes
-returns-6 c = rw (lt-leb _ _ (c .before .before .before .before .if1 .left), lt-leb _ _ (c .before .before .before .if2 .left), lt-leb _ _ (c .before .before .if3 .left), lt-leb _ _ (c .before .if4 .left), lt-leb _ _ (c .if5 .left))
+mul-bytes : tie.Need-mul-bytes Inv-loop μ-loop
+mul-bytes c = omega (arith, c .before .loop .inv .0)
+
+loop-less : tie.Need-loop-less Inv-loop μ-loop
+loop-less c = omega (arith, c .before .loop .inv .0, c .before .loop .inv .1 .some-bytes)
+
+loop-again : tie.Need-loop-again Inv-loop μ-loop
+loop-again c = (c .before .loop .inv .0, raising-next (omega (arith, c .before .loop .inv .0)) (c .before .loop .inv .1))
+
+returns : tie.Need-returns Inv-loop μ-loop
+returns c = raising-end (omega (arith, c .before .loop .inv .0)) (c .before .loop .inv .1)
 
 pub bit-bytes-spec : {M : Type 1} → statement M
-bit-bytes-spec = tie.close (tie.spec returns returns-2 returns-3 returns-4 returns-5 returns-6)
+bit-bytes-spec = tie.close (tie.spec Inv-loop μ-loop add-enough add-enough-2 loop-holds mul-bytes loop-less loop-again returns)

@@ -6,8 +6,7 @@ use native.Mathlib.Omega.{arith}
 use mathlib.Core.Path.{sym, ap, _∙_}
 use Rattle.helper.specs.Measure.{leafSize, clip}
 use Rattle.helper.specs.declared.Measured.the-variants.{Bytes}
-use Rattle.helper.proofs.SizeLaws.{clip-some}
-use Rattle.helper.proofs.NodeSizeLaws.{clip-bits}
+use Rattle.helper.proofs.SizeLaws.{clip-some, bits-fit}
 
 of-primitive-requires : tie.Need-of-primitive-requires
 of-primitive-requires c κs = search needs
@@ -20,8 +19,10 @@ bit-bytes-requires : tie.Need-bit-bytes-requires
 bit-bytes-requires c κs = search needs
 
 returns-2 : tie.Need-returns-2
-unfolding leafSize
-returns-2 c = rw (lt-leb (c .before .before .before .args .kind) 23 (omega arith), eq-eqb (c .before .before .before .args .kind) 24 (c .before .if2 .taken)) (ap Bytes (c .bit-bytes .ensures) ∙ sym (clip-bits _))
+unfolding leafSize clip
+returns-2 c =
+    let a = c .before .before .before .args in
+    rw (lt-leb (a .kind) 23 (omega arith), eq-eqb (a .kind) 24 (c .before .if2 .taken)) (ap Bytes (c .bit-bytes .ensures) ∙ sym (bits-fit (a .bits) (omega arith)))
 
 returns-3 : tie.Need-returns-3
 unfolding leafSize

@@ -2,9 +2,11 @@ use borrow.Author.Needs.{needs}
 use Rattle.helper.proofs.Measured.held_by.Statement.{statement}
 use Rattle.helper.proofs.Measured.held_by.Tie as tie
 use borrow.Author.Tests.{eq-eqb, ne-eqb}
-use mathlib.Core.Path.{ap, _∙_}
+use mathlib.Core.Path.{ap, sym, _∙_}
+use native.Mathlib.Omega.{arith}
 use Rattle.helper.specs.Measure.{holdingMeasured, largerMeasured}
 use Rattle.helper.specs.declared.Measured.the-variants.{Bytes}
+use Rattle.helper.proofs.SizeLaws.{bits-fit}
 
 bit-bytes-requires : tie.Need-bit-bytes-requires
 bit-bytes-requires c κs = search needs
@@ -14,7 +16,9 @@ larger-requires c κs = search needs
 
 returns : tie.Need-returns
 unfolding holdingMeasured
-returns c = rw (eq-eqb _ _ (c .before .before .if1 .taken)) (c .larger .ensures ∙ ap (λ x. largerMeasured (Bytes x) (c .before .before .before .args .self)) (c .before .bit-bytes .ensures))
+returns c =
+    let a = c .before .before .before .args in
+    rw (eq-eqb _ _ (c .before .before .if1 .taken)) (c .larger .ensures ∙ ap (λ x. largerMeasured x (a .self)) (ap Bytes (c .before .bit-bytes .ensures) ∙ sym (bits-fit (a .second) (omega arith))))
 
 times-requires : tie.Need-times-requires
 times-requires c κs = search needs
