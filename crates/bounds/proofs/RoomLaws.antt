@@ -3,10 +3,7 @@ use Prim.Native.Nat.{ℕ, zero, suc, _+_, _*_, _≤_, _<_}
 use native.Mathlib.Omega.{arith}
 use mathlib.Core.Path.{_≡_, refl, ap, _∙_}
 use mathlib.Core.List.{List, []}
-use mathlib.Core.Bool.{and-false}
 use mathlib.Core.Option.{some, none}
-use borrow.Author.Tests.{lt-ltb, le-ltb, le-leb, lt-leb}
-use lib.Dec.{leb}
 use lib.ListN.{length, getD, replicate, length-replicate}
 use Rattle.kinds.specs.Byte.{byte, among}
 use Rattle.kinds.specs.Parse as P
@@ -15,60 +12,45 @@ use Rattle.kinds.specs.Sheet.{maxText, sheetOf, headerOf}
 use Rattle.kinds.specs.Tree as T
 use Rattle.kinds.specs.Tree.{Trees, end, node, pointer, count}
 use Rattle.kinds.specs.declared.Refusal.the-variants.{TextTooLong, ListTooShort}
-use Rattle.parse.specs.Answer.{used, hasRoom, turnedAway, padded, filled, sheetWords, unlessAway, wordsAfter, wholeTree, wholeReading, startReading, answerOr, fromStrAnswer, fromStrWords, fromStartAnswer}
+use Rattle.parse.specs.Answer.{used, padded, filled, sheetWords, unlessAway, wordsAfter, wholeTree, wholeReading, startReading, answerOr, fromStrAnswer, fromStrWords, fromStartAnswer}
 use Rattle.parse.specs.declared.Reading.the-variants.{Tree, Refused}
+use Rattle.parse.proofs.Entry.{too-long, not-away, few-words, few-names}
 use Rattle.bounds.specs.Extremes.{pointers}
 use Rattle.bounds.specs.Limits.{wordsFor, namesFor}
 
 module _ (text words names : List ℕ) (h : maxText < length text) where
-  long : turnedAway text words names ≡ some TextTooLong
-  unfolding turnedAway
-  long = rw (lt-ltb maxText (length text) h)
-
   pub whole-long : fromStrAnswer text words names ≡ Refused TextTooLong
   unfolding fromStrAnswer answerOr
-  whole-long = rw long
+  whole-long = rw (too-long text words names h)
 
   pub start-long : fromStartAnswer text words names ≡ Refused TextTooLong
   unfolding fromStartAnswer answerOr
-  start-long = rw long
+  start-long = rw (too-long text words names h)
 
 module _ (text words names : List ℕ) (l : length text ≤ maxText) where
-  pub has-room : wordsFor (length text) ≤ length words → namesFor (length text) ≤ length names → turnedAway text words names ≡ none
-  unfolding turnedAway hasRoom
-  has-room w n = rw (le-ltb maxText (length text) l, le-leb (used (length text)) (length words) (omega arith), le-leb (length text) (length names) (omega arith))
-
-  words-short : length words < wordsFor (length text) → turnedAway text words names ≡ some ListTooShort
-  unfolding turnedAway hasRoom
-  words-short w = rw (le-ltb maxText (length text) l, lt-leb (used (length text)) (length words) (omega arith))
-
-  names-short : length names < namesFor (length text) → turnedAway text words names ≡ some ListTooShort
-  unfolding turnedAway hasRoom
-  names-short n = rw (le-ltb maxText (length text) l, lt-leb (length text) (length names) (omega arith), and-false (leb (used (length text)) (length words)))
-
   pub whole-enough : wordsFor (length text) ≤ length words → namesFor (length text) ≤ length names → fromStrAnswer text words names ≡ wholeReading (fromStr text)
   unfolding fromStrAnswer answerOr
-  whole-enough w n = rw (has-room w n)
+  whole-enough w n = rw (not-away text words names l (omega arith) n)
 
   pub start-enough : wordsFor (length text) ≤ length words → namesFor (length text) ≤ length names → fromStartAnswer text words names ≡ startReading (fromStartOfStr text)
   unfolding fromStartAnswer answerOr
-  start-enough w n = rw (has-room w n)
+  start-enough w n = rw (not-away text words names l (omega arith) n)
 
   pub whole-short-words : length words < wordsFor (length text) → fromStrAnswer text words names ≡ Refused ListTooShort
   unfolding fromStrAnswer answerOr
-  whole-short-words w = rw (words-short w)
+  whole-short-words w = rw (few-words text words names l (omega arith))
 
   pub start-short-words : length words < wordsFor (length text) → fromStartAnswer text words names ≡ Refused ListTooShort
   unfolding fromStartAnswer answerOr
-  start-short-words w = rw (words-short w)
+  start-short-words w = rw (few-words text words names l (omega arith))
 
   pub whole-short-names : length names < namesFor (length text) → fromStrAnswer text words names ≡ Refused ListTooShort
   unfolding fromStrAnswer answerOr
-  whole-short-names n = rw (names-short n)
+  whole-short-names n = rw (few-names text words names l n)
 
   pub start-short-names : length names < namesFor (length text) → fromStartAnswer text words names ≡ Refused ListTooShort
   unfolding fromStartAnswer answerOr
-  start-short-names n = rw (names-short n)
+  start-short-names n = rw (few-names text words names l n)
 
 -- ---- A text of pointers.
 
@@ -139,7 +121,7 @@ unfolding fromStrWords wordsAfter unlessAway
 pointers-fill n words names l w h =
     let e = pointers-length n in
     let r = whole-pointers n in
-    let room = has-room (pointers n) words names (omega arith) (omega arith) (omega arith) in (
+    let room = not-away (pointers n) words names (omega arith) (omega arith) (omega arith) in (
       e,
       whole-enough (pointers n) words names (omega arith) (omega arith) (omega arith) ∙ r .accepted,
       rw (room, r .the-tree) (words-used (used (length (pointers n))) (pointersTo n) words ∙ omega (arith, to-count n)),

@@ -10,6 +10,7 @@ use borrow.Author.Tests.{ne-eqb, ltb-true, eqb-true}
 use Rattle.kinds.specs.Byte.{among}
 use Rattle.kinds.specs.Parse.{Start, single, complex, object, bits, indirection, openArray, closeArray, openContainer, closeContainer, nothing, start, integral, singles, others, inSingles, inOthers}
 use Rattle.kinds.specs.Tree.{Label, pointer, atomic}
+use Rattle.kinds.proofs.TableLaws.{Each}
 use Rattle.codes.specs.Answer.{codeOf, isIndirection, hasParts}
 
 -- ---- A byte that is none of some bytes.
@@ -32,10 +33,6 @@ differs-onto b [] ys d e = e
 differs-onto b (x ∷ xs) ys d e = differs-onto b xs (x ∷ ys) (d .0) (d .1, e)
 
 -- What holds of each of some bytes and of every other byte holds of all.
-abbrev Each : (ℕ → Type 0) → List ℕ → Type 0
-Each P [] = Unit {0}
-Each P (x ∷ xs) = P x × Each P xs
-
 by-bytes : (P : ℕ → Type 0) (b : ℕ) (xs : List ℕ) → Each P xs → (Differs b xs → P b) → P b
 by-bytes P b [] all other = other tt
 by-bytes P b (x ∷ xs) all other = elim (ℕ-discrete b x) [

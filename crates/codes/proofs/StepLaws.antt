@@ -6,12 +6,12 @@ use mathlib.Core.Bool.{Bool, true, false, _&&_}
 use native.Mathlib.Decide.{decLt}
 use native.Mathlib.Omega.{arith}
 use lib.Dec.{ltb, eqb}
-use lib.ListN.{length, drop, getD}
+use lib.ListN.{length, drop, getD, length-drop}
 use borrow.Author.Tests.{lt-ltb, ltb-true, eqb-true, eq-eqb}
 use Rattle.kinds.proofs.ListLaws.{unread, unread-end}
 use Rattle.kinds.proofs.TableLaws.{both}
 use Rattle.kinds.specs.Parse as R
-use Rattle.kinds.specs.Parse.{start, begin, encoding, refused, parseInner, parseItems}
+use Rattle.kinds.specs.Parse.{maxU64, start, begin, encoding, refused, parseInner, parseItems}
 use Rattle.kinds.specs.Tree.{Label, Trees, end, node, array}
 use Rattle.kinds.specs.declared.ContainerKind.{ContainerKind}
 use Rattle.kinds.specs.declared.ErrorKind.the-variants.{WrongEndArray}
@@ -31,6 +31,28 @@ module _ (text : List ℕ) (at : ℕ) where
   pub begins : {S : R.Start} → start (getD text at 0) ≡ S → (inner : List ℕ → R.Parsed) (fields : ContainerKind → List ℕ → R.Items)
       → begin (getD text at 0) (start (getD text at 0)) (drop (at + 1) text) inner fields ≡ begin (getD text at 0) S (drop (at + 1) text) inner fields
   begins e inner fields = ap (λ (x : R.Start). begin (getD text at 0) x (drop (at + 1) text) inner fields) e
+
+  -- a pointer or an atomic, from what is read of the rest
+  pub begins-held : {l : Label} → start (getD text at 0) ≡ R.indirection l → (g : ℕ) {q : R.Parsed} → parseInner g (drop (at + 1) text) ≡ q
+      → begin (getD text at 0) (start (getD text at 0)) (drop (at + 1) text) (λ t. parseInner g t) (λ k t. parseItems g k t) ≡ R.held l (drop (at + 1) text) q
+  unfolding begin
+  begins-held {l} st g e = begins st (λ t. parseInner g t) (λ k t. parseItems g k t) ∙ ap (R.held l (drop (at + 1) text)) e
+
+  -- an array whose length ends at `it`, from what is read there
+  module _ (len it : ℕ) (st : start (getD text at 0) ≡ R.openArray) (num : R.parseNumber maxU64 (drop (at + 1) text) ≡ R.value len (drop it text)) where
+    pub begins-item : (g : ℕ) {q : R.Parsed} → parseInner g (drop it text) ≡ q
+        → begin (getD text at 0) (start (getD text at 0)) (drop (at + 1) text) (λ t. parseInner g t) (λ k t. parseItems g k t) ≡ R.item len q
+    unfolding begin
+    begins-item g e = begins st (λ t. parseInner g t) (λ k t. parseItems g k t) ∙ (rw (num, begin) refl) ∙ ap (R.item len) e
+
+  -- a container's next field, from what is read there
+  pub next-is : (kind : ContainerKind) (g : ℕ) {q : R.Parsed} → parseInner g (drop at text) ≡ q
+      → R.nextItem kind (parseInner g (drop at text)) (λ t. parseItems g kind t) ≡ R.nextItem kind q (λ t. parseItems g kind t)
+  next-is kind g e = ap (λ (x : R.Parsed). R.nextItem kind x (λ t. parseItems g kind t)) e
+
+-- The fuel that a byte leaves is enough at a later place.
+pub fuel-on : (text : List ℕ) (at it g : ℕ) → at + 1 ≤ it → length (drop (at + 1) text) + length (drop (at + 1) text) < g → length (drop it text) + length (drop it text) ≤ g
+fuel-on text at it g on l = omega (arith, length-drop it text, length-drop (at + 1) text)
 
 -- ---- The closer of an array.
 

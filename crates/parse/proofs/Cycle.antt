@@ -26,28 +26,17 @@ use Rattle.parse.specs.declared.Parsed.{Parsed}
 use Rattle.parse.specs.declared.Parsed.the-variants.{Empty, Encoding, ContainerEnd, ArrayEnd, Refused}
 use Rattle.kinds.specs.declared.ErrorKind.{ErrorKind}
 use Rattle.kinds.specs.declared.ErrorKind.the-variants.{Unknown, WrongEndArray, WrongEndContainer}
-use native.Mathlib.Decide.{decLt}
-use borrow.Author.Tests.{eq-eqb, eqb-true, ltb-true}
-use Rattle.kinds.proofs.ListLaws.{unread, unread-end}
+use borrow.Author.Tests.{eqb-true, ltb-true}
+use Rattle.kinds.proofs.LayoutLaws.{nodes-length}
+use Rattle.kinds.proofs.ListLaws.{unread-end}
 use Rattle.kinds.proofs.TableLaws.{both as both-true}
 use Rattle.codes.specs.Answer.{closed}
 use Rattle.codes.specs.declared.Token.the-variants as T
-use Rattle.codes.proofs.StepLaws.{parse-step, parse-nil, begins, closed-in, closed-is, closes-it, closes-not}
+use Rattle.codes.proofs.StepLaws.{parse-step, parse-nil, begins, begins-held, begins-item, next-is, fuel-on, closed-in, closed-is, closes-it, closes-not}
 use Rattle.parse.proofs.Stores.{sets-append, sets-front-append, drop-sets}
 use Rattle.parse.proofs.Sheets.{slack-open, slack-closed, slack-end, slack-le, simple-token}
 
 -- ---- The words and the names of a node.
-
-pub nodes-length : (m : ℕ) (ts : Trees) → length (nodes ts m) ≡ 4 * count ts
-unfolding nodes count
-nodes-length m end = refl
-nodes-length m (node l cs ts) =
-    let a : length (nodes cs (m + length (name l))) ≡ 4 * count cs = nodes-length _ cs in
-    let b : length (nodes ts (m + length (name l) + length (namesOf cs))) ≡ 4 * count ts = nodes-length _ ts in
-    let x : List ℕ = nodes cs (m + length (name l)) in
-    let y : List ℕ = nodes ts (m + length (name l) + length (namesOf cs)) in
-    let e : length (x ++ y) ≡ length x + length y = length-append x y in
-    omega arith
 
 -- A node alone: its own words, and its children's.
 pub nodes-alone : (m : ℕ) (l : Label) (cs : Trees) → nodes (node l cs end) m ≡ kind l ∷ first l m ∷ second l ∷ suc (count cs) ∷ nodes cs (m + length (name l))
@@ -212,13 +201,6 @@ module _ (text : List ℕ) (at n m : ℕ) (l : Label) (bare : Bare m l 0) (h : a
   unfolding closes
   opens = slack-open text at h (ap closes st)
 
-  holds : (g : ℕ) → begin (getD text at 0) (start (getD text at 0)) (drop (at + 1) text) (λ t. parseInner g t) (λ k t. parseItems g k t) ≡ held l (drop (at + 1) text) (parseInner g (drop (at + 1) text))
-  unfolding begin
-  holds g = ap (λ (x : R.Start). begin (getD text at 0) x (drop (at + 1) text) (λ t. parseInner g t) (λ k t. parseItems g k t)) st
-
-  holding : (g : ℕ) {q : R.Parsed} → parseInner g (drop (at + 1) text) ≡ q → begin (getD text at 0) (start (getD text at 0)) (drop (at + 1) text) (λ t. parseInner g t) (λ k t. parseItems g k t) ≡ held l (drop (at + 1) text) q
-  holding g e = holds g ∙ ap (held l (drop (at + 1) text)) e
-
   none-bound : slack (drop (at + 1) text) ≡ length text - (at + 1) → FoundBound text at n m (at + 1) (n + 2) m
   none-bound e = record { onward = omega arith; within = omega arith; more = omega arith; room = omega (arith, opens); names-on = omega arith; names-room = omega arith }
 
@@ -233,7 +215,7 @@ module _ (text : List ℕ) (at n m : ℕ) (l : Label) (bare : Bare m l 0) (h : a
   unfolding Begun held
   reads-held Empty r = record {
     bound = none-bound (slack-end text (at + 1) (omega (arith, r .bound .0)) ∙ omega (arith, r .bound .0));
-    says = begun text at n m b (heldAfter Empty) (heldOut Empty) h (λ g f. none-found text n m 0 b a l bare (r .bound .1) (at + 1) _ (holding g (r .says g (omega arith))));
+    says = begun text at n m b (heldAfter Empty) (heldOut Empty) h (λ g f. none-found text n m 0 b a l bare (r .bound .1) (at + 1) _ (begins-held text at st g (r .says g (omega arith))));
   }
   reads-held (Encoding to k j) r = record {
     bound = record {
@@ -244,19 +226,19 @@ module _ (text : List ℕ) (at n m : ℕ) (l : Label) (bare : Bare m l 0) (h : a
       names-on = r .bound .names-on;
       names-room = omega (arith, r .bound .names-room);
     };
-    says = begun text at n m b (heldAfter (Encoding to k j)) (heldOut (Encoding to k j)) h (λ g f. child-found text n m 0 b a l bare to to k j _ _ (r .says g (omega arith)) (λ c cs e. holding g e));
+    says = begun text at n m b (heldAfter (Encoding to k j)) (heldOut (Encoding to k j)) h (λ g f. child-found text n m 0 b a l bare to to k j _ _ (r .says g (omega arith)) (λ c cs e. begins-held text at st g e));
   }
   reads-held (ContainerEnd c to) r = record {
     bound = none-bound (r .bound .closer);
-    says = begun text at n m b (heldAfter (ContainerEnd c to)) (heldOut (ContainerEnd c to)) h (λ g f. none-found text n m 0 b a l bare (r .bound .kept) (at + 1) _ (holding g (r .says g (omega arith))));
+    says = begun text at n m b (heldAfter (ContainerEnd c to)) (heldOut (ContainerEnd c to)) h (λ g f. none-found text n m 0 b a l bare (r .bound .kept) (at + 1) _ (begins-held text at st g (r .says g (omega arith))));
   }
   reads-held (ArrayEnd to) r = record {
     bound = none-bound (r .bound .closer);
-    says = begun text at n m b (heldAfter (ArrayEnd to)) (heldOut (ArrayEnd to)) h (λ g f. none-found text n m 0 b a l bare (r .bound .kept) (at + 1) _ (holding g (r .says g (omega arith))));
+    says = begun text at n m b (heldAfter (ArrayEnd to)) (heldOut (ArrayEnd to)) h (λ g f. none-found text n m 0 b a l bare (r .bound .kept) (at + 1) _ (begins-held text at st g (r .says g (omega arith))));
   }
   reads-held (Refused why to) r = record {
     bound = (r .bound .0, frame-part text at n m (at + 1) (n + 1) b a (omega (arith, opens, slack-le text (at + 1))) (omega arith) (r .bound .1));
-    says = begun text at n m b (heldAfter (Refused why to)) (heldOut (Refused why to)) h (λ g f. holding g (r .says g (omega arith)));
+    says = begun text at n m b (heldAfter (Refused why to)) (heldOut (Refused why to)) h (λ g f. begins-held text at st g (r .says g (omega arith)));
   }
 
 -- ---- Frames.
@@ -273,7 +255,7 @@ found-frame text at n m b a to k j r =
     let room : k + slack (drop to text) ≤ n + slack (drop at text) = r .bound .room in
     let nroom : j + (length text - to) ≤ m + (length text - at) = r .bound .names-room in
     let t : Trees = node (f .label) (f .children) end in
-    let c : length (nodes t m) ≡ 4 * count t = nodes-length m t in
+    let c : length (nodes t m) ≡ 4 * count t = nodes-length t m in
     let one : count t ≡ suc (count (f .children)) = count-alone (f .label) (f .children) in
     let ki : k ≡ n + suc (count (f .children)) = f .count-is in
     let ji : j ≡ m + length (namesOf t) = f .names-is in
@@ -289,16 +271,6 @@ module _ (text : List ℕ) (at n m len it : ℕ) (h : at < length text) (st : st
   opens-array : slack (drop at text) ≡ length text - at + 1
   unfolding closes
   opens-array = slack-open text at h (ap closes st)
-
-  array-begins : (g : ℕ) → begin (getD text at 0) (start (getD text at 0)) (drop (at + 1) text) (λ t. parseInner g t) (λ k t. parseItems g k t) ≡ item len (parseInner g (drop it text))
-  unfolding begin
-  array-begins g = ap (λ (x : R.Start). begin (getD text at 0) x (drop (at + 1) text) (λ t. parseInner g t) (λ k t. parseItems g k t)) st ∙ rw (num, begin) refl
-
-  itemed : (g : ℕ) {q : R.Parsed} → parseInner g (drop it text) ≡ q → begin (getD text at 0) (start (getD text at 0)) (drop (at + 1) text) (λ t. parseInner g t) (λ k t. parseItems g k t) ≡ item len q
-  itemed g e = array-begins g ∙ ap (item len) e
-
-  fuel : (g : ℕ) → length (drop (at + 1) text) + length (drop (at + 1) text) < g → length (drop it text) + length (drop it text) ≤ g
-  fuel g l = omega (arith, length-drop it text, length-drop (at + 1) text)
 
   found-closed : (to k j : ℕ) → Reads text it (n + 1) m b a (Encoding to k j) → closed text to ≡ true
       → Reads text at n m b (lists (putNode (a .words) n 28 len 0 (k - n)) (a .names)) (Encoding (to + 1) k j)
@@ -317,7 +289,7 @@ module _ (text : List ℕ) (at n m len it : ℕ) (h : at < length text) (st : st
           names-room = omega (arith, r .bound .names-room);
         };
         says = begun text at n m b (lists (putNode (a .words) n 28 len 0 (k - n)) (a .names)) (Encoding (to + 1) k j) h
-            (λ g f. child-found text n m len b a (array len) (bare-array m len) to (to + 1) k j _ _ (r .says g (fuel g f)) (λ lab cs q. itemed g q ∙ closes-it text len lab cs to l c));
+            (λ g f. child-found text n m len b a (array len) (bare-array m len) to (to + 1) k j _ _ (r .says g (fuel-on text at it g on f)) (λ lab cs q. begins-item text at len it st num g q ∙ closes-it text len lab cs to l c));
       }
 
   found-open : (to k j : ℕ) → Reads text it (n + 1) m b a (Encoding to k j) → closed text to ≡ false
@@ -326,7 +298,7 @@ module _ (text : List ℕ) (at n m len it : ℕ) (h : at < length text) (st : st
   found-open to k j r e = record {
     bound = (r .bound .within, frame-part text at n m it (n + 1) b a (omega (arith, opens-array, slack-le text it)) (omega arith) (found-frame text it (n + 1) m b a to k j r));
     says = begun text at n m b a (Refused WrongEndArray to) h
-        (λ g f. let q = r .says g (fuel g f) in itemed g (q .is) ∙ closes-not text len (q .label) (q .children) to e);
+        (λ g f. let q = r .says g (fuel-on text at it g on f) in begins-item text at len it st num g (q .is) ∙ closes-not text len (q .label) (q .children) to e);
   }
 
   pick-found : (to k j : ℕ) → Reads text it (n + 1) m b a (Encoding to k j) → (d : Bool) → closed text to ≡ d
@@ -339,12 +311,12 @@ module _ (text : List ℕ) (at n m len it : ℕ) (h : at < length text) (st : st
   unfolding Begun item kind
   reads-item Empty r = record {
     bound = (in-text, kept-frame text at n m b a (r .bound .1));
-    says = begun text at n m b a (Refused WrongEndArray it) h (λ g f. itemed g (r .says g (fuel g f)) ∙ ap (refused WrongEndArray) (sym (unread-end text it (omega (arith, r .bound .0)))));
+    says = begun text at n m b a (Refused WrongEndArray it) h (λ g f. begins-item text at len it st num g (r .says g (fuel-on text at it g on f)) ∙ ap (refused WrongEndArray) (sym (unread-end text it (omega (arith, r .bound .0)))));
   }
   reads-item (Encoding to k j) r = pick-found to k j r (closed text to) refl
   reads-item (ContainerEnd c to) r = record {
     bound = (r .bound .within, kept-frame text at n m b a (r .bound .kept));
-    says = begun text at n m b a (Refused (Unknown (endByte c)) to) h (λ g f. itemed g (r .says g (fuel g f)));
+    says = begun text at n m b a (Refused (Unknown (endByte c)) to) h (λ g f. begins-item text at len it st num g (r .says g (fuel-on text at it g on f)));
   }
   reads-item (ArrayEnd to) r = record {
     bound = record {
@@ -356,11 +328,11 @@ module _ (text : List ℕ) (at n m len it : ℕ) (h : at < length text) (st : st
       names-room = omega (arith, r .bound .next);
     };
     says = begun text at n m b (lists (noneUnder 28 len n (a .words)) (a .names)) (Encoding to (n + 2) m) h
-        (λ g f. none-found text n m len b a (array len) (bare-array m len) (r .bound .kept) to _ (itemed g (r .says g (fuel g f))));
+        (λ g f. none-found text n m len b a (array len) (bare-array m len) (r .bound .kept) to _ (begins-item text at len it st num g (r .says g (fuel-on text at it g on f))));
   }
   reads-item (Refused why to) r = record {
     bound = (r .bound .0, frame-part text at n m it (n + 1) b a (omega (arith, opens-array, slack-le text it)) (omega arith) (r .bound .1));
-    says = begun text at n m b a (Refused why to) h (λ g f. itemed g (r .says g (fuel g f)));
+    says = begun text at n m b a (Refused why to) h (λ g f. begins-item text at len it st num g (r .says g (fuel-on text at it g on f)));
   }
 
 -- No number after `[`.
@@ -397,9 +369,6 @@ NotFound (ArrayEnd to) = Unit {0}
 NotFound (Refused why to) = Unit {0}
 
 module _ (text : List ℕ) (at : ℕ) (kind : ContainerKind) (n m : ℕ) (b a : Lists) where
-  nexts : (g : ℕ) {q : R.Parsed} → parseInner g (drop at text) ≡ q → R.nextItem kind (parseInner g (drop at text)) (λ t. parseItems g kind t) ≡ R.nextItem kind q (λ t. parseItems g kind t)
-  nexts g e = ap (λ (x : R.Parsed). R.nextItem kind x (λ t. parseItems g kind t)) e
-
   end-container : (other : ContainerKind) (to : ℕ) → Reads text at n m b a (ContainerEnd other to) → (d : Bool) → sameContainer kind other ≡ d
       → ItemsReads text at kind n m b a (pickItems d (Read to n m) (NoItems (Unknown (endByte other)) to))
   unfolding Continued R.nextItem count namesOf nodes
@@ -414,7 +383,7 @@ module _ (text : List ℕ) (at : ℕ) (kind : ContainerKind) (n m : ℕ) (b a : 
     };
     says = continued text at kind n m b a (Read to n m) (λ g l. record {
       trees = end;
-      is = nexts g (r .says g l) ∙ (rw (e, R.nextItem) refl);
+      is = next-is text at kind g (r .says g l) ∙ (rw (e, R.nextItem) refl);
       count-is = sym (add-zero n);
       names-is = sym (add-zero m);
       words-are = r .bound .kept .words-kept;
@@ -423,24 +392,24 @@ module _ (text : List ℕ) (at : ℕ) (kind : ContainerKind) (n m : ℕ) (b a : 
   }
   end-container other to r false e = record {
     bound = (r .bound .within, kept-frame text at n m b a (r .bound .kept));
-    says = continued text at kind n m b a (NoItems (Unknown (endByte other)) to) (λ g l. nexts g (r .says g l) ∙ (rw (e, R.nextItem) refl));
+    says = continued text at kind n m b a (NoItems (Unknown (endByte other)) to) (λ g l. next-is text at kind g (r .says g l) ∙ (rw (e, R.nextItem) refl));
   }
 
   pub items-end : (p : Parsed) → NotFound p → Reads text at n m b a p → ItemsReads text at kind n m b a (endOut p kind at n m)
   unfolding Continued R.nextItem
   items-end Empty x r = record {
     bound = (omega (arith, r .bound .0), kept-frame text at n m b a (r .bound .1));
-    says = continued text at kind n m b a (NoItems (WrongEndContainer kind) at) (λ g l. nexts g (r .says g l) ∙ ap (R.itemsRefused (WrongEndContainer kind)) (sym (unread-end text at (omega (arith, r .bound .0)))));
+    says = continued text at kind n m b a (NoItems (WrongEndContainer kind) at) (λ g l. next-is text at kind g (r .says g l) ∙ ap (R.itemsRefused (WrongEndContainer kind)) (sym (unread-end text at (omega (arith, r .bound .0)))));
   }
   items-end (Encoding to k j) x r = absurd x
   items-end (ContainerEnd other to) x r = end-container other to r (sameContainer kind other) refl
   items-end (ArrayEnd to) x r = record {
     bound = (r .bound .within, kept-frame text at n m b a (r .bound .kept));
-    says = continued text at kind n m b a (NoItems (Unknown 93) to) (λ g l. nexts g (r .says g l));
+    says = continued text at kind n m b a (NoItems (Unknown 93) to) (λ g l. next-is text at kind g (r .says g l));
   }
   items-end (Refused why to) x r = record {
     bound = r .bound;
-    says = continued text at kind n m b a (NoItems why to) (λ g l. nexts g (r .says g l));
+    says = continued text at kind n m b a (NoItems why to) (λ g l. next-is text at kind g (r .says g l));
   }
 
   -- One field, and the fields after it.
@@ -453,7 +422,7 @@ module _ (text : List ℕ) (at : ℕ) (kind : ContainerKind) (n m : ℕ) (b a : 
       let ts : Trees = t .trees in
       let c : count (node l cs ts) ≡ suc (count cs + count ts) = unfold count in refl in
       let one : count (node l cs end) ≡ suc (count cs) = count-alone l cs in
-      let len : length (nodes (node l cs end) m) ≡ 4 * count (node l cs end) = nodes-length m (node l cs end) in
+      let len : length (nodes (node l cs end) m) ≡ 4 * count (node l cs end) = nodes-length (node l cs end) m in
       let side : length (namesOf (node l cs ts)) ≡ length (namesOf (node l cs end)) + length (namesOf ts) = ap length (names-side l cs ts) ∙ length-append (namesOf (node l cs end)) (namesOf ts) in
       let ki : k ≡ n + suc (count cs) = f .count-is in
       let ji : j ≡ m + length (namesOf (node l cs end)) = f .names-is in
@@ -462,7 +431,7 @@ module _ (text : List ℕ) (at : ℕ) (kind : ContainerKind) (n m : ℕ) (b a : 
       let place : 4 * k ≡ 4 * n + length (nodes (node l cs end) m) = omega arith in
       record {
         trees = node l cs ts;
-        is = nexts g (f .is) ∙ ap (R.addItem l cs) (t .is);
+        is = next-is text at kind g (f .is) ∙ ap (R.addItem l cs) (t .is);
         count-is = omega arith;
         names-is = omega arith;
         words-are =
@@ -508,7 +477,7 @@ module _ (text : List ℕ) (at : ℕ) (kind : ContainerKind) (n m : ℕ) (b a : 
             names-frame = λ e l. fs .names-frame e (omega arith) ∙ fr .names-frame e l;
           },
         );
-        says = continued text at kind n m b z (NoItems why end-at) (λ g l. nexts g (r .says g l .is) ∙ ap (R.addItem _ _) (s .says g (omega (arith, length-drop at text, length-drop to text))));
+        says = continued text at kind n m b z (NoItems why end-at) (λ g l. next-is text at kind g (r .says g l .is) ∙ ap (R.addItem _ _) (s .says g (omega (arith, length-drop at text, length-drop to text))));
       }
 
 -- ---- Containers.
@@ -545,22 +514,17 @@ module _ (text : List ℕ) (at : ℕ) (k : ContainerKind) (n m : ℕ) (h : at < 
   unfolding closes
   opens-container = slack-open text at h (ap closes st)
 
-  container-begins : (g : ℕ)
-      → begin (getD text at 0) (start (getD text at 0)) (drop (at + 1) text) (λ t. parseInner g t) (λ j t. parseItems g j t)
-      ≡ begin (getD text at 0) (R.openContainer k) (drop (at + 1) text) (λ t. parseInner g t) (λ j t. parseItems g j t)
-  container-begins g = ap (λ (x : R.Start). begin (getD text at 0) x (drop (at + 1) text) (λ t. parseInner g t) (λ j t. parseItems g j t)) st
-
   pub reads-no-name : (why : ErrorKind) (to : ℕ) → NamedIs text (at + 1) m (b .names) ns (NoName why to) (R.parseName k [] (drop (at + 1) text)) → Reads text at n m b (lists (b .words) ns) (Refused why to)
   unfolding Begun begin
   reads-no-name why to q = record {
     bound = (q .0 .1, record { words-frame = λ e l. refl; names-frame = λ e l. ap (drop e) (q .1) });
-    says = begun text at n m b (lists (b .words) ns) (Refused why to) h (λ g f. container-begins g ∙ rw (q .0 .0, begin) refl);
+    says = begun text at n m b (lists (b .words) ns) (Refused why to) h (λ g f. begins text at st (λ t. parseInner g t) (λ j t. parseItems g j t) ∙ rw (q .0 .0, begin) refl);
   }
 
   module _ (to l : ℕ) (q : NameFound text (at + 1) m (b .names) ns to l (R.parseName k [] (drop (at + 1) text))) (a : Lists) where
     named : (g : ℕ) → begin (getD text at 0) (start (getD text at 0)) (drop (at + 1) text) (λ t. parseInner g t) (λ j t. parseItems g j t) ≡ R.contained k (q .name) (parseItems g k (drop to text))
     unfolding begin
-    named g = container-begins g ∙ rw (q .is, begin) refl
+    named g = begins text at st (λ t. parseInner g t) (λ j t. parseItems g j t) ∙ rw (q .is, begin) refl
 
     contained-found : (end-at k2 j2 g : ℕ) → ItemsFound text (n + 1) l (lists (b .words) ns) a end-at k2 j2 (parseItems g k (drop to text))
         → FoundIs text n m b (lists (putNode (a .words) n (kindWord k) m (l - m) (k2 - n)) (a .names)) end-at k2 j2

@@ -2,20 +2,20 @@
 use Prim.Native.Nat.{ℕ, zero, suc, _+_, _*_, _-_, _≤_, _<_}
 use mathlib.Core.Path.{_≡_, refl, sym, ap, _∙_, subst, subst₂}
 use mathlib.Core.List.{List, [], _∷_, _++_, append-assoc, append-nil}
-use mathlib.Core.Bool.{Bool, true, false, _||_, false≢true}
+use mathlib.Core.Bool.{Bool, true, false, _||_, and-false, false≢true}
 use mathlib.Core.Option.{some, none}
 use native.Mathlib.Nat.{sub-zero, zero-add}
 use native.Mathlib.Omega.{arith}
 use lib.ListN.{length, take, drop, getD, set, replicate, length-drop, length-append, length-replicate, take-append-drop}
 use lib.Seq.{sets, sets-eq, drop-append-le, drop-append-add, drop-drop, drop-at, take-all, length-take-le}
-use lib.Dec.{eqb}
+use lib.Dec.{eqb, leb}
 use borrow.Author.Tests.{eqb-true, lt-ltb, le-ltb, le-leb, lt-leb}
 use borrow.Rule.Slice.PartMut.{putMid, midOf, same-len-mid}
 use Rattle.kinds.specs.Container.{endByte}
 use Rattle.kinds.specs.Parse as R
 use Rattle.kinds.specs.Byte.{among}
 use Rattle.kinds.specs.Parse.{start, isQualifier, parseInner, parse, parseEncodingOrNone, encodingOrNone, stripLeadingQualifiers, encoded, notEncoded}
-use Rattle.kinds.specs.Sheet.{nodes, namesOf, headerOf, sheetOf, headerWords}
+use Rattle.kinds.specs.Sheet.{nodes, namesOf, headerOf, sheetOf, headerWords, maxText}
 use Rattle.kinds.specs.Tree as T
 use Rattle.kinds.specs.Tree.{Trees, end, node, count}
 use Rattle.kinds.specs.declared.ErrorKind.{ErrorKind}
@@ -28,7 +28,8 @@ use Rattle.parse.specs.declared.Encoded.{Encoded}
 use Rattle.parse.specs.declared.Encoded.the-variants as E
 use Rattle.parse.specs.declared.Parsed.{Parsed}
 use Rattle.parse.specs.declared.Parsed.the-variants.{Empty, Encoding, ContainerEnd, ArrayEnd, Refused}
-use Rattle.parse.proofs.Cycle.{reads-simple, kept-frame, nodes-length, count-alone, none-nodes, none-count, none-names}
+use Rattle.parse.proofs.Cycle.{reads-simple, kept-frame, count-alone, none-nodes, none-count, none-names}
+use Rattle.kinds.proofs.HoldsLaws.{sheet-length}
 use Rattle.kinds.proofs.ListLaws.{unread-end}
 use Rattle.parse.proofs.Sheets.{slack-le, simple-code}
 use Rattle.parse.proofs.Stores.{sets-append, sets-front-append, sets-part}
@@ -122,15 +123,31 @@ beyond n w v h =
     let e : length (v ++ z) ≡ n = length-append v z ∙ omega arith in
     drop-at (v ++ z) (drop n w) n e
 
+-- ---- Refusals 1 and 2.
+
+module _ (text w ns : List ℕ) where
+  pub too-long : maxText < length text → turnedAway text w ns ≡ some TextTooLong
+  unfolding turnedAway
+  too-long h = rw (lt-ltb maxText (length text) h)
+
+  module _ (short : length text ≤ maxText) where
+    pub not-away : used (length text) ≤ length w → length text ≤ length ns → turnedAway text w ns ≡ none
+    unfolding turnedAway hasRoom
+    not-away hw hn = rw (le-ltb maxText (length text) short, le-leb (used (length text)) (length w) hw, le-leb (length text) (length ns) hn)
+
+    pub few-words : length w < used (length text) → turnedAway text w ns ≡ some ListTooShort
+    unfolding turnedAway hasRoom
+    few-words h = rw (le-ltb maxText (length text) short, lt-leb (used (length text)) (length w) h)
+
+    pub few-names : length ns < length text → turnedAway text w ns ≡ some ListTooShort
+    unfolding turnedAway hasRoom
+    few-names h = rw (le-ltb maxText (length text) short, lt-leb (length text) (length ns) h, and-false (leb (used (length text)) (length w)))
+
 -- ---- The outcome of reading from cleared lists.
 
 none-sheet : sheetOf (node T.none end end) ≡ 1 ∷ 4 ∷ 0 ∷ 8 ∷ 31 ∷ 0 ∷ 0 ∷ 1 ∷ []
 unfolding sheetOf headerOf
 none-sheet = simp (none-nodes, none-names, none-count)
-
-sheet-length : (t : Trees) → length (sheetOf t) ≡ 4 + 4 * count t
-unfolding sheetOf headerOf
-sheet-length t = omega (arith, nodes-length 0 t)
 
 -- None's sheet stored in cleared words.
 pub none-stored : (n : ℕ) (w : List ℕ) → 8 ≤ n → n ≤ length w → noneSheet (filled n [] w) ≡ filled n (sheetOf (node T.none end end)) w
@@ -156,10 +173,6 @@ module _ (text w ns : List ℕ) (at : ℕ) (short : length text ≤ 2000) (hw : 
   front-length : length front ≡ length w
   front-length = cleared-length (used (length text)) w hw
 
-  not-away : turnedAway text w ns ≡ none
-  unfolding turnedAway hasRoom
-  not-away = simp (le-ltb _ _ short, le-leb _ _ hw, le-leb _ _ hn)
-
   is : {q : R.Parsed} → parseInner fuel (drop at text) ≡ q → parseEncodingOrNone text ≡ encodingOrNone q
   unfolding parseEncodingOrNone parse fuel
   is e = ap (λ (s : List ℕ). encodingOrNone (parseInner (length s + length s) s)) (sym st) ∙ ap encodingOrNone e
@@ -170,7 +183,7 @@ module _ (text w ns : List ℕ) (at : ℕ) (short : length text ≤ 2000) (hw : 
       let m : ℕ = 4 * (length text + 1) in
       let four : length (take headerWords front) ≡ headerWords = length-take-le headerWords front (omega (arith, front-length)) in
       record {
-        away = not-away;
+        away = not-away text w ns short hw hn;
         words-room = hw;
         names-room = hn;
         is = e;
@@ -198,7 +211,7 @@ module _ (text w ns : List ℕ) (at : ℕ) (short : length text ≤ 2000) (hw : 
       let fits : length (sheetOf t) ≤ used (length text) = omega (arith, sheet-length t, slack-le text at, b .room) in
       let few : length (namesOf t) ≤ length text = omega (arith, b .names-room) in
       record {
-        away = not-away;
+        away = not-away text w ns short hw hn;
         words-room = hw;
         names-room = hn;
         label = f .label;
@@ -220,7 +233,7 @@ module _ (text w ns : List ℕ) (at : ℕ) (short : length text ≤ 2000) (hw : 
   empty-is : Reads text at 0 0 before a Empty → TreeAt text (lists w ns) (lists (noneSheet joined) (a .names)) (length text)
   unfolding fuel encodingOrNone
   empty-is r = record {
-    away = not-away;
+    away = not-away text w ns short hw hn;
     words-room = hw;
     names-room = hn;
     label = T.none;
@@ -305,21 +318,6 @@ one-code text w ns p one hw hn st w2 n2 ew en =
     let names : kept ≡ n2 = ap (λ (k : ℕ). cleared k ns) one ∙ sym en in
     subst₂ (λ (x y : List ℕ). EncodedIs text (lists w ns) (lists x y) (E.Tree 1)) words names
     (encoded-is text w ns 0 (omega arith) hw hn (omega arith) (sym (strip-stop text 0 h (code-stays _ p st))) a (Encoding 1 1 0) reads)
-
--- ---- Refusals 1 and 2.
-
-module _ (text w ns : List ℕ) where
-  pub too-long : 2000 < length text → turnedAway text w ns ≡ some TextTooLong
-  unfolding turnedAway
-  too-long h = simp (lt-ltb _ _ h)
-
-  pub few-words : length text ≤ 2000 → length w < used (length text) → turnedAway text w ns ≡ some ListTooShort
-  unfolding turnedAway hasRoom
-  few-words s h = simp (le-ltb _ _ s, lt-leb _ _ h)
-
-  pub few-names : length text ≤ 2000 → used (length text) ≤ length w → length ns < length text → turnedAway text w ns ≡ some ListTooShort
-  unfolding turnedAway hasRoom
-  few-names s l h = simp (le-ltb _ _ s, le-leb _ _ l, lt-leb _ _ h)
 
 -- ---- What the calls ask.
 

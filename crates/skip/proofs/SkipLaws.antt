@@ -4,7 +4,7 @@ use mathlib.Core.Path.{_≡_, refl, sym, ap, _∙_, subst}
 use mathlib.Core.Bool.{Bool, true, false, cond, false≢true}
 use mathlib.Core.List.{List, []}
 use native.Mathlib.Omega.{arith}
-use lib.Dec.{eqb, ltb}
+use lib.Dec.{eqb}
 use lib.ListN.{length, take, drop, getD, length-drop}
 use borrow.Author.Tests.{eq-eqb, eqb-true, ltb-true}
 use Rattle.kinds.proofs.ListLaws.{unread-end}
@@ -12,11 +12,10 @@ use Rattle.kinds.specs.Container.{endByte, sameContainer}
 use Rattle.kinds.specs.Expect.{skipItems, remaining, mismatch}
 use Rattle.kinds.specs.Parse as R
 use Rattle.kinds.specs.Parse.{start, begin, leaf, encoding, refused, parseInner, parseItems, held, item, maxU64}
-use Rattle.kinds.specs.Tree.{Label, end, node, primitive, bitField, typedBitField, array, none, pointer, atomic}
+use Rattle.kinds.specs.Tree.{Label, end, node, primitive, bitField, typedBitField, array, none}
 use Rattle.kinds.specs.declared.ContainerKind.{ContainerKind}
 use Rattle.kinds.specs.declared.ErrorKind.{ErrorKind}
 use Rattle.kinds.specs.declared.ErrorKind.the-variants.{Unknown}
-use Rattle.parser.specs.Place.{placeOf}
 use Rattle.parser.proofs.RestLaws.{place-of-drop}
 use Rattle.parser.proofs.RunLaws.{RunTo}
 use Rattle.names.proofs.NameLaws.{NameRead}
@@ -24,10 +23,10 @@ use Rattle.codes.specs.Answer.{closed, codeOf, isCode, isIndirection}
 use Rattle.codes.specs.declared.Token.{Token}
 use Rattle.codes.specs.declared.Token.the-variants as T
 use Rattle.codes.proofs.CodeLaws.{single-code, indirection-is}
-use Rattle.codes.proofs.StepLaws.{parse-step, parse-nil, begins, closed-in, closed-is, closes-it, closes-not}
+use Rattle.codes.proofs.StepLaws.{parse-step, parse-nil, begins, begins-held, begins-item, next-is, fuel-on, closed-in, closed-is, closes-it, closes-not}
 use Rattle.codes.proofs.TokenLaws.{TokenIs}
 use Rattle.skip.specs.Answer.{skippedAt}
-use Rattle.skip.specs.Skips.{SkippedIs, Passed, Turned, Skips, SkippedItemsIs, SkipsItems, tokenSkipped, underSkipped, heldSkipped, itemSkipped, containedSkipped, endSkipped}
+use Rattle.skip.specs.Skips.{SkippedIs, Passed, Skips, SkippedItemsIs, SkipsItems, tokenSkipped, underSkipped, heldSkipped, itemSkipped, containedSkipped, endSkipped}
 use Rattle.skip.specs.declared.Skipped.{Skipped}
 use Rattle.skip.specs.declared.Skipped.the-variants.{Empty, Encoding, ContainerEnd, ArrayEnd, Refused}
 use Rattle.skip.specs.declared.SkippedFields.{SkippedFields}
@@ -74,25 +73,20 @@ module _ (text : List ℕ) (at : ℕ) (h : at < length text) where
   -- ---- Pointers and atomics.
 
   module _ (l : Label) (st : start (getD text at 0) ≡ R.indirection l) where
-    holding : (g : ℕ) {q : R.Parsed} → parseInner g (drop (at + 1) text) ≡ q
-        → begin (getD text at 0) (start (getD text at 0)) (drop (at + 1) text) (λ t. parseInner g t) (λ k t. parseItems g k t) ≡ held l (drop (at + 1) text) q
-    unfolding begin
-    holding g e = begins text at st (λ t. parseInner g t) (λ k t. parseItems g k t) ∙ ap (held l (drop (at + 1) text)) e
-
     none-held : (g : ℕ) → {q : R.Parsed} → parseInner g (drop (at + 1) text) ≡ q → held l (drop (at + 1) text) q ≡ encoding l (node none end end) (drop (at + 1) text)
         → Passed text (at + 1) (begin (getD text at 0) (start (getD text at 0)) (drop (at + 1) text) (λ t. parseInner g t) (λ k t. parseItems g k t))
-    none-held g e f = record { label = l; children = node none end end; is = holding g e ∙ f }
+    none-held g e f = record { label = l; children = node none end end; is = begins-held text at st g e ∙ f }
 
     skips-held : (p : Skipped) → Skips text (at + 1) p → Skips text at (underSkipped p (at + 1))
     unfolding Begun held
     skips-held Empty r = record { bound = omega arith; says = begun text at (Encoding (at + 1)) h (λ g f. none-held g (r .says g (omega arith)) refl) }
     skips-held (Encoding to) r = record {
       bound = omega (arith, r .bound);
-      says = begun text at (Encoding to) h (λ g f. let q = r .says g (omega arith) in record { label = l; children = node (q .label) (q .children) end; is = holding g (q .is) });
+      says = begun text at (Encoding to) h (λ g f. let q = r .says g (omega arith) in record { label = l; children = node (q .label) (q .children) end; is = begins-held text at st g (q .is) });
     }
     skips-held (ContainerEnd c to) r = record { bound = omega arith; says = begun text at (Encoding (at + 1)) h (λ g f. none-held g (r .says g (omega arith)) refl) }
     skips-held (ArrayEnd to) r = record { bound = omega arith; says = begun text at (Encoding (at + 1)) h (λ g f. none-held g (r .says g (omega arith)) refl) }
-    skips-held Refused r = turn (λ g f. let q = r .says g (omega arith) in record { why = q .why; rest = q .rest; is = holding g (q .is) })
+    skips-held Refused r = turn (λ g f. let q = r .says g (omega arith) in record { why = q .why; rest = q .rest; is = begins-held text at st g (q .is) })
 
   -- ---- Arrays.
 
@@ -101,24 +95,16 @@ module _ (text : List ℕ) (at : ℕ) (h : at < length text) where
   skips-no-number why t st num = turn (λ g f. record { why = why; rest = t; is = begins text at st _ _ ∙ rw (num, begin) refl })
 
   module _ (len it : ℕ) (st : start (getD text at 0) ≡ R.openArray) (num : R.parseNumber maxU64 (drop (at + 1) text) ≡ R.value len (drop it text)) (on : at + 1 ≤ it) (in-text : it ≤ length text) where
-    itemed : (g : ℕ) {q : R.Parsed} → parseInner g (drop it text) ≡ q
-        → begin (getD text at 0) (start (getD text at 0)) (drop (at + 1) text) (λ t. parseInner g t) (λ k t. parseItems g k t) ≡ item len q
-    unfolding begin
-    itemed g e = begins text at st (λ t. parseInner g t) (λ k t. parseItems g k t) ∙ (rw (num, begin) refl) ∙ ap (item len) e
-
-    fuel : (g : ℕ) → length (drop (at + 1) text) + length (drop (at + 1) text) < g → length (drop it text) + length (drop it text) ≤ g
-    fuel g l = omega (arith, length-drop it text, length-drop (at + 1) text)
-
     refuses : (why : ErrorKind) (t : List ℕ) → ((g : ℕ) → length (drop it text) + length (drop it text) ≤ g → item len (parseInner g (drop it text)) ≡ refused why t) → Skips text at Refused
     unfolding Begun
-    refuses why t e = turn (λ g f. record { why = why; rest = t; is = itemed g refl ∙ e g (fuel g f) })
+    refuses why t e = turn (λ g f. record { why = why; rest = t; is = begins-item text at len it st num g refl ∙ e g (fuel-on text at it g on f) })
 
     pick-item : (to : ℕ) → Skips text it (Encoding to) → (d : Bool) → closed text to ≡ d → Skips text at (cond d (Encoding (to + 1)) Refused)
     unfolding Begun item
     pick-item to r true e = record {
       bound = omega (arith, r .bound, closed-in text to e);
-      says = begun text at (Encoding (to + 1)) h (λ g f. let q = r .says g (fuel g f) in
-          record { label = array len; children = node (q .label) (q .children) end; is = itemed g (q .is) ∙ closes-it text len (q .label) (q .children) to (closed-in text to e) (closed-is text to e) });
+      says = begun text at (Encoding (to + 1)) h (λ g f. let q = r .says g (fuel-on text at it g on f) in
+          record { label = array len; children = node (q .label) (q .children) end; is = begins-item text at len it st num g (q .is) ∙ closes-it text len (q .label) (q .children) to (closed-in text to e) (closed-is text to e) });
     }
     pick-item to r false e = refuses _ _ (λ g f. let q = r .says g f in ap (item len) (q .is) ∙ closes-not text len (q .label) (q .children) to e)
 
@@ -129,9 +115,9 @@ module _ (text : List ℕ) (at : ℕ) (h : at < length text) where
     itemized (ContainerEnd c to) r = refuses _ _ (λ g f. ap (item len) (r .says g f))
     itemized (ArrayEnd to) r = record {
       bound = omega (arith, r .bound);
-      says = begun text at (Encoding to) h (λ g f. record { label = array len; children = node none end end; is = itemed g (r .says g (fuel g f)) });
+      says = begun text at (Encoding to) h (λ g f. record { label = array len; children = node none end end; is = begins-item text at len it st num g (r .says g (fuel-on text at it g on f)) });
     }
-    itemized Refused r = turn (λ g f. let q = r .says g (fuel g f) in record { why = q .why; rest = q .rest; is = itemed g (q .is) })
+    itemized Refused r = turn (λ g f. let q = r .says g (fuel-on text at it g on f) in record { why = q .why; rest = q .rest; is = begins-item text at len it st num g (q .is) })
 
     pub skips-item : (p s : Skipped) → Skips text it p → s ≡ itemSkipped p text → Skips text at s
     skips-item p s r e = rw e (itemized p r)
@@ -222,27 +208,24 @@ module _ (text : List ℕ) (at : ℕ) (kind : ContainerKind) where
   continued r s zero l = absurd (omega arith)
   continued r s (suc g) l = s g (omega arith)
 
-  next : (g : ℕ) {q : R.Parsed} → parseInner g (drop at text) ≡ q → R.nextItem kind (parseInner g (drop at text)) (λ t. parseItems g kind t) ≡ R.nextItem kind q (λ t. parseItems g kind t)
-  next g e = ap (λ (x : R.Parsed). R.nextItem kind x (λ t. parseItems g kind t)) e
-
   end-container : (other : ContainerKind) (to : ℕ) → Skips text at (ContainerEnd other to) → (d : Bool) → sameContainer kind other ≡ d → SkipsItems text at kind (cond d (F.To to) F.Refused)
   unfolding Continued R.nextItem
   end-container other to r true e = record {
     bound = r .bound;
-    says = continued (F.To to) (λ g l. record { trees = end; is = next g (r .says g l) ∙ (rw (e, R.nextItem) refl) });
+    says = continued (F.To to) (λ g l. record { trees = end; is = next-is text at kind g (r .says g l) ∙ (rw (e, R.nextItem) refl) });
   }
   end-container other to r false e = record {
     bound = tt;
-    says = continued F.Refused (λ g l. record { why = Unknown (endByte other); rest = drop to text; is = next g (r .says g l) ∙ (rw (e, R.nextItem) refl) });
+    says = continued F.Refused (λ g l. record { why = Unknown (endByte other); rest = drop to text; is = next-is text at kind g (r .says g l) ∙ (rw (e, R.nextItem) refl) });
   }
 
   ended : (p : Skipped) → NotPassed p → Skips text at p → SkipsItems text at kind (endSkipped p kind)
   unfolding Continued R.nextItem
-  ended Empty x r = record { bound = tt; says = continued F.Refused (λ g l. record { why = _; rest = _; is = next g (r .says g l) }) }
+  ended Empty x r = record { bound = tt; says = continued F.Refused (λ g l. record { why = _; rest = _; is = next-is text at kind g (r .says g l) }) }
   ended (Encoding to) x r = absurd x
   ended (ContainerEnd other to) x r = end-container other to r (sameContainer kind other) refl
-  ended (ArrayEnd to) x r = record { bound = tt; says = continued F.Refused (λ g l. record { why = _; rest = _; is = next g (r .says g l) }) }
-  ended Refused x r = record { bound = tt; says = continued F.Refused (λ g l. let q = r .says g l in record { why = _; rest = _; is = next g (q .is) }) }
+  ended (ArrayEnd to) x r = record { bound = tt; says = continued F.Refused (λ g l. record { why = _; rest = _; is = next-is text at kind g (r .says g l) }) }
+  ended Refused x r = record { bound = tt; says = continued F.Refused (λ g l. let q = r .says g l in record { why = _; rest = _; is = next-is text at kind g (q .is) }) }
 
   pub skipped-end : (p : Skipped) (i : SkippedFields) → NotPassed p → Skips text at p → i ≡ endSkipped p kind → SkipsItems text at kind i
   skipped-end p i x r e = rw e (ended p x r)
@@ -255,14 +238,14 @@ module _ (text : List ℕ) (at : ℕ) (kind : ContainerKind) where
     says = continued (F.To z) (λ g l.
         let f = r .says g l in
         let i = s .says g (omega (arith, r .bound, length-drop at text, length-drop to text)) in
-        record { trees = node (f .label) (f .children) (i .trees); is = next g (f .is) ∙ ap (R.addItem (f .label) (f .children)) (i .is) });
+        record { trees = node (f .label) (f .children) (i .trees); is = next-is text at kind g (f .is) ∙ ap (R.addItem (f .label) (f .children)) (i .is) });
   }
   skipped-more to F.Refused r s = record {
     bound = tt;
     says = continued F.Refused (λ g l.
         let f = r .says g l in
         let i = s .says g (omega (arith, r .bound, length-drop at text, length-drop to text)) in
-        record { why = i .why; rest = i .rest; is = next g (f .is) ∙ ap (R.addItem (f .label) (f .children)) (i .is) });
+        record { why = i .why; rest = i .rest; is = next-is text at kind g (f .is) ∙ ap (R.addItem (f .label) (f .children)) (i .is) });
   }
 
 -- ---- Runs of codes.

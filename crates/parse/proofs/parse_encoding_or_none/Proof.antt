@@ -28,7 +28,7 @@ returns-2 : tie.Need-returns-2
 returns-2 c = (few-words _ _ _ (c .before .if1 .left) (c .if2 .taken), record { words-kept = refl; names-kept = refl })
 
 returns-3 : tie.Need-returns-3
-returns-3 c = (few-names _ _ _ (c .before .before .if1 .left) (c .before .if2 .left) (c .if3 .taken), record { words-kept = refl; names-kept = refl })
+returns-3 c = (few-names _ _ _ (c .before .before .if1 .left) (c .if3 .taken), record { words-kept = refl; names-kept = refl })
 
 shared-slice-read-single-kind : tie.Need-shared-slice-read-single-kind
 shared-slice-read-single-kind c = search needs
