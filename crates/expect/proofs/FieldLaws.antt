@@ -8,6 +8,7 @@ use borrow.Author.Tests.{le-leb, leb-true, leb-false, ne-eqb, eqb-true}
 use lib.ListN.{length, take, drop, List·getD-eq-default}
 use lib.Dec.{leb, eqb}
 use Rattle.kinds.proofs.SheetLaws.{trees-step}
+use Rattle.kinds.proofs.ListLaws.{whole}
 use Rattle.kinds.proofs.NodeLaws.{leaf-count, node-child, node-inner, child-count, first-some, first-within, first-node, other-trees, held-trees, no-trees, walk-inner, walk-rest}
 use Rattle.kinds.proofs.KindLaws.{indirection-range}
 use Rattle.kinds.proofs.TableLaws.{everyBelow, passBelow, same-bytes}
@@ -29,7 +30,7 @@ use Rattle.expect.specs.declared.Expected as X
 use Rattle.expect.specs.declared.Expected.the-variants as XV
 use Rattle.expect.specs.declared.Opened.{Opened}
 use Rattle.expect.specs.declared.Opened.the-variants as O
-use Rattle.expect.proofs.TextLaws.{then-remaining, then-mismatch, same-outcome, code-one, primitive-alone, rest}
+use Rattle.expect.proofs.TextLaws.{then-remaining, then-mismatch, same-outcome, code-one, primitive-alone}
 use Rattle.expect.proofs.WalkLaws.{leaf-is, behind-off, behind-more, by-byte, lent-whole}
 
 -- ---- Nodes whose own text is one byte.
@@ -255,9 +256,9 @@ module _ (names w w' text : List ℕ) (n at to : ℕ) (e : w' ≡ w) where
   pub lent-walk : TreesAt w at n → to ≤ length text → KindsAndNames w (length names) at n
       → (TreesAt w' at n × (to ≤ length (take (length text - 0) (drop 0 text)))) × KindsAndNames w' (length (take (length names - 0) (drop 0 names))) at n
   lent-walk t l k = (
-    (subst (λ (x : List ℕ). TreesAt x at n) (sym e) t, subst (λ (x : List ℕ). to ≤ length x) (sym (rest text 0)) l),
+    (subst (λ (x : List ℕ). TreesAt x at n) (sym e) t, subst (λ (x : List ℕ). to ≤ length x) (sym (whole text)) l),
     subst (λ (x : List ℕ). KindsAndNames x (length (take (length names - 0) (drop 0 names))) at n) (sym e)
-        (subst (λ (x : List ℕ). KindsAndNames w (length x) at n) (sym (rest names 0)) k),
+        (subst (λ (x : List ℕ). KindsAndNames w (length x) at n) (sym (whole names)) k),
   )
 
   pub lent-fields : (u : NestingLevel) (r : X.Expected)
@@ -269,4 +270,4 @@ module _ (names w w' text : List ℕ) (n at to : ℕ) (e : w' ≡ w) where
       (subst (λ (x : List ℕ). ExpectedIs (take (length text - 0) (drop 0 text)) r
       (expectEncoding u (trees names x n at) (drop to (take (length text - 0) (drop 0 text))))) e
       (subst (λ (x : List ℕ). ExpectedIs (take (length text - 0) (drop 0 text)) r
-      (expectEncoding u (trees x w' n at) (drop to (take (length text - 0) (drop 0 text))))) (rest names 0) h))
+      (expectEncoding u (trees x w' n at) (drop to (take (length text - 0) (drop 0 text))))) (whole names) h))

@@ -1,12 +1,10 @@
 -- Tree against text at a place of the text: each definition by what stands there.
-use Prim.Native.Nat.{ℕ, _+_, _-_, _≤_, _<_}
-use native.Mathlib.Omega.{arith}
+use Prim.Native.Nat.{ℕ, _+_, _≤_, _<_}
 use mathlib.Core.Path.{_≡_, refl, ap, ap₂, sym, _∙_, subst}
 use mathlib.Core.List.{List, [], _∷_}
 use mathlib.Core.Bool.{true, false}
 use borrow.Author.Tests.{eq-eqb, ne-eqb}
-use lib.ListN.{length, getD, take, drop, length-drop}
-use lib.Seq.{drop-drop, take-all}
+use lib.ListN.{length, getD, drop}
 use lib.Dec.{eqb}
 use Rattle.kinds.proofs.ListLaws.{unread, unread-end}
 use Rattle.kinds.specs.Expect.{Expected, remaining, mismatch, _then_, orElse, expectByte, expectBytes, expectNumber, expectQuote, className, expectPrimitive}
@@ -93,11 +91,6 @@ module _ (s : List ℕ) (i : ℕ) where
   pub class-quoted : i < length s → getD s i 0 ≡ 34 → className (drop i s) ≡ expectQuote (drop (i + 1) s)
   unfolding className
   class-quoted h e = ap className (unread s i h) ∙ rw (eq-eqb (getD s i 0) 34 e, className)
-
--- The unread part, lent as a slice of its own.
-module _ (s : List ℕ) (at : ℕ) where
-  pub rest : take (length s - at) (drop at s) ≡ drop at s
-  rest = take-all (length s - at) (drop at s) (simp length-drop (omega arith))
 
 -- An outcome of a text that comes to the same.
 pub same-outcome : (text : List ℕ) (r : X.Expected) (p q : Expected) → p ≡ q → ExpectedIs text r q → ExpectedIs text r p

@@ -8,7 +8,7 @@ use borrow.Author.Tests.{leb-true, leb-false, eq-eqb, ne-eqb, eqb-true, eqb-fals
 use lib.ListN.{length, take, drop}
 use lib.Dec.{leb, eqb}
 use native.Mathlib.Nat.{add-sub-cancel-left}
-use Rattle.kinds.proofs.ListLaws.{unread, unread-end}
+use Rattle.kinds.proofs.ListLaws.{unread, unread-end, whole}
 use Rattle.kinds.proofs.SheetLaws.{trees-step}
 use Rattle.kinds.proofs.NodeLaws.{child-count, node-child, label-primitive, label-bits, label-typed, label-pointer, label-atomic, label-array, label-struct, label-union, label-none, no-trees, some-trees}
 use Rattle.kinds.specs.Container.{startByte, endByte, prefixByte}
@@ -17,7 +17,7 @@ use Rattle.kinds.specs.Expect.{remaining, mismatch, _then_, orElse, expectByte,
 use Rattle.kinds.specs.Level.{indirection, containerIncludeFields}
 use Rattle.kinds.specs.Parse.{container, maxU8}
 use Rattle.kinds.specs.Sheet.{kindAt, firstAt, secondAt, countAt, isContainerKind, labelAt, label, trees}
-use Rattle.kinds.specs.Tree.{Label, Trees, node, isEnd, inside}
+use Rattle.kinds.specs.Tree.{Label, Trees, isEnd, inside}
 use Rattle.kinds.specs.Walk.{NodeAt}
 use Rattle.kinds.specs.declared.ContainerKind.{ContainerKind}
 use Rattle.kinds.specs.declared.ContainerKind.the-variants.{Struct, Union}
@@ -30,7 +30,7 @@ use Rattle.expect.specs.declared.Expected as X
 use Rattle.expect.specs.declared.Expected.the-variants as XV
 use Rattle.expect.specs.declared.Opened.{Opened}
 use Rattle.expect.specs.declared.Opened.the-variants as O
-use Rattle.expect.proofs.TextLaws.{then-remaining, then-mismatch, then-nothing, closing-container, rest}
+use Rattle.expect.proofs.TextLaws.{then-remaining, then-mismatch, then-nothing, closing-container}
 
 pub then-assoc : (x : E.Expected) (f g : List ℕ → E.Expected) → ((x then f) then g) ≡ (x then (λ t. f t then g))
 unfolding _then_
@@ -239,16 +239,6 @@ pub in-text : (text : List ℕ) (r : X.Expected) (q : E.Expected) → ExpectedIs
 in-text text (XV.Remaining to) q h = h .1
 in-text text XV.Mismatch q h = tt
 
-pub container-range : (k : ℕ) → 29 ≤ k → k ≤ 31 → (k ≡ 31 → ⊥) → isContainerKind k ≡ true
-container-range k lo hi n = go (eqb k 29) refl
-  where
-    other : (k ≡ 29 → ⊥) → k ≡ 30
-    other r = omega arith
-
-    go : (t : Bool) → eqb k 29 ≡ t → isContainerKind k ≡ true
-    go true e = rw e
-    go false e = rw (other (eqb-false k 29 e))
-
 -- The container at a node.
 pub container-at : (names w : List ℕ) (at : ℕ) (v : NestingLevel) (s text : List ℕ) (r : Opened) (k : ContainerKind)
     → isContainerKind (kindAt w at) ≡ true → k ≡ containerOf (kindAt w at)
@@ -307,4 +297,4 @@ opened-at names w at v text place (O.Fields to u) c h = (container-fields names 
 -- An outcome on the whole text, lent as a slice of its own.
 pub lent-whole : (text : List ℕ) (r : X.Expected) (place : ℕ) (f : List ℕ → E.Expected)
     → ExpectedIs (take (length text - 0) (drop 0 text)) r (f (drop place (take (length text - 0) (drop 0 text)))) → ExpectedIs text r (f (drop place text))
-lent-whole text r place f h = subst (λ (x : List ℕ). ExpectedIs x r (f (drop place x))) (rest text 0) h
+lent-whole text r place f h = subst (λ (x : List ℕ). ExpectedIs x r (f (drop place x))) (whole text) h

@@ -1,5 +1,6 @@
 -- Laws of writing into a lent output.
 use Prim.Native.Nat.{ℕ, _+_, _≤_, _<_}
+use native.Mathlib.Nat.{add-zero}
 use native.Mathlib.Omega.{arith}
 use native.Mathlib.Numerals.{add-one}
 use mathlib.Core.Path.{_≡_, refl, ap, ap₂, sym, _∙_, subst}
@@ -10,10 +11,7 @@ use Rattle.static_str.specs.Output.{written, Wrote}
 
 pub written-none : (out : List ℕ) (at : ℕ) → written out at [] ≡ out
 unfolding written
-written-none out at = ap (λ (n : ℕ). take at out ++ drop n out) (plain at) ∙ take-append-drop at out
-  where
-    plain : (n : ℕ) → n + 0 ≡ n
-    plain n = omega arith
+written-none out at = ap (λ (n : ℕ). take at out ++ drop n out) (add-zero at) ∙ take-append-drop at out
 
 module _ (out : List ℕ) (at : ℕ) (xs : List ℕ) (p : at + length xs ≤ length out) where
   front : length (take at out ++ xs) ≡ at + length xs

@@ -11,26 +11,12 @@ use Rattle.kinds.specs.Sheet.{kindAt, countAt, labelAt, trees, nests}
 use Rattle.kinds.specs.Tree.{inside}
 use Rattle.kinds.specs.Walk.{TreesAt}
 use Rattle.kinds.specs.declared.NestingLevel.{NestingLevel}
-use Rattle.kinds.proofs.SheetLaws.{trees-step, nests-on}
-use Rattle.kinds.proofs.NodeLaws.{node-arity, node-inner, first-some, first-within, first-node, other-trees, walk-inner}
+use Rattle.kinds.proofs.SheetLaws.{trees-step}
+use Rattle.kinds.proofs.NodeLaws.{node-inner, first-some, first-within, first-node, other-trees, nests-run, walk-inner}
 use Rattle.static_str.specs.Parts.{childrenText, fieldsBelow, passed, passedText, maxNodeText, PassedLength, TreesLength}
 use Rattle.static_str.specs.declared.Below.{Below}
 use Rattle.static_str.specs.declared.Below.the-variants.{Same, Hidden, Deeper}
 use Rattle.static_str.proofs.PrintLaws.{no-text, dropped-text, included-text}
-
-module _ (w : List ℕ) where
-  nests-run : (f a b at : ℕ) → a ≤ f → TreesAt w at a → nests w b (at + 4 * a) ≡ true → nests w (a + b) at ≡ true
-  nests-run zero zero b at p h q = subst (λ (x : ℕ × ℕ). nests w (x .0) (x .1) ≡ true) (ap₂ (λ (m n : ℕ). (m, n)) (omega arith) (omega arith)) q
-  nests-run (suc f) zero b at p h q = subst (λ (x : ℕ × ℕ). nests w (x .0) (x .1) ≡ true) (ap₂ (λ (m n : ℕ). (m, n)) (omega arith) (omega arith)) q
-  nests-run zero (suc a) b at p h q = absurd (omega arith)
-  nests-run (suc f) (suc a) b at p h q =
-      let n = first-node w at (suc a) h (omega arith) in
-      let c = first-within w at (suc a) h (omega arith) in
-      let s = first-some w at (suc a) h (omega arith) in
-      nests-on w (suc a + b) at s (omega arith) (node-arity w at n) (node-inner w at n .nested)
-      ∙ ap (λ (m : ℕ). nests w m (at + 4 * countAt w at)) (omega arith)
-      ∙ nests-run f (suc a - countAt w at) b (at + 4 * countAt w at) (omega arith) (other-trees w at (suc a) h (omega arith))
-      (subst (λ (m : ℕ). nests w b m ≡ true) (omega arith) q)
 
 module _ (s w : List ℕ) (v : NestingLevel) where
   text-run : (f a b at : ℕ) → a ≤ f → TreesAt w at a → print v (trees s w (a + b) at) ≡ print v (trees s w a at) ++ print v (trees s w b (at + 4 * a))
@@ -65,7 +51,7 @@ module _ (w : List ℕ) (at m : ℕ) (h : TreesAt w at m) (p : 0 < m) where
       record {
         room = omega arith;
         nested = sym (ap₂ (λ (k j : ℕ). nests w k j) (omega arith) (omega arith))
-            ∙ nests-run w (countAt w at - 1) (countAt w at - 1) (m - countAt w at) (at + 4) (omega arith) n
+            ∙ nests-run w (m - countAt w at) (countAt w at - 1) (countAt w at - 1) (at + 4) (omega arith) n
             (subst (λ (j : ℕ). nests w (m - countAt w at) j ≡ true) (omega arith) (o .nested));
       }
 

@@ -10,7 +10,7 @@ use Rattle.kinds.specs.Expect.{expectEncoding}
 use Rattle.kinds.specs.Sheet.{kindAt, countAt, trees}
 use Rattle.kinds.proofs.NodeLaws.{walk-here}
 use Rattle.expect.specs.Agree.{ExpectedIs, expectAt}
-use Rattle.expect.proofs.TextLaws.{rest}
+use Rattle.kinds.proofs.ListLaws.{whole}
 use Rattle.expect.proofs.WalkLaws.{in-text}
 use Rattle.expect.proofs.FieldLaws.{Left, resume-level, left-bounds, left-end, left-node, left-inner, left-off, left-more, left-byte-off, left-byte, no-own-byte, after-off, after-whole, after-fields, lent-walk, lent-fields}
 use Rattle.expect.proofs.expect_encoding.Reads as expect-encoding
@@ -80,7 +80,7 @@ after-is t c =
     (λ i. after-fields (a .names .now) (a .nodes .now) (l .at) (l .here) (a .text .now) (l .place) (c .before .open-node .result)
     (c .before .open-node .ensures) (c .match2 .after) (i .1 .given .0 .0) (i .1 .given .0 .1 .0) (i .1 .given .1) (i .6 .result) (i .8 .result)
     (lent-fields (a .names .now) (a .nodes .now) _ (a .text .now) (countAt (a .nodes .now) (l .at) - 1) (l .at + 4) (i .1 .given .0 .0)
-    (rest (a .nodes .now) 0) (i .1 .given .0 .1 .0) (i .6 .result) (i .6 .ensures)) (i .8 .ensures) (i .9))) (c .match2 .came)
+    (whole (a .nodes .now)) (i .1 .given .0 .1 .0) (i .6 .result) (i .6 .ensures)) (i .8 .ensures) (i .9))) (c .match2 .came)
 
 expect-encoding-loop-holds : (t : ℕ) → expect-encoding-lts.Need-loop-holds (expect-encoding-claims t) (expect-encoding-at t) expect-encoding.Post
     expect-encoding-Inv-loop expect-encoding-μ-loop
@@ -302,7 +302,7 @@ expect-encoding-expect-encoding-requires t c κs =
     let b = left-bounds (l .inv .1) (c11 .loop-test .taken) in
     let i = left-inner (l .inv .1) (c11 .loop-test .taken) in
     let o = rw (c4 .to3 .given .1) at (c6 .open-node .ensures) in
-    (omega arith, lent-walk (a .names .now) (a .nodes .now) _ (a .text .now) _ _ _ (rest (a .nodes .now) 0) (i .0) (o .1) (i .1))
+    (omega arith, lent-walk (a .names .now) (a .nodes .now) _ (a .text .now) _ _ _ (whole (a .nodes .now)) (i .0) (o .1) (i .1))
 
 expect-encoding-add-close-node : (t : ℕ) → expect-encoding-lts.Need-add-close-node (expect-encoding-claims t) (expect-encoding-at t) expect-encoding.Post
     expect-encoding-Inv-loop expect-encoding-μ-loop
@@ -342,7 +342,7 @@ expect-encoding-close-node-requires t c κs =
     let l = c14 .loop in
     in-text (a .text .now) (c .before .expect-encoding .result) _
     (lent-fields (a .names .now) (a .nodes .now) _ (a .text .now) (countAt (a .nodes .now) (c14 .loop .at) - 1) (c14 .loop .at + 4) (c6 .to3 .given .0 .0)
-    (rest (a .nodes .now) 0) (c6 .to3 .given .0 .1 .0) (c .before .expect-encoding .result) (c .before .expect-encoding .ensures))
+    (whole (a .nodes .now)) (c6 .to3 .given .0 .1 .0) (c .before .expect-encoding .result) (c .before .expect-encoding .ensures))
 
 expect-encoding-enum-known-after : (t : ℕ) → expect-encoding-lts.Need-enum-known-after (expect-encoding-claims t) (expect-encoding-at t) expect-encoding.Post
     expect-encoding-Inv-loop expect-encoding-μ-loop

@@ -1,9 +1,10 @@
 use mathlib.Core.Path.{_∙_}
 use borrow.Author.Needs.{needs}
-use Rattle.kinds.proofs.KindLaws.{not-indirection}
+use native.Mathlib.Omega.{arith}
 use Rattle.kinds.specs.Sheet.{kindAt, secondAt}
+use Rattle.kinds.proofs.KindLaws.{container-kind, not-indirection}
 use Rattle.expect.specs.Agree.{expectLeaf}
-use Rattle.expect.proofs.WalkLaws.{leaf-is, none-is, around-off, around-more, container-range, opened-at, lent-whole}
+use Rattle.expect.proofs.WalkLaws.{leaf-is, none-is, around-off, around-more, opened-at, lent-whole}
 use Rattle.expect.proofs.open_node.Statement.{statement}
 use Rattle.expect.proofs.open_node.Tie as tie
 
@@ -111,7 +112,7 @@ open-container-requires c κs =
     let c7 = c .before .before .before .before .before .before .before in
     let a = c7 .args in
     let k = c7 .pre .0 .1 in
-    (c7 .pre .0 .0, k, container-range (kindAt (a .nodes .now) (a .at)) (c .if3 .left) (k .kind) (c .before .if2 .left))
+    (c7 .pre .0 .0, k, container-kind (kindAt (a .nodes .now) (a .at)) (c .if3 .left) (omega (arith, k .kind)))
 
 returns-6 : tie.Need-returns-6
 returns-6 c =
@@ -119,7 +120,7 @@ returns-6 c =
     let c8 = c2 .before .before .before .before .before .before in
     let a = c8 .args in
     opened-at (a .names .now) (a .nodes .now) (a .at) (a .level) (a .text .now) (a .place) (c .open-container .result)
-    (container-range (kindAt (a .nodes .now) (a .at)) (c .before .if3 .left) (c8 .pre .0 .1 .kind) (c2 .if2 .left)) (c .open-container .ensures)
+    (container-kind (kindAt (a .nodes .now) (a .at)) (c .before .if3 .left) (omega (arith, c8 .pre .0 .1 .kind))) (c .open-container .ensures)
 
 pub open-node-spec : {M : Type 1} → statement M
 open-node-spec =
