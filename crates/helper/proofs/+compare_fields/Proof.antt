@@ -28,24 +28,24 @@ use Rattle.helper.proofs.CompareLaws.{Left, resume-level, fields-none, 
 abbrev μ-compare-fields : Measures 4 compare-fields-kinds.ps ℕ
 μ-compare-fields κs a = a .1 .1 .1 .0
 
-abbrev compare-fields-at : ℕ → In 4 compare-fields-kinds.ps
-compare-fields-at t =
+abbrev asked : ℕ → In 4 compare-fields-kinds.ps
+asked t =
     and
     4
     compare-fields-kinds.ps
     (is 4 compare-fields-kinds.ps μ-compare-fields t)
     compare-fields.Pre
 
-abbrev compare-fields-below : ℕ → In 4 compare-fields-kinds.ps
-compare-fields-below t =
+abbrev below : ℕ → In 4 compare-fields-kinds.ps
+below t =
     and
     4
     compare-fields-kinds.ps
     (falls 4 compare-fields-kinds.ps _<_ μ-compare-fields t)
     compare-fields.Pre
 
-abbrev compare-fields-claims : ℕ → compare-fields-lts.Claims
-compare-fields-claims t = (
+abbrev claims : ℕ → compare-fields-lts.Claims
+claims t = (
   either-none-reads.Asked,
   either-none-reads.Learnt,
   compare-labels-reads.Asked,
@@ -58,27 +58,29 @@ compare-fields-claims t = (
   shown-count-reads.Learnt,
   fields-last-reads.Asked,
   fields-last-reads.Learnt,
-  compare-fields-below t,
+  below t,
   compare-fields.Post,
   level-after-reads.Asked,
   level-after-reads.Learnt,
 )
 
-abbrev compare-fields-Inv-loop : compare-fields-lts.InvT-loop
-compare-fields-Inv-loop a an at₀ left₀ b bn bt₀ more₀ level₀ all here₀ at left bt more level here = (left ≤ left₀) × Left all level an a bn b at left bt more here (compareFields all level₀ (trees an a left₀ at₀) (trees bn b more₀ bt₀))
+abbrev Inv-loop : compare-fields-lts.InvT-loop
+Inv-loop a an at₀ left₀ b bn bt₀ more₀ level₀ all here₀ at left bt more level here = (left ≤ left₀) × Left all level an a bn b at left bt more here
+    (compareFields all level₀ (trees an a left₀ at₀) (trees bn b more₀ bt₀))
 
-abbrev compare-fields-μ-loop : compare-fields-lts.MeasureT-loop
-compare-fields-μ-loop a an at₀ left₀ b bn bt₀ more₀ level₀ all here₀ at left bt more level here = left
+abbrev μ-loop : compare-fields-lts.MeasureT-loop
+μ-loop a an at₀ left₀ b bn bt₀ more₀ level₀ all here₀ at left bt more level here = left
 
-compare-fields-either-none-requires : (t : ℕ) → compare-fields-lts.Need-either-none-requires (compare-fields-claims t) (compare-fields-at t) compare-fields.Post compare-fields-Inv-loop compare-fields-μ-loop
+compare-fields-either-none-requires : (t : ℕ) → compare-fields-lts.Need-either-none-requires (claims t) (asked t) compare-fields.Post Inv-loop μ-loop
 compare-fields-either-none-requires t c κs = search needs
 
-compare-fields-returns : (t : ℕ) → compare-fields-lts.Need-returns (compare-fields-claims t) (compare-fields-at t) compare-fields.Post compare-fields-Inv-loop compare-fields-μ-loop
+compare-fields-returns : (t : ℕ) → compare-fields-lts.Need-returns (claims t) (asked t) compare-fields.Post Inv-loop μ-loop
 compare-fields-returns t c =
     let a = c .before .before .before .before .before .before .args in
-    sym (fields-none (a .all) (a .level) (a .an .now) (a .a .now) (a .bn .now) (a .b .now) (a .left) (a .more) (a .at) (a .bt) (sym (c .before .either-none .ensures) ∙ c .if1 .taken))
+    sym (fields-none (a .all) (a .level) (a .an .now) (a .a .now) (a .bn .now) (a .b .now) (a .left) (a .more) (a .at) (a .bt)
+    (sym (c .before .either-none .ensures) ∙ c .if1 .taken))
 
-compare-fields-loop-holds : (t : ℕ) → compare-fields-lts.Need-loop-holds (compare-fields-claims t) (compare-fields-at t) compare-fields.Post compare-fields-Inv-loop compare-fields-μ-loop
+compare-fields-loop-holds : (t : ℕ) → compare-fields-lts.Need-loop-holds (claims t) (asked t) compare-fields.Post Inv-loop μ-loop
 compare-fields-loop-holds t c =
     let p1 = c .before in
     let p6 = p1 .before .before .before .before .before in
@@ -96,17 +98,17 @@ compare-fields-loop-holds t c =
       },
     )
 
-compare-fields-either-none-requires-2 : (t : ℕ) → compare-fields-lts.Need-either-none-requires-2 (compare-fields-claims t) (compare-fields-at t) compare-fields.Post compare-fields-Inv-loop compare-fields-μ-loop
+compare-fields-either-none-requires-2 : (t : ℕ) → compare-fields-lts.Need-either-none-requires-2 (claims t) (asked t) compare-fields.Post Inv-loop μ-loop
 compare-fields-either-none-requires-2 t c κs = search needs
 
-compare-fields-compare-labels-requires : (t : ℕ) → compare-fields-lts.Need-compare-labels-requires (compare-fields-claims t) (compare-fields-at t) compare-fields.Post compare-fields-Inv-loop compare-fields-μ-loop
+compare-fields-compare-labels-requires : (t : ℕ) → compare-fields-lts.Need-compare-labels-requires (claims t) (asked t) compare-fields.Post Inv-loop μ-loop
 compare-fields-compare-labels-requires t c κs =
     let s = both-some _ _ (sym (c .before .either-none2 .ensures) ∙ not-true _ (c .if2 .taken)) in
     let l = c .before .before .loop in
     let b = left-bounds (l .inv .1) (s .0) (s .1) in
     ((omega arith, omega arith), (walk-here _ _ _ _ (l .inv .1 .first-walk) (s .0), walk-here _ _ _ _ (l .inv .1 .second-walk) (s .1)))
 
-compare-fields-returns-2 : (t : ℕ) → compare-fields-lts.Need-returns-2 (compare-fields-claims t) (compare-fields-at t) compare-fields.Post compare-fields-Inv-loop compare-fields-μ-loop
+compare-fields-returns-2 : (t : ℕ) → compare-fields-lts.Need-returns-2 (claims t) (asked t) compare-fields.Post Inv-loop μ-loop
 compare-fields-returns-2 t c =
     let p1 = c .before in
     let p2 = p1 .before in
@@ -115,7 +117,7 @@ compare-fields-returns-2 t c =
     let s = both-some _ _ (sym (p3 .either-none2 .ensures) ∙ not-true _ (p2 .if2 .taken)) in
     left-differ (p4 .loop .inv .1) (s .0) (s .1) (sym (p1 .compare-labels .ensures) ∙ not-true _ (c .if3 .taken))
 
-compare-fields-mul-kind : (t : ℕ) → compare-fields-lts.Need-mul-kind (compare-fields-claims t) (compare-fields-at t) compare-fields.Post compare-fields-Inv-loop compare-fields-μ-loop
+compare-fields-mul-kind : (t : ℕ) → compare-fields-lts.Need-mul-kind (claims t) (asked t) compare-fields.Post Inv-loop μ-loop
 compare-fields-mul-kind t c =
     let p2 = c .before .before in
     let p3 = p2 .before in
@@ -128,7 +130,7 @@ compare-fields-mul-kind t c =
     let g = good .1 .1 .1 .1 .0 .0 in
     omega arith
 
-compare-fields-shared-slice-read-kind : (t : ℕ) → compare-fields-lts.Need-shared-slice-read-kind (compare-fields-claims t) (compare-fields-at t) compare-fields.Post compare-fields-Inv-loop compare-fields-μ-loop
+compare-fields-shared-slice-read-kind : (t : ℕ) → compare-fields-lts.Need-shared-slice-read-kind (claims t) (asked t) compare-fields.Post Inv-loop μ-loop
 compare-fields-shared-slice-read-kind t c =
     let p3 = c .before .before .before in
     let p4 = p3 .before in
@@ -141,10 +143,10 @@ compare-fields-shared-slice-read-kind t c =
     let g = good .1 .1 .1 .1 .0 .0 in
     omega arith
 
-compare-fields-is-container-requires : (t : ℕ) → compare-fields-lts.Need-is-container-requires (compare-fields-claims t) (compare-fields-at t) compare-fields.Post compare-fields-Inv-loop compare-fields-μ-loop
+compare-fields-is-container-requires : (t : ℕ) → compare-fields-lts.Need-is-container-requires (claims t) (asked t) compare-fields.Post Inv-loop μ-loop
 compare-fields-is-container-requires t c κs = search needs
 
-compare-fields-add-c : (t : ℕ) → compare-fields-lts.Need-add-c (compare-fields-claims t) (compare-fields-at t) compare-fields.Post compare-fields-Inv-loop compare-fields-μ-loop
+compare-fields-add-c : (t : ℕ) → compare-fields-lts.Need-add-c (claims t) (asked t) compare-fields.Post Inv-loop μ-loop
 compare-fields-add-c t c =
     let p5 = c .before .before .before .before .before in
     let p6 = p5 .before in
@@ -157,7 +159,7 @@ compare-fields-add-c t c =
     let g = good .1 .1 .1 .1 .0 .0 in
     omega arith
 
-compare-fields-mul-c : (t : ℕ) → compare-fields-lts.Need-mul-c (compare-fields-claims t) (compare-fields-at t) compare-fields.Post compare-fields-Inv-loop compare-fields-μ-loop
+compare-fields-mul-c : (t : ℕ) → compare-fields-lts.Need-mul-c (claims t) (asked t) compare-fields.Post Inv-loop μ-loop
 compare-fields-mul-c t c =
     let p5 = c .before .before .before .before .before in
     let p6 = p5 .before in
@@ -170,7 +172,7 @@ compare-fields-mul-c t c =
     let g = good .1 .1 .1 .1 .0 .0 in
     omega arith
 
-compare-fields-shared-slice-read-c : (t : ℕ) → compare-fields-lts.Need-shared-slice-read-c (compare-fields-claims t) (compare-fields-at t) compare-fields.Post compare-fields-Inv-loop compare-fields-μ-loop
+compare-fields-shared-slice-read-c : (t : ℕ) → compare-fields-lts.Need-shared-slice-read-c (claims t) (asked t) compare-fields.Post Inv-loop μ-loop
 compare-fields-shared-slice-read-c t c =
     let p6 = c .before .before .before .before .before .before in
     let p7 = p6 .before in
@@ -183,7 +185,7 @@ compare-fields-shared-slice-read-c t c =
     let g = good .1 .1 .1 .1 .0 .0 in
     omega arith
 
-compare-fields-add-d : (t : ℕ) → compare-fields-lts.Need-add-d (compare-fields-claims t) (compare-fields-at t) compare-fields.Post compare-fields-Inv-loop compare-fields-μ-loop
+compare-fields-add-d : (t : ℕ) → compare-fields-lts.Need-add-d (claims t) (asked t) compare-fields.Post Inv-loop μ-loop
 compare-fields-add-d t c =
     let p6 = c .before .before .before .before .before .before in
     let p7 = p6 .before in
@@ -196,7 +198,7 @@ compare-fields-add-d t c =
     let g = good .1 .1 .1 .1 .0 .0 in
     omega arith
 
-compare-fields-mul-d : (t : ℕ) → compare-fields-lts.Need-mul-d (compare-fields-claims t) (compare-fields-at t) compare-fields.Post compare-fields-Inv-loop compare-fields-μ-loop
+compare-fields-mul-d : (t : ℕ) → compare-fields-lts.Need-mul-d (claims t) (asked t) compare-fields.Post Inv-loop μ-loop
 compare-fields-mul-d t c =
     let p6 = c .before .before .before .before .before .before in
     let p7 = p6 .before in
@@ -209,7 +211,7 @@ compare-fields-mul-d t c =
     let g = good .1 .1 .1 .1 .0 .0 in
     omega arith
 
-compare-fields-shared-slice-read-d : (t : ℕ) → compare-fields-lts.Need-shared-slice-read-d (compare-fields-claims t) (compare-fields-at t) compare-fields.Post compare-fields-Inv-loop compare-fields-μ-loop
+compare-fields-shared-slice-read-d : (t : ℕ) → compare-fields-lts.Need-shared-slice-read-d (claims t) (asked t) compare-fields.Post Inv-loop μ-loop
 compare-fields-shared-slice-read-d t c =
     let p7 = c .before .before .before .before .before .before .before in
     let p8 = p7 .before in
@@ -222,10 +224,10 @@ compare-fields-shared-slice-read-d t c =
     let g = good .1 .1 .1 .1 .0 .0 in
     omega arith
 
-compare-fields-level-for-requires : (t : ℕ) → compare-fields-lts.Need-level-for-requires (compare-fields-claims t) (compare-fields-at t) compare-fields.Post compare-fields-Inv-loop compare-fields-μ-loop
+compare-fields-level-for-requires : (t : ℕ) → compare-fields-lts.Need-level-for-requires (claims t) (asked t) compare-fields.Post Inv-loop μ-loop
 compare-fields-level-for-requires t c κs = search needs
 
-compare-fields-sub-shown-count : (t : ℕ) → compare-fields-lts.Need-sub-shown-count (compare-fields-claims t) (compare-fields-at t) compare-fields.Post compare-fields-Inv-loop compare-fields-μ-loop
+compare-fields-sub-shown-count : (t : ℕ) → compare-fields-lts.Need-sub-shown-count (claims t) (asked t) compare-fields.Post Inv-loop μ-loop
 compare-fields-sub-shown-count t c =
     let p8 = c .before .before .before .before .before .before .before .before in
     let p9 = p8 .before in
@@ -238,10 +240,10 @@ compare-fields-sub-shown-count t c =
     let g = good .1 .1 .1 .1 .0 .0 in
     omega arith
 
-compare-fields-shown-count-requires : (t : ℕ) → compare-fields-lts.Need-shown-count-requires (compare-fields-claims t) (compare-fields-at t) compare-fields.Post compare-fields-Inv-loop compare-fields-μ-loop
+compare-fields-shown-count-requires : (t : ℕ) → compare-fields-lts.Need-shown-count-requires (claims t) (asked t) compare-fields.Post Inv-loop μ-loop
 compare-fields-shown-count-requires t c κs = search needs
 
-compare-fields-sub-m : (t : ℕ) → compare-fields-lts.Need-sub-m (compare-fields-claims t) (compare-fields-at t) compare-fields.Post compare-fields-Inv-loop compare-fields-μ-loop
+compare-fields-sub-m : (t : ℕ) → compare-fields-lts.Need-sub-m (claims t) (asked t) compare-fields.Post Inv-loop μ-loop
 compare-fields-sub-m t c =
     let p9 = c .before .before .before .before .before .before .before .before .before in
     let p10 = p9 .before in
@@ -255,7 +257,7 @@ compare-fields-sub-m t c =
     let g = good .1 .1 .1 .1 .0 .0 in
     omega arith
 
-compare-fields-add-i : (t : ℕ) → compare-fields-lts.Need-add-i (compare-fields-claims t) (compare-fields-at t) compare-fields.Post compare-fields-Inv-loop compare-fields-μ-loop
+compare-fields-add-i : (t : ℕ) → compare-fields-lts.Need-add-i (claims t) (asked t) compare-fields.Post Inv-loop μ-loop
 compare-fields-add-i t c =
     let p9 = c .before .before .before .before .before .before .before .before .before in
     let p10 = p9 .before in
@@ -269,7 +271,7 @@ compare-fields-add-i t c =
     let g = good .1 .1 .1 .1 .0 .0 in
     omega arith
 
-compare-fields-add-j : (t : ℕ) → compare-fields-lts.Need-add-j (compare-fields-claims t) (compare-fields-at t) compare-fields.Post compare-fields-Inv-loop compare-fields-μ-loop
+compare-fields-add-j : (t : ℕ) → compare-fields-lts.Need-add-j (claims t) (asked t) compare-fields.Post Inv-loop μ-loop
 compare-fields-add-j t c =
     let p9 = c .before .before .before .before .before .before .before .before .before in
     let p10 = p9 .before in
@@ -283,7 +285,7 @@ compare-fields-add-j t c =
     let g = good .1 .1 .1 .1 .0 .0 in
     omega arith
 
-compare-fields-sub-fields-last : (t : ℕ) → compare-fields-lts.Need-sub-fields-last (compare-fields-claims t) (compare-fields-at t) compare-fields.Post compare-fields-Inv-loop compare-fields-μ-loop
+compare-fields-sub-fields-last : (t : ℕ) → compare-fields-lts.Need-sub-fields-last (claims t) (asked t) compare-fields.Post Inv-loop μ-loop
 compare-fields-sub-fields-last t c =
     let p9 = c .before .before .before .before .before .before .before .before .before in
     let p10 = p9 .before in
@@ -297,7 +299,7 @@ compare-fields-sub-fields-last t c =
     let g = good .1 .1 .1 .1 .0 .0 in
     omega arith
 
-compare-fields-sub-fields-last-2 : (t : ℕ) → compare-fields-lts.Need-sub-fields-last-2 (compare-fields-claims t) (compare-fields-at t) compare-fields.Post compare-fields-Inv-loop compare-fields-μ-loop
+compare-fields-sub-fields-last-2 : (t : ℕ) → compare-fields-lts.Need-sub-fields-last-2 (claims t) (asked t) compare-fields.Post Inv-loop μ-loop
 compare-fields-sub-fields-last-2 t c =
     let p9 = c .before .before .before .before .before .before .before .before .before in
     let p10 = p9 .before in
@@ -311,10 +313,10 @@ compare-fields-sub-fields-last-2 t c =
     let g = good .1 .1 .1 .1 .0 .0 in
     omega arith
 
-compare-fields-fields-last-requires : (t : ℕ) → compare-fields-lts.Need-fields-last-requires (compare-fields-claims t) (compare-fields-at t) compare-fields.Post compare-fields-Inv-loop compare-fields-μ-loop
+compare-fields-fields-last-requires : (t : ℕ) → compare-fields-lts.Need-fields-last-requires (claims t) (asked t) compare-fields.Post Inv-loop μ-loop
 compare-fields-fields-last-requires t c κs = search needs
 
-compare-fields-loop-less : (t : ℕ) → compare-fields-lts.Need-loop-less (compare-fields-claims t) (compare-fields-at t) compare-fields.Post compare-fields-Inv-loop compare-fields-μ-loop
+compare-fields-loop-less : (t : ℕ) → compare-fields-lts.Need-loop-less (claims t) (asked t) compare-fields.Post Inv-loop μ-loop
 compare-fields-loop-less t c =
     let p2 = c .before .before in
     let p3 = p2 .before in
@@ -333,7 +335,7 @@ compare-fields-loop-less t c =
     ∙ not-false _ (p9 .if3 .left)) (sym (p7 .is-container .ensures)
     ∙ p6 .if4 .taken) (p3 .level-for .ensures) (p2 .shown-count .ensures) in let j = i .0 in omega arith
 
-compare-fields-loop-again : (t : ℕ) → compare-fields-lts.Need-loop-again (compare-fields-claims t) (compare-fields-at t) compare-fields.Post compare-fields-Inv-loop compare-fields-μ-loop
+compare-fields-loop-again : (t : ℕ) → compare-fields-lts.Need-loop-again (claims t) (asked t) compare-fields.Post Inv-loop μ-loop
 compare-fields-loop-again t c =
     let p1 = c .before in
     let p2 = p1 .before in
@@ -364,57 +366,63 @@ compare-fields-loop-again t c =
           ∙ p6 .if4 .taken) (p3 .level-for .ensures) (p2 .shown-count .ensures) (omega arith) (omega arith) (f .2) (f .3),
     )
 
-compare-fields-sub-compare-fields : (t : ℕ) → compare-fields-lts.Need-sub-compare-fields (compare-fields-claims t) (compare-fields-at t) compare-fields.Post compare-fields-Inv-loop compare-fields-μ-loop
+compare-fields-sub-compare-fields : (t : ℕ) → compare-fields-lts.Need-sub-compare-fields (claims t) (asked t) compare-fields.Post Inv-loop μ-loop
 compare-fields-sub-compare-fields t c = search needs
 
-compare-fields-part-compare-fields-start : (t : ℕ) → compare-fields-lts.Need-part-compare-fields-start (compare-fields-claims t) (compare-fields-at t) compare-fields.Post compare-fields-Inv-loop compare-fields-μ-loop
+compare-fields-part-compare-fields-start : (t : ℕ) → compare-fields-lts.Need-part-compare-fields-start (claims t) (asked t) compare-fields.Post Inv-loop μ-loop
 compare-fields-part-compare-fields-start t c = search needs
 
-compare-fields-part-compare-fields-end : (t : ℕ) → compare-fields-lts.Need-part-compare-fields-end (compare-fields-claims t) (compare-fields-at t) compare-fields.Post compare-fields-Inv-loop compare-fields-μ-loop
+compare-fields-part-compare-fields-end : (t : ℕ) → compare-fields-lts.Need-part-compare-fields-end (claims t) (asked t) compare-fields.Post Inv-loop μ-loop
 compare-fields-part-compare-fields-end t c = search needs
 
-compare-fields-sub-compare-fields-2 : (t : ℕ) → compare-fields-lts.Need-sub-compare-fields-2 (compare-fields-claims t) (compare-fields-at t) compare-fields.Post compare-fields-Inv-loop compare-fields-μ-loop
+compare-fields-sub-compare-fields-2 : (t : ℕ) → compare-fields-lts.Need-sub-compare-fields-2 (claims t) (asked t) compare-fields.Post Inv-loop μ-loop
 compare-fields-sub-compare-fields-2 t c = search needs
 
-compare-fields-part-compare-fields-start-2 : (t : ℕ) → compare-fields-lts.Need-part-compare-fields-start-2 (compare-fields-claims t) (compare-fields-at t) compare-fields.Post compare-fields-Inv-loop compare-fields-μ-loop
+compare-fields-part-compare-fields-start-2 : (t : ℕ) → compare-fields-lts.Need-part-compare-fields-start-2 (claims t) (asked t) compare-fields.Post Inv-loop
+    μ-loop
 compare-fields-part-compare-fields-start-2 t c = search needs
 
-compare-fields-part-compare-fields-end-2 : (t : ℕ) → compare-fields-lts.Need-part-compare-fields-end-2 (compare-fields-claims t) (compare-fields-at t) compare-fields.Post compare-fields-Inv-loop compare-fields-μ-loop
+compare-fields-part-compare-fields-end-2 : (t : ℕ) → compare-fields-lts.Need-part-compare-fields-end-2 (claims t) (asked t) compare-fields.Post Inv-loop μ-loop
 compare-fields-part-compare-fields-end-2 t c = search needs
 
-compare-fields-sub-compare-fields-3 : (t : ℕ) → compare-fields-lts.Need-sub-compare-fields-3 (compare-fields-claims t) (compare-fields-at t) compare-fields.Post compare-fields-Inv-loop compare-fields-μ-loop
+compare-fields-sub-compare-fields-3 : (t : ℕ) → compare-fields-lts.Need-sub-compare-fields-3 (claims t) (asked t) compare-fields.Post Inv-loop μ-loop
 compare-fields-sub-compare-fields-3 t c = search needs
 
-compare-fields-part-compare-fields-start-3 : (t : ℕ) → compare-fields-lts.Need-part-compare-fields-start-3 (compare-fields-claims t) (compare-fields-at t) compare-fields.Post compare-fields-Inv-loop compare-fields-μ-loop
+compare-fields-part-compare-fields-start-3 : (t : ℕ) → compare-fields-lts.Need-part-compare-fields-start-3 (claims t) (asked t) compare-fields.Post Inv-loop
+    μ-loop
 compare-fields-part-compare-fields-start-3 t c = search needs
 
-compare-fields-part-compare-fields-end-3 : (t : ℕ) → compare-fields-lts.Need-part-compare-fields-end-3 (compare-fields-claims t) (compare-fields-at t) compare-fields.Post compare-fields-Inv-loop compare-fields-μ-loop
+compare-fields-part-compare-fields-end-3 : (t : ℕ) → compare-fields-lts.Need-part-compare-fields-end-3 (claims t) (asked t) compare-fields.Post Inv-loop μ-loop
 compare-fields-part-compare-fields-end-3 t c = search needs
 
-compare-fields-sub-compare-fields-4 : (t : ℕ) → compare-fields-lts.Need-sub-compare-fields-4 (compare-fields-claims t) (compare-fields-at t) compare-fields.Post compare-fields-Inv-loop compare-fields-μ-loop
+compare-fields-sub-compare-fields-4 : (t : ℕ) → compare-fields-lts.Need-sub-compare-fields-4 (claims t) (asked t) compare-fields.Post Inv-loop μ-loop
 compare-fields-sub-compare-fields-4 t c = search needs
 
-compare-fields-part-compare-fields-start-4 : (t : ℕ) → compare-fields-lts.Need-part-compare-fields-start-4 (compare-fields-claims t) (compare-fields-at t) compare-fields.Post compare-fields-Inv-loop compare-fields-μ-loop
+compare-fields-part-compare-fields-start-4 : (t : ℕ) → compare-fields-lts.Need-part-compare-fields-start-4 (claims t) (asked t) compare-fields.Post Inv-loop
+    μ-loop
 compare-fields-part-compare-fields-start-4 t c = search needs
 
-compare-fields-part-compare-fields-end-4 : (t : ℕ) → compare-fields-lts.Need-part-compare-fields-end-4 (compare-fields-claims t) (compare-fields-at t) compare-fields.Post compare-fields-Inv-loop compare-fields-μ-loop
+compare-fields-part-compare-fields-end-4 : (t : ℕ) → compare-fields-lts.Need-part-compare-fields-end-4 (claims t) (asked t) compare-fields.Post Inv-loop μ-loop
 compare-fields-part-compare-fields-end-4 t c = search needs
 
-compare-fields-compare-fields-requires : (t : ℕ) → compare-fields-lts.Need-compare-fields-requires (compare-fields-claims t) (compare-fields-at t) compare-fields.Post compare-fields-Inv-loop compare-fields-μ-loop
+compare-fields-compare-fields-requires : (t : ℕ) → compare-fields-lts.Need-compare-fields-requires (claims t) (asked t) compare-fields.Post Inv-loop μ-loop
 compare-fields-compare-fields-requires t c κs =
-    let s = both-some _ _ (sym (c .before .before .before .before .before .before .before .before .before .before .before .before .before .before .before .before .either-none2 .ensures)
+    let s = both-some _ _
+    (sym (c .before .before .before .before .before .before .before .before .before .before .before .before .before .before .before .before .either-none2 .ensures)
     ∙ not-true _ (c .before .before .before .before .before .before .before .before .before .before .before .before .before .before .before .if2 .taken)) in
-    let i = left-inner (c .before .before .before .before .before .before .before .before .before .before .before .before .before .before .before .before .before .loop .inv .1)
+    let i = left-inner
+    (c .before .before .before .before .before .before .before .before .before .before .before .before .before .before .before .before .before .loop .inv .1)
     (s .0) (s .1)
     (sym (c .before .before .before .before .before .before .before .before .before .before .before .before .before .before .compare-labels .ensures)
     ∙ not-false _ (c .before .before .before .before .before .before .before .before .before .before .before .before .before .if3 .left))
     (sym (c .before .before .before .before .before .before .before .before .before .before .before .is-container .ensures)
-    ∙ c .before .before .before .before .before .before .before .before .before .before .if4 .taken) (c .before .before .before .before .before .before .before .level-for .ensures)
+    ∙ c .before .before .before .before .before .before .before .before .before .before .if4 .taken)
+    (c .before .before .before .before .before .before .before .level-for .ensures)
     (c .before .before .before .before .before .before .shown-count .ensures) in
     let j = i .0 in
     rw (whole, whole, whole, whole) (omega arith, (i .1, i .2))
 
-compare-fields-returns-3 : (t : ℕ) → compare-fields-lts.Need-returns-3 (compare-fields-claims t) (compare-fields-at t) compare-fields.Post compare-fields-Inv-loop compare-fields-μ-loop
+compare-fields-returns-3 : (t : ℕ) → compare-fields-lts.Need-returns-3 (claims t) (asked t) compare-fields.Post Inv-loop μ-loop
 compare-fields-returns-3 t c =
     let p1 = c .before in
     let p8 = p1 .before .before .before .before .before .before .before in
@@ -439,7 +447,7 @@ compare-fields-returns-3 t c =
     (p9 .level-for .ensures) (p8 .shown-count .ensures)
     (sym (rw (whole, whole, whole, whole) at (p1 .compare-fields .ensures)) ∙ not-true _ (c .if6 .taken))
 
-compare-fields-mul-at : (t : ℕ) → compare-fields-lts.Need-mul-at (compare-fields-claims t) (compare-fields-at t) compare-fields.Post compare-fields-Inv-loop compare-fields-μ-loop
+compare-fields-mul-at : (t : ℕ) → compare-fields-lts.Need-mul-at (claims t) (asked t) compare-fields.Post Inv-loop μ-loop
 compare-fields-mul-at t c =
     let p1 = c .before in
     let p6 = p1 .before .before .before .before .before in
@@ -453,7 +461,7 @@ compare-fields-mul-at t c =
     let g = good .1 .1 .1 .1 .0 .0 in
     ⊎-elim (λ i. omega arith) (λ i. omega arith) (p1 .if4 .came)
 
-compare-fields-add-at : (t : ℕ) → compare-fields-lts.Need-add-at (compare-fields-claims t) (compare-fields-at t) compare-fields.Post compare-fields-Inv-loop compare-fields-μ-loop
+compare-fields-add-at : (t : ℕ) → compare-fields-lts.Need-add-at (claims t) (asked t) compare-fields.Post Inv-loop μ-loop
 compare-fields-add-at t c =
     let p1 = c .before in
     let p6 = p1 .before .before .before .before .before in
@@ -467,7 +475,7 @@ compare-fields-add-at t c =
     let g = good .1 .1 .1 .1 .0 .0 in
     ⊎-elim (λ i. omega arith) (λ i. omega arith) (p1 .if4 .came)
 
-compare-fields-sub-left : (t : ℕ) → compare-fields-lts.Need-sub-left (compare-fields-claims t) (compare-fields-at t) compare-fields.Post compare-fields-Inv-loop compare-fields-μ-loop
+compare-fields-sub-left : (t : ℕ) → compare-fields-lts.Need-sub-left (claims t) (asked t) compare-fields.Post Inv-loop μ-loop
 compare-fields-sub-left t c =
     let p1 = c .before in
     let p6 = p1 .before .before .before .before .before in
@@ -481,7 +489,7 @@ compare-fields-sub-left t c =
     let g = good .1 .1 .1 .1 .0 .0 in
     ⊎-elim (λ i. omega arith) (λ i. omega arith) (p1 .if4 .came)
 
-compare-fields-mul-bt : (t : ℕ) → compare-fields-lts.Need-mul-bt (compare-fields-claims t) (compare-fields-at t) compare-fields.Post compare-fields-Inv-loop compare-fields-μ-loop
+compare-fields-mul-bt : (t : ℕ) → compare-fields-lts.Need-mul-bt (claims t) (asked t) compare-fields.Post Inv-loop μ-loop
 compare-fields-mul-bt t c =
     let p2 = c .before .before in
     let p7 = p2 .before .before .before .before .before in
@@ -495,7 +503,7 @@ compare-fields-mul-bt t c =
     let g = good .1 .1 .1 .1 .0 .0 in
     ⊎-elim (λ i. omega arith) (λ i. omega arith) (p2 .if4 .came)
 
-compare-fields-add-bt : (t : ℕ) → compare-fields-lts.Need-add-bt (compare-fields-claims t) (compare-fields-at t) compare-fields.Post compare-fields-Inv-loop compare-fields-μ-loop
+compare-fields-add-bt : (t : ℕ) → compare-fields-lts.Need-add-bt (claims t) (asked t) compare-fields.Post Inv-loop μ-loop
 compare-fields-add-bt t c =
     let p2 = c .before .before in
     let p7 = p2 .before .before .before .before .before in
@@ -509,7 +517,7 @@ compare-fields-add-bt t c =
     let g = good .1 .1 .1 .1 .0 .0 in
     ⊎-elim (λ i. omega arith) (λ i. omega arith) (p2 .if4 .came)
 
-compare-fields-sub-more : (t : ℕ) → compare-fields-lts.Need-sub-more (compare-fields-claims t) (compare-fields-at t) compare-fields.Post compare-fields-Inv-loop compare-fields-μ-loop
+compare-fields-sub-more : (t : ℕ) → compare-fields-lts.Need-sub-more (claims t) (asked t) compare-fields.Post Inv-loop μ-loop
 compare-fields-sub-more t c =
     let p2 = c .before .before in
     let p7 = p2 .before .before .before .before .before in
@@ -523,10 +531,10 @@ compare-fields-sub-more t c =
     let g = good .1 .1 .1 .1 .0 .0 in
     ⊎-elim (λ i. omega arith) (λ i. omega arith) (p2 .if4 .came)
 
-compare-fields-level-after-requires : (t : ℕ) → compare-fields-lts.Need-level-after-requires (compare-fields-claims t) (compare-fields-at t) compare-fields.Post compare-fields-Inv-loop compare-fields-μ-loop
+compare-fields-level-after-requires : (t : ℕ) → compare-fields-lts.Need-level-after-requires (claims t) (asked t) compare-fields.Post Inv-loop μ-loop
 compare-fields-level-after-requires t c κs = search needs
 
-compare-fields-loop-less-2 : (t : ℕ) → compare-fields-lts.Need-loop-less-2 (compare-fields-claims t) (compare-fields-at t) compare-fields.Post compare-fields-Inv-loop compare-fields-μ-loop
+compare-fields-loop-less-2 : (t : ℕ) → compare-fields-lts.Need-loop-less-2 (claims t) (asked t) compare-fields.Post Inv-loop μ-loop
 compare-fields-loop-less-2 t c =
     let p3 = c .before .before .before in
     let p8 = p3 .before .before .before .before .before in
@@ -540,7 +548,7 @@ compare-fields-loop-less-2 t c =
     let g = good .1 .1 .1 .1 .0 .0 in
     ⊎-elim (λ i. omega arith) (λ i. omega arith) (p3 .if4 .came)
 
-compare-fields-loop-again-2 : (t : ℕ) → compare-fields-lts.Need-loop-again-2 (compare-fields-claims t) (compare-fields-at t) compare-fields.Post compare-fields-Inv-loop compare-fields-μ-loop
+compare-fields-loop-again-2 : (t : ℕ) → compare-fields-lts.Need-loop-again-2 (claims t) (asked t) compare-fields.Post Inv-loop μ-loop
 compare-fields-loop-again-2 t c =
     let p3 = c .before .before .before in
     let p4 = p3 .before in
@@ -567,16 +575,16 @@ compare-fields-loop-again-2 t c =
           (sym (p4 .is-container .ensures) ∙ i .0 .left) (i .1) (i .2) (c .level-after .ensures),
     )) (p3 .if4 .came)
 
-compare-fields-returns-4 : (t : ℕ) → compare-fields-lts.Need-returns-4 (compare-fields-claims t) (compare-fields-at t) compare-fields.Post compare-fields-Inv-loop compare-fields-μ-loop
+compare-fields-returns-4 : (t : ℕ) → compare-fields-lts.Need-returns-4 (claims t) (asked t) compare-fields.Post Inv-loop μ-loop
 compare-fields-returns-4 t c =
     left-stop (c .before .before .loop .inv .1) (sym (c .before .either-none2 .ensures) ∙ not-false _ (c .if2 .left))
 
 pub +compare-fields-spec : {M : Type 1} → statement M
-+compare-fields-spec = close μ-compare-fields λ t. compare-fields-lts.spec (compare-fields-claims t)
-    (compare-fields-at t)
++compare-fields-spec = close μ-compare-fields λ t. compare-fields-lts.spec (claims t)
+    (asked t)
     compare-fields.Post
-    compare-fields-Inv-loop
-    compare-fields-μ-loop
+    Inv-loop
+    μ-loop
     (compare-fields-either-none-requires t)
     (compare-fields-returns t)
     (compare-fields-loop-holds t)

@@ -26,12 +26,14 @@ returns : tie.Need-returns
 returns c =
     let a = c .before .before .before .before .before .before .before .before .args in
     let pre = c .before .before .before .before .before .before .before .before .pre in
-    sym (labels-differ (a .an .now) (a .a .now) (a .at) (a .bn .now) (a .b .now) (a .bt) (pre .1 .0 .kind) (pre .1 .1 .kind) (sym (c .before .equivalent-kinds .ensures) ∙ not-true _ (c .if1 .taken)))
+    sym (labels-differ (a .an .now) (a .a .now) (a .at) (a .bn .now) (a .b .now) (a .bt) (pre .1 .0 .kind) (pre .1 .1 .kind)
+    (sym (c .before .equivalent-kinds .ensures) ∙ not-true _ (c .if1 .taken)))
 
 returns-2 : tie.Need-returns-2
 returns-2 c =
     let a = c .before .before .before .before .before .before .before .before .before .args in
-    sym (labels-primitive (a .an .now) (a .a .now) (a .at) (a .bn .now) (a .b .now) (a .bt) (sym (c .before .before .equivalent-kinds .ensures) ∙ not-false _ (c .before .if1 .left)) (c .if2 .taken))
+    sym (labels-primitive (a .an .now) (a .a .now) (a .at) (a .bn .now) (a .b .now) (a .bt)
+    (sym (c .before .before .equivalent-kinds .ensures) ∙ not-false _ (c .before .if1 .left)) (c .if2 .taken))
 
 is-container-requires : tie.Need-is-container-requires
 is-container-requires c κs = search needs
@@ -49,7 +51,8 @@ returns-3 c =
     let a = c .before .before .before .before .before .before .before .before .before .before .before .before .args in
     let kinds = c .before .before .before .before .before .equivalent-kinds in
     let if1 = c .before .before .before .before .if1 in
-    c .same-name .ensures ∙ sym (labels-named (a .an .now) (a .a .now) (a .at) (a .bn .now) (a .b .now) (a .bt) (sym (kinds .ensures) ∙ not-false _ (if1 .left)) (sym (c .before .before .is-container .ensures) ∙ c .before .if3 .taken))
+    c .same-name .ensures ∙ sym (labels-named (a .an .now) (a .a .now) (a .at) (a .bn .now) (a .b .now) (a .bt)
+    (sym (kinds .ensures) ∙ not-false _ (if1 .left)) (sym (c .before .before .is-container .ensures) ∙ c .before .if3 .taken))
 
 add-same-numbers : tie.Need-add-same-numbers
 add-same-numbers c = search needs
@@ -100,7 +103,8 @@ returns-4 c =
     let kinds = c .before .before .before .before .before .before .before .before .before .equivalent-kinds in
     let if1 = c .before .before .before .before .before .before .before .before .if1 in
     let a = a₁ in
-    c .same-numbers .ensures (a .an .now) (a .bn .now) ∙ sym (labels-numbers (a .an .now) (a .a .now) (a .at) (a .bn .now) (a .b .now) (a .bt) (sym (kinds .ensures) ∙ not-false _ (if1 .left)) (omega arith))
+    c .same-numbers .ensures (a .an .now) (a .bn .now) ∙ sym
+    (labels-numbers (a .an .now) (a .a .now) (a .at) (a .bn .now) (a .b .now) (a .bt) (sym (kinds .ensures) ∙ not-false _ (if1 .left)) (omega arith))
 
 pub compare-labels-spec : {M : Type 1} → statement M
 compare-labels-spec =

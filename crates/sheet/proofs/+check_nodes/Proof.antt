@@ -24,12 +24,12 @@ use Rattle.sheet.proofs.+check_nodes.Tie.{close}
 abbrev μ-check-nodes : Measures 2 check-nodes-kinds.ps ℕ
 μ-check-nodes κs a = a .1 .1 .1 .0
 
-abbrev check-nodes-at : ℕ → In 2 check-nodes-kinds.ps
-check-nodes-at t =
+abbrev asked : ℕ → In 2 check-nodes-kinds.ps
+asked t =
     and 2 check-nodes-kinds.ps (is 2 check-nodes-kinds.ps μ-check-nodes t) check-nodes.Pre
 
-abbrev check-nodes-below : ℕ → In 2 check-nodes-kinds.ps
-check-nodes-below t =
+abbrev below : ℕ → In 2 check-nodes-kinds.ps
+below t =
     and 2 check-nodes-kinds.ps (falls 2 check-nodes-kinds.ps _<_ μ-check-nodes t) check-nodes.Pre
 
 abbrev claims : ℕ → check-nodes-lts.Claims
@@ -42,22 +42,23 @@ claims t = (
   container-ok-reads.Learnt,
   name-good-reads.Asked,
   name-good-reads.Learnt,
-  check-nodes-below t,
+  below t,
   check-nodes.Post,
 )
 
-abbrev check-nodes-Inv-loop : check-nodes-lts.InvT-loop
-check-nodes-Inv-loop nodes names at₀ left₀ name₀ end good₀ at left name good =
-    (at + 4 * left ≡ at₀ + 4 * left₀) × (left ≤ left₀) × (name ≤ end) × (walked names nodes left₀ at₀ name₀ end good₀ ≡ walked names nodes left at name end good)
+abbrev Inv-loop : check-nodes-lts.InvT-loop
+Inv-loop nodes names at₀ left₀ name₀ end good₀ at left name good =
+    (at + 4 * left ≡ at₀ + 4 * left₀) × (left ≤ left₀) × (name ≤ end) ×
+    (walked names nodes left₀ at₀ name₀ end good₀ ≡ walked names nodes left at name end good)
 
-abbrev check-nodes-μ-loop : check-nodes-lts.MeasureT-loop
-check-nodes-μ-loop nodes names at₀ left₀ name₀ end good₀ at left name good = left
+abbrev μ-loop : check-nodes-lts.MeasureT-loop
+μ-loop nodes names at₀ left₀ name₀ end good₀ at left name good = left
 
 -- The place after the test of a container, and what is known there.
 abbrev Tested : ℕ → Type 0
-Tested t = check-nodes-lts.Else3 (claims t) (check-nodes-at t) check-nodes.Post check-nodes-Inv-loop check-nodes-μ-loop
+Tested t = check-nodes-lts.Else3 (claims t) (asked t) check-nodes.Post Inv-loop μ-loop
 
-abbrev looped : (t : ℕ) → Tested t → check-nodes-lts.At-loop (claims t) (check-nodes-at t) check-nodes.Post check-nodes-Inv-loop check-nodes-μ-loop
+abbrev looped : (t : ℕ) → Tested t → check-nodes-lts.At-loop (claims t) (asked t) check-nodes.Post Inv-loop μ-loop
 looped t b = b .before .before .before .before .before .before
 
 abbrev nodes : (t : ℕ) → Tested t → List ℕ
@@ -66,41 +67,44 @@ nodes t b = looped t b .before .before .before .args .nodes .now
 kind : (t : ℕ) (b : Tested t) → isContainerKind (kindAt (nodes t b) (looped t b .loop .at)) ≡ true
 kind t b = passed (b .before .before .before .is-container .ensures) (b .before .before .if1 .left)
 
-fits : (t : ℕ) (b : Tested t) → nodeFits (nodes t b) (looped t b .loop .left) (looped t b .loop .at) (looped t b .loop .name) (looped t b .before .before .before .args .end) ≡ true
+fits : (t : ℕ) (b : Tested t) → nodeFits (nodes t b) (looped t b .loop .left) (looped t b .loop .at) (looped t b .loop .name)
+    (looped t b .before .before .before .args .end) ≡ true
 fits t b = passed (b .before .container-ok .ensures) (b .if3 .left)
 
-container : (t : ℕ) (b : Tested t) → Container (nodes t b) (looped t b .loop .left) (looped t b .loop .at) (looped t b .loop .name) (looped t b .before .before .before .args .end)
+container : (t : ℕ) (b : Tested t) → Container (nodes t b) (looped t b .loop .left) (looped t b .loop .at) (looped t b .loop .name)
+    (looped t b .before .before .before .args .end)
 container t b = container-says _ _ _ _ _ (kind t b) (fits t b)
 
-check-nodes-loop-holds : (t : ℕ) → check-nodes-lts.Need-loop-holds (claims t) (check-nodes-at t) check-nodes.Post check-nodes-Inv-loop check-nodes-μ-loop
+check-nodes-loop-holds : (t : ℕ) → check-nodes-lts.Need-loop-holds (claims t) (asked t) check-nodes.Post Inv-loop μ-loop
 check-nodes-loop-holds t c = (refl, omega arith, omega arith, refl)
 
-check-nodes-mul-is-container : (t : ℕ) → check-nodes-lts.Need-mul-is-container (claims t) (check-nodes-at t) check-nodes.Post check-nodes-Inv-loop check-nodes-μ-loop
+check-nodes-mul-is-container : (t : ℕ) → check-nodes-lts.Need-mul-is-container (claims t) (asked t) check-nodes.Post Inv-loop μ-loop
 check-nodes-mul-is-container t c = search needs
 
-check-nodes-shared-slice-read-is-container : (t : ℕ) → check-nodes-lts.Need-shared-slice-read-is-container (claims t) (check-nodes-at t) check-nodes.Post check-nodes-Inv-loop check-nodes-μ-loop
+check-nodes-shared-slice-read-is-container : (t : ℕ) → check-nodes-lts.Need-shared-slice-read-is-container (claims t) (asked t) check-nodes.Post Inv-loop μ-loop
 check-nodes-shared-slice-read-is-container t c = search needs
 
-check-nodes-is-container-requires : (t : ℕ) → check-nodes-lts.Need-is-container-requires (claims t) (check-nodes-at t) check-nodes.Post check-nodes-Inv-loop check-nodes-μ-loop
+check-nodes-is-container-requires : (t : ℕ) → check-nodes-lts.Need-is-container-requires (claims t) (asked t) check-nodes.Post Inv-loop μ-loop
 check-nodes-is-container-requires t c κs = search needs
 
-check-nodes-plain-ok-requires : (t : ℕ) → check-nodes-lts.Need-plain-ok-requires (claims t) (check-nodes-at t) check-nodes.Post check-nodes-Inv-loop check-nodes-μ-loop
+check-nodes-plain-ok-requires : (t : ℕ) → check-nodes-lts.Need-plain-ok-requires (claims t) (asked t) check-nodes.Post Inv-loop μ-loop
 check-nodes-plain-ok-requires t c κs = (failed (c .before .is-container .ensures) (c .if1 .taken), omega arith, omega arith)
 
-check-nodes-returns : (t : ℕ) → check-nodes-lts.Need-returns (claims t) (check-nodes-at t) check-nodes.Post check-nodes-Inv-loop check-nodes-μ-loop
-check-nodes-returns t c = sym (c .before .before .before .before .before .before .loop .inv .3 ∙ walked-bad _ _ _ _ _ _ _ (c .before .before .before .before .before .loop-test .taken)
+check-nodes-returns : (t : ℕ) → check-nodes-lts.Need-returns (claims t) (asked t) check-nodes.Post Inv-loop μ-loop
+check-nodes-returns t c = sym (c .before .before .before .before .before .before .loop .inv .3
+    ∙ walked-bad _ _ _ _ _ _ _ (c .before .before .before .before .before .loop-test .taken)
     (failed (c .before .plain-ok .ensures _ _) (c .if2 .taken)))
 
-check-nodes-add-at : (t : ℕ) → check-nodes-lts.Need-add-at (claims t) (check-nodes-at t) check-nodes.Post check-nodes-Inv-loop check-nodes-μ-loop
+check-nodes-add-at : (t : ℕ) → check-nodes-lts.Need-add-at (claims t) (asked t) check-nodes.Post Inv-loop μ-loop
 check-nodes-add-at t c = search needs
 
-check-nodes-sub-left : (t : ℕ) → check-nodes-lts.Need-sub-left (claims t) (check-nodes-at t) check-nodes.Post check-nodes-Inv-loop check-nodes-μ-loop
+check-nodes-sub-left : (t : ℕ) → check-nodes-lts.Need-sub-left (claims t) (asked t) check-nodes.Post Inv-loop μ-loop
 check-nodes-sub-left t c = search needs
 
-check-nodes-loop-less : (t : ℕ) → check-nodes-lts.Need-loop-less (claims t) (check-nodes-at t) check-nodes.Post check-nodes-Inv-loop check-nodes-μ-loop
+check-nodes-loop-less : (t : ℕ) → check-nodes-lts.Need-loop-less (claims t) (asked t) check-nodes.Post Inv-loop μ-loop
 check-nodes-loop-less t c = search needs
 
-check-nodes-loop-again : (t : ℕ) → check-nodes-lts.Need-loop-again (claims t) (check-nodes-at t) check-nodes.Post check-nodes-Inv-loop check-nodes-μ-loop
+check-nodes-loop-again : (t : ℕ) → check-nodes-lts.Need-loop-again (claims t) (asked t) check-nodes.Post Inv-loop μ-loop
 check-nodes-loop-again t c = (
   omega arith,
   omega arith,
@@ -110,119 +114,129 @@ check-nodes-loop-again t c = (
       (failed (c .before .before .before .is-container .ensures) (c .before .before .if1 .taken)),
 )
 
-check-nodes-container-ok-requires : (t : ℕ) → check-nodes-lts.Need-container-ok-requires (claims t) (check-nodes-at t) check-nodes.Post check-nodes-Inv-loop check-nodes-μ-loop
+check-nodes-container-ok-requires : (t : ℕ) → check-nodes-lts.Need-container-ok-requires (claims t) (asked t) check-nodes.Post Inv-loop μ-loop
 check-nodes-container-ok-requires t c κs = (passed (c .before .is-container .ensures) (c .if1 .left), omega arith, omega arith, omega arith)
 
-check-nodes-returns-2 : (t : ℕ) → check-nodes-lts.Need-returns-2 (claims t) (check-nodes-at t) check-nodes.Post check-nodes-Inv-loop check-nodes-μ-loop
-check-nodes-returns-2 t c = sym (c .before .before .before .before .before .before .loop .inv .3 ∙ walked-bad _ _ _ _ _ _ _ (c .before .before .before .before .before .loop-test .taken)
+check-nodes-returns-2 : (t : ℕ) → check-nodes-lts.Need-returns-2 (claims t) (asked t) check-nodes.Post Inv-loop μ-loop
+check-nodes-returns-2 t c = sym (c .before .before .before .before .before .before .loop .inv .3
+    ∙ walked-bad _ _ _ _ _ _ _ (c .before .before .before .before .before .loop-test .taken)
     (failed (c .before .container-ok .ensures) (c .if3 .taken)))
 
-check-nodes-add-size : (t : ℕ) → check-nodes-lts.Need-add-size (claims t) (check-nodes-at t) check-nodes.Post check-nodes-Inv-loop check-nodes-μ-loop
+check-nodes-add-size : (t : ℕ) → check-nodes-lts.Need-add-size (claims t) (asked t) check-nodes.Post Inv-loop μ-loop
 check-nodes-add-size t c = search needs
 
-check-nodes-mul-size : (t : ℕ) → check-nodes-lts.Need-mul-size (claims t) (check-nodes-at t) check-nodes.Post check-nodes-Inv-loop check-nodes-μ-loop
+check-nodes-mul-size : (t : ℕ) → check-nodes-lts.Need-mul-size (claims t) (asked t) check-nodes.Post Inv-loop μ-loop
 check-nodes-mul-size t c = search needs
 
-check-nodes-shared-slice-read-size : (t : ℕ) → check-nodes-lts.Need-shared-slice-read-size (claims t) (check-nodes-at t) check-nodes.Post check-nodes-Inv-loop check-nodes-μ-loop
+check-nodes-shared-slice-read-size : (t : ℕ) → check-nodes-lts.Need-shared-slice-read-size (claims t) (asked t) check-nodes.Post Inv-loop μ-loop
 check-nodes-shared-slice-read-size t c = search needs
 
-check-nodes-add-count : (t : ℕ) → check-nodes-lts.Need-add-count (claims t) (check-nodes-at t) check-nodes.Post check-nodes-Inv-loop check-nodes-μ-loop
+check-nodes-add-count : (t : ℕ) → check-nodes-lts.Need-add-count (claims t) (asked t) check-nodes.Post Inv-loop μ-loop
 check-nodes-add-count t c = search needs
 
-check-nodes-mul-count : (t : ℕ) → check-nodes-lts.Need-mul-count (claims t) (check-nodes-at t) check-nodes.Post check-nodes-Inv-loop check-nodes-μ-loop
+check-nodes-mul-count : (t : ℕ) → check-nodes-lts.Need-mul-count (claims t) (asked t) check-nodes.Post Inv-loop μ-loop
 check-nodes-mul-count t c = search needs
 
-check-nodes-shared-slice-read-count : (t : ℕ) → check-nodes-lts.Need-shared-slice-read-count (claims t) (check-nodes-at t) check-nodes.Post check-nodes-Inv-loop check-nodes-μ-loop
+check-nodes-shared-slice-read-count : (t : ℕ) → check-nodes-lts.Need-shared-slice-read-count (claims t) (asked t) check-nodes.Post Inv-loop μ-loop
 check-nodes-shared-slice-read-count t c = search needs
 
-check-nodes-name-good-requires : (t : ℕ) → check-nodes-lts.Need-name-good-requires (claims t) (check-nodes-at t) check-nodes.Post check-nodes-Inv-loop check-nodes-μ-loop
+check-nodes-name-good-requires : (t : ℕ) → check-nodes-lts.Need-name-good-requires (claims t) (asked t) check-nodes.Post Inv-loop μ-loop
 check-nodes-name-good-requires t c κs = let k = container t (c .before .before) in omega arith
 
-check-nodes-add-name : (t : ℕ) → check-nodes-lts.Need-add-name (claims t) (check-nodes-at t) check-nodes.Post check-nodes-Inv-loop check-nodes-μ-loop
+check-nodes-add-name : (t : ℕ) → check-nodes-lts.Need-add-name (claims t) (asked t) check-nodes.Post Inv-loop μ-loop
 check-nodes-add-name t c = let k = container t (c .before .before .before) in record { fits = omega arith }
 
-check-nodes-add-at-2 : (t : ℕ) → check-nodes-lts.Need-add-at-2 (claims t) (check-nodes-at t) check-nodes.Post check-nodes-Inv-loop check-nodes-μ-loop
+check-nodes-add-at-2 : (t : ℕ) → check-nodes-lts.Need-add-at-2 (claims t) (asked t) check-nodes.Post Inv-loop μ-loop
 check-nodes-add-at-2 t c = search needs
 
-check-nodes-sub-left-2 : (t : ℕ) → check-nodes-lts.Need-sub-left-2 (claims t) (check-nodes-at t) check-nodes.Post check-nodes-Inv-loop check-nodes-μ-loop
+check-nodes-sub-left-2 : (t : ℕ) → check-nodes-lts.Need-sub-left-2 (claims t) (asked t) check-nodes.Post Inv-loop μ-loop
 check-nodes-sub-left-2 t c = search needs
 
-check-nodes-loop-less-2 : (t : ℕ) → check-nodes-lts.Need-loop-less-2 (claims t) (check-nodes-at t) check-nodes.Post check-nodes-Inv-loop check-nodes-μ-loop
+check-nodes-loop-less-2 : (t : ℕ) → check-nodes-lts.Need-loop-less-2 (claims t) (asked t) check-nodes.Post Inv-loop μ-loop
 check-nodes-loop-less-2 t c = search needs
 
-check-nodes-loop-again-2 : (t : ℕ) → check-nodes-lts.Need-loop-again-2 (claims t) (check-nodes-at t) check-nodes.Post check-nodes-Inv-loop check-nodes-μ-loop
-check-nodes-loop-again-2 t c = let b = c .before .before .before .before in let k = container t b in let d : countAt (nodes t b) (looped t b .loop .at) ≡ looped t b .loop .left = omega arith in
-    (omega arith, omega arith, omega arith, looped t b .loop .inv .3 ∙ walked-last _ _ _ _ _ _ _ (b .before .before .before .before .before .loop-test .taken) (fits t b) (kind t b) d _ (c .before .name-good .ensures))
+check-nodes-loop-again-2 : (t : ℕ) → check-nodes-lts.Need-loop-again-2 (claims t) (asked t) check-nodes.Post Inv-loop μ-loop
+check-nodes-loop-again-2 t c = let b = c .before .before .before .before in let k = container t b in let d : countAt (nodes t b) (looped t b .loop .at)
+    ≡ looped t b .loop .left = omega arith in (
+      omega arith,
+      omega arith,
+      omega arith,
+      looped t b .loop .inv .3 ∙ walked-last _ _ _ _ _ _ _ (b .before .before .before .before .before .loop-test .taken)
+          (fits t b) (kind t b) d _ (c .before .name-good .ensures),
+    )
 
-check-nodes-sub-check-nodes : (t : ℕ) → check-nodes-lts.Need-sub-check-nodes (claims t) (check-nodes-at t) check-nodes.Post check-nodes-Inv-loop check-nodes-μ-loop
+check-nodes-sub-check-nodes : (t : ℕ) → check-nodes-lts.Need-sub-check-nodes (claims t) (asked t) check-nodes.Post Inv-loop μ-loop
 check-nodes-sub-check-nodes t c = search needs
 
-check-nodes-part-check-nodes-start : (t : ℕ) → check-nodes-lts.Need-part-check-nodes-start (claims t) (check-nodes-at t) check-nodes.Post check-nodes-Inv-loop check-nodes-μ-loop
+check-nodes-part-check-nodes-start : (t : ℕ) → check-nodes-lts.Need-part-check-nodes-start (claims t) (asked t) check-nodes.Post Inv-loop μ-loop
 check-nodes-part-check-nodes-start t c = search needs
 
-check-nodes-part-check-nodes-end : (t : ℕ) → check-nodes-lts.Need-part-check-nodes-end (claims t) (check-nodes-at t) check-nodes.Post check-nodes-Inv-loop check-nodes-μ-loop
+check-nodes-part-check-nodes-end : (t : ℕ) → check-nodes-lts.Need-part-check-nodes-end (claims t) (asked t) check-nodes.Post Inv-loop μ-loop
 check-nodes-part-check-nodes-end t c = search needs
 
-check-nodes-sub-check-nodes-2 : (t : ℕ) → check-nodes-lts.Need-sub-check-nodes-2 (claims t) (check-nodes-at t) check-nodes.Post check-nodes-Inv-loop check-nodes-μ-loop
+check-nodes-sub-check-nodes-2 : (t : ℕ) → check-nodes-lts.Need-sub-check-nodes-2 (claims t) (asked t) check-nodes.Post Inv-loop μ-loop
 check-nodes-sub-check-nodes-2 t c = search needs
 
-check-nodes-part-check-nodes-start-2 : (t : ℕ) → check-nodes-lts.Need-part-check-nodes-start-2 (claims t) (check-nodes-at t) check-nodes.Post check-nodes-Inv-loop check-nodes-μ-loop
+check-nodes-part-check-nodes-start-2 : (t : ℕ) → check-nodes-lts.Need-part-check-nodes-start-2 (claims t) (asked t) check-nodes.Post Inv-loop μ-loop
 check-nodes-part-check-nodes-start-2 t c = search needs
 
-check-nodes-part-check-nodes-end-2 : (t : ℕ) → check-nodes-lts.Need-part-check-nodes-end-2 (claims t) (check-nodes-at t) check-nodes.Post check-nodes-Inv-loop check-nodes-μ-loop
+check-nodes-part-check-nodes-end-2 : (t : ℕ) → check-nodes-lts.Need-part-check-nodes-end-2 (claims t) (asked t) check-nodes.Post Inv-loop μ-loop
 check-nodes-part-check-nodes-end-2 t c = search needs
 
-check-nodes-add-check-nodes : (t : ℕ) → check-nodes-lts.Need-add-check-nodes (claims t) (check-nodes-at t) check-nodes.Post check-nodes-Inv-loop check-nodes-μ-loop
+check-nodes-add-check-nodes : (t : ℕ) → check-nodes-lts.Need-add-check-nodes (claims t) (asked t) check-nodes.Post Inv-loop μ-loop
 check-nodes-add-check-nodes t c = search needs
 
-check-nodes-sub-check-nodes-3 : (t : ℕ) → check-nodes-lts.Need-sub-check-nodes-3 (claims t) (check-nodes-at t) check-nodes.Post check-nodes-Inv-loop check-nodes-μ-loop
+check-nodes-sub-check-nodes-3 : (t : ℕ) → check-nodes-lts.Need-sub-check-nodes-3 (claims t) (asked t) check-nodes.Post Inv-loop μ-loop
 check-nodes-sub-check-nodes-3 t c = let k = container t (c .before .before .before .before .before .before) in omega arith
 
-check-nodes-check-nodes-requires : (t : ℕ) → check-nodes-lts.Need-check-nodes-requires (claims t) (check-nodes-at t) check-nodes.Post check-nodes-Inv-loop check-nodes-μ-loop
-check-nodes-check-nodes-requires t c κs = let b = c .before .before .before .before .before .before in let k = container t b in (omega arith, (rw whole (omega arith), omega arith, rw whole (omega arith)))
+check-nodes-check-nodes-requires : (t : ℕ) → check-nodes-lts.Need-check-nodes-requires (claims t) (asked t) check-nodes.Post Inv-loop μ-loop
+check-nodes-check-nodes-requires t c κs = let b = c .before .before .before .before .before .before in let k = container t b
+    in (omega arith, (rw whole (omega arith), omega arith, rw whole (omega arith)))
 
-check-nodes-enum-known-inner : (t : ℕ) → check-nodes-lts.Need-enum-known-inner (claims t) (check-nodes-at t) check-nodes.Post check-nodes-Inv-loop check-nodes-μ-loop
+check-nodes-enum-known-inner : (t : ℕ) → check-nodes-lts.Need-enum-known-inner (claims t) (asked t) check-nodes.Post Inv-loop μ-loop
 check-nodes-enum-known-inner t c = search needs
 
-check-nodes-enum-told : (t : ℕ) → check-nodes-lts.Need-enum-told (claims t) (check-nodes-at t) check-nodes.Post check-nodes-Inv-loop check-nodes-μ-loop
+check-nodes-enum-told : (t : ℕ) → check-nodes-lts.Need-enum-told (claims t) (asked t) check-nodes.Post Inv-loop μ-loop
 check-nodes-enum-told t c = search needs
 
-check-nodes-returns-3 : (t : ℕ) → check-nodes-lts.Need-returns-3 (claims t) (check-nodes-at t) check-nodes.Post check-nodes-Inv-loop check-nodes-μ-loop
+check-nodes-returns-3 : (t : ℕ) → check-nodes-lts.Need-returns-3 (claims t) (asked t) check-nodes.Post Inv-loop μ-loop
 check-nodes-returns-3 t c = let b = c .before .before .before .before .before .before .before .before .before in
     sym (looped t b .loop .inv .3 ∙ walked-broken _ _ _ _ _ _ _ (b .before .before .before .before .before .loop-test .taken) (fits t b) (kind t b) _
-    (c .before .before .before .before .before .before .name-good .ensures) _ (rw (whole, whole) at (c .before .before .check-nodes .ensures)) (c .enum-told .given .1))
+    (c .before .before .before .before .before .before .name-good .ensures) _ (rw (whole, whole) at (c .before .before .check-nodes .ensures))
+    (c .enum-told .given .1))
 
-check-nodes-mul-at : (t : ℕ) → check-nodes-lts.Need-mul-at (claims t) (check-nodes-at t) check-nodes.Post check-nodes-Inv-loop check-nodes-μ-loop
+check-nodes-mul-at : (t : ℕ) → check-nodes-lts.Need-mul-at (claims t) (asked t) check-nodes.Post Inv-loop μ-loop
 check-nodes-mul-at t c = let k = container t (c .before .before .before .before .before .before .before .before .before .before) in search needs
 
-check-nodes-add-at-3 : (t : ℕ) → check-nodes-lts.Need-add-at-3 (claims t) (check-nodes-at t) check-nodes.Post check-nodes-Inv-loop check-nodes-μ-loop
+check-nodes-add-at-3 : (t : ℕ) → check-nodes-lts.Need-add-at-3 (claims t) (asked t) check-nodes.Post Inv-loop μ-loop
 check-nodes-add-at-3 t c = let k = container t (c .before .before .before .before .before .before .before .before .before .before) in search needs
 
-check-nodes-sub-left-3 : (t : ℕ) → check-nodes-lts.Need-sub-left-3 (claims t) (check-nodes-at t) check-nodes.Post check-nodes-Inv-loop check-nodes-μ-loop
+check-nodes-sub-left-3 : (t : ℕ) → check-nodes-lts.Need-sub-left-3 (claims t) (asked t) check-nodes.Post Inv-loop μ-loop
 check-nodes-sub-left-3 t c = let k = container t (c .before .before .before .before .before .before .before .before .before .before) in omega arith
 
-check-nodes-loop-less-3 : (t : ℕ) → check-nodes-lts.Need-loop-less-3 (claims t) (check-nodes-at t) check-nodes.Post check-nodes-Inv-loop check-nodes-μ-loop
+check-nodes-loop-less-3 : (t : ℕ) → check-nodes-lts.Need-loop-less-3 (claims t) (asked t) check-nodes.Post Inv-loop μ-loop
 check-nodes-loop-less-3 t c = let k = container t (c .before .before .before .before .before .before .before .before .before .before) in omega arith
 
-check-nodes-loop-again-3 : (t : ℕ) → check-nodes-lts.Need-loop-again-3 (claims t) (check-nodes-at t) check-nodes.Post check-nodes-Inv-loop check-nodes-μ-loop
+check-nodes-loop-again-3 : (t : ℕ) → check-nodes-lts.Need-loop-again-3 (claims t) (asked t) check-nodes.Post Inv-loop μ-loop
 check-nodes-loop-again-3 t c = let b = c .before .before .before .before .before .before .before .before .before .before in let k = container t b in (
   omega arith,
   omega arith,
   walked-le _ _ _ _ _ _ _ _ _ (k .name-fits) (sym (c .before .inner .given .1) ∙ c .before .before .before .check-nodes .ensures),
   looped t b .loop .inv .3
-      ∙ walked-next _ _ _ _ _ _ _ (b .before .before .before .before .before .loop-test .taken) (fits t b) (kind t b) _ (c .before .before .before .before .before .before .before .name-good .ensures) _
+      ∙ walked-next _ _ _ _ _ _ _ (b .before .before .before .before .before .loop-test .taken) (fits t b) (kind t b) _
+      (c .before .before .before .before .before .before .before .name-good .ensures) _
       (rw (whole, whole) at (c .before .before .before .check-nodes .ensures)) _ _ (c .before .inner .given .1),
 )
 
-check-nodes-returns-4 : (t : ℕ) → check-nodes-lts.Need-returns-4 (claims t) (check-nodes-at t) check-nodes.Post check-nodes-Inv-loop check-nodes-μ-loop
+check-nodes-returns-4 : (t : ℕ) → check-nodes-lts.Need-returns-4 (claims t) (asked t) check-nodes.Post Inv-loop μ-loop
 check-nodes-returns-4 t c = sym (c .before .loop .inv .3 ∙ walked-none _ _ _ _ _ _ _ (c .loop-test .left))
 
 pub +check-nodes-spec : {M : Type 1} → statement M
 +check-nodes-spec = close μ-check-nodes λ t. check-nodes-lts.spec (claims t)
-    (check-nodes-at t)
+    (asked t)
     check-nodes.Post
-    check-nodes-Inv-loop
-    check-nodes-μ-loop
+    Inv-loop
+    μ-loop
     (check-nodes-loop-holds t)
     (check-nodes-mul-is-container t)
     (check-nodes-shared-slice-read-is-container t)
