@@ -11,7 +11,8 @@ use lib.Seq.{sets}
 use borrow.Author.Tests.{le-leb, lt-leb, eq-eqb, ne-eqb}
 use Rattle.kinds.proofs.ListLaws.{unread, unread-end}
 use Rattle.kinds.specs.Byte.{isDigit}
-use Rattle.lines.specs.Decimal.{grown, stepGrown, stepped, stepWords, decimals, isDecimals, decimalsAnswer}
+use Rattle.lines.specs.Answer.{grown, decimals, isDecimals, decimalsAnswer}
+use Rattle.lines.specs.Steps.{stepGrown, stepped, stepWords}
 use Rattle.lines.specs.declared.Decoded.the-variants.{Items, Bad}
 use Rattle.lines.specs.declared.Grown.{Grown}
 use Rattle.lines.specs.declared.Grown.the-variants as G

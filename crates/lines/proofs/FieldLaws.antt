@@ -1,5 +1,5 @@
 -- Laws of a field's end.
-use Prim.Native.Nat.{ℕ, suc, _+_, _-_, _≤_, _<_}
+use Prim.Native.Nat.{ℕ, suc, _+_, _≤_, _<_}
 use mathlib.Core.Path.{_≡_, ap, sym, _∙_}
 use mathlib.Core.List.{List}
 use native.Mathlib.Omega.{arith}
@@ -10,7 +10,7 @@ use Rattle.kinds.proofs.ListLaws.{unread, unread-end}
 use denote.Ref.{RefT, ptr, now}
 use Rattle.parser.specs.Place.{remainingAt}
 use Rattle.parser.proofs.PlaceLaws.{end-remains}
-use Rattle.lines.specs.Field.{until, frontOf}
+use Rattle.lines.specs.Answer.{until, frontOf}
 
 pub until-here : (b : ℕ) (s : List ℕ) (i : ℕ) → i < length s → getD s i 0 ≡ b → until b (drop i s) ≡ 0
 unfolding until

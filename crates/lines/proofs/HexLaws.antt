@@ -11,7 +11,7 @@ use lib.Seq.{sets}
 use borrow.Author.Tests.{le-leb, lt-leb, lt-ltb, le-ltb}
 use Rattle.kinds.proofs.ListLaws.{unread, unread-end}
 use Rattle.kinds.specs.Byte.{isDigit}
-use Rattle.lines.specs.Hex.{hexDigit, isPair, hexBytes, isHex, hexAnswer, hexGlyph, hexPair}
+use Rattle.lines.specs.Answer.{hexDigit, isPair, hexBytes, isHex, hexAnswer, hexGlyph, hexPair}
 use Rattle.lines.specs.declared.Decoded.the-variants.{Items, Bad}
 
 pub digit-low : (b : ℕ) → b < 48 → hexDigit b ≡ 16

@@ -12,8 +12,7 @@ use Rattle.kinds.proofs.ListLaws.{unread, unread-end}
 use Rattle.kinds.specs.Print.{decimal}
 use Rattle.kinds.specs.Refusal.{number, values}
 use Rattle.kinds.specs.declared.Refusal.{Refusal}
-use Rattle.lines.specs.Put.{Put, each, commaNumber, wordsText, sheetText, spaceNumber, refusalText}
-use Rattle.lines.specs.Hex.{hexPair}
+use Rattle.lines.specs.Answer.{Put, each, commaNumber, wordsText, sheetText, spaceNumber, refusalText, hexPair}
 
 -- ---- Stores beyond the end.
 

@@ -1,5 +1,3 @@
--- The definitions, in the order in which they are read.
-pub mod Field
-pub mod Hex
-pub mod Decimal
-pub mod Put
+-- What the calls answer; then what a function inside answers.
+pub mod Answer
+pub mod Steps

@@ -7,10 +7,8 @@ ghost use lib.Seq.{sets};
 ghost use Rattle.kinds.specs.Parse.{maxU64};
 ghost use Rattle.kinds.specs.Print.{decimal};
 ghost use Rattle.parser.specs.Place.{lent, remainingAt};
-ghost use Rattle.lines.specs.Field.{until, frontOf};
-ghost use Rattle.lines.specs.Hex.{hexDigit, hexBytes, hexAnswer, hexGlyph, hexPair};
-ghost use Rattle.lines.specs.Decimal.{grown, stepped, stepWords, decimals, decimalsAnswer};
-ghost use Rattle.lines.specs.Put.{Put, each, wordsText, sheetText, refusalText};
+ghost use Rattle.lines.specs.Answer.{until, frontOf, hexDigit, hexBytes, hexAnswer, hexGlyph, hexPair, grown, decimals, decimalsAnswer, Put, each, wordsText, sheetText, refusalText};
+ghost use Rattle.lines.specs.Steps.{stepped, stepWords};
 use kinds::Refusal;
 
 // How many items were read, or that the text is bad or the list too short.

@@ -13,7 +13,7 @@ use Rattle.kinds.specs.Parse.{isQualifier, stripLeadingQualifiers}
 use Rattle.kinds.proofs.ParseLaws.{strip-shorter}
 use borrow.Author.Tests.{lt-ltb, le-ltb}
 use Rattle.parser.specs.Place.{endOf, remainingAt, peekAt, advanceAt, stripAt}
-use Rattle.parser.specs.Reader.{newParser, remaining, stripQualifiers, skipQualifiers}
+use Rattle.parser.specs.Answer.{newParser, remaining, stripQualifiers, skipQualifiers}
 use Rattle.parser.specs.declared.Peek.the-variants.{Byte, End}
 use Rattle.parser.proofs.TextLaws.{strip-more}
 

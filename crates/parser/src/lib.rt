@@ -4,7 +4,7 @@ ghost use mathlib.Core.Path.{_≡_};
 ghost use Rattle.kinds.specs.Byte.{among};
 ghost use Rattle.kinds.specs.Parse.{isQualifier, stripLeadingQualifiers};
 ghost use Rattle.parser.specs.Place.{lent, placeOf, peekAt, isEmptyAt, remainingAt, advanceAt, stripAt};
-ghost use Rattle.parser.specs.Reader.{newParser, peek, isEmpty, remaining, advance, stripQualifiers, skipQualifiers};
+ghost use Rattle.parser.specs.Answer.{newParser, peek, isEmpty, remaining, advance, stripQualifiers, skipQualifiers};
 
 pub struct Parser<'a> {
     data: &'a [u8],

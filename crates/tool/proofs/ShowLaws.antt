@@ -1,5 +1,6 @@
 -- Laws of what is shown.
 use Prim.Native.Nat.{ℕ, zero, suc, _+_, _-_, _*_, _≤_, _<_}
+use native.Mathlib.Nat.{add-zero}
 use native.Mathlib.Omega.{arith}
 use native.Mathlib.Numerals.{add-one}
 use mathlib.Core.Path.{_≡_, refl, ap, sym, _∙_}
@@ -10,9 +11,9 @@ use lib.ListN.{take, drop, length, getD}
 use lib.Seq.{take-nil}
 use borrow.Author.Tests.{le-leb, lt-leb, lt-ltb, le-ltb, eq-eqb, ne-eqb, eqb-false}
 use Rattle.kinds.proofs.ListLaws.{unread, unread-end}
-use Rattle.lines.specs.Field.{until}
+use Rattle.lines.specs.Answer.{until}
 use Rattle.kinds.specs.Print.{decimal}
-use Rattle.tool.specs.Show.{countOf, shownByte, times, holders, depthOf, lineOf, countText, kindNames, valuesText, rightText, nodeText, byteText, containerText, shownText, shownOrCut, markText, reasons, namedText, refusedText}
+use Rattle.tool.specs.Answer.{countOf, shownByte, times, holders, depthOf, lineOf, countText, kindNames, valuesText, rightText, nodeText, byteText, containerText, shownText, shownOrCut, markText, reasons, namedText, refusedText}
 
 pub counts : (b : ℕ) (s : List ℕ) (i : ℕ) → i < length s → getD s i 0 ≡ b → countOf b (drop i s) ≡ suc (countOf b (drop (i + 1) s))
 unfolding countOf
@@ -68,10 +69,7 @@ holds words i j h = sym (ap (holders words i) (add-one j) ∙ rw (lt-ltb (i - j)
 
 pub holds-not : (words : List ℕ) (i j : ℕ) → getD words (4 * j + 3) 0 ≤ i - j → holders words i j ≡ holders words i (j + 1)
 unfolding holders
-holds-not words i j h = sym (ap (holders words i) (add-one j) ∙ rw (le-ltb (i - j) (getD words (4 * j + 3) 0) h) (zero-right (holders words i j)))
-  where
-    zero-right : (n : ℕ) → n + 0 ≡ n
-    zero-right n = omega arith
+holds-not words i j h = sym (ap (holders words i) (add-one j) ∙ rw (le-ltb (i - j) (getD words (4 * j + 3) 0) h) (add-zero (holders words i j)))
 
 pub take-none : (n i : ℕ) (s : List ℕ) → length s < i → take 0 s ≡ take n (drop i s)
 take-none n i s h = sym (ap (take n) (unread-end s i (omega arith)) ∙ take-nil n)

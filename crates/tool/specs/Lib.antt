@@ -1,2 +1,2 @@
--- The definitions, in the order in which they are read.
-pub mod Show
+-- The definitions.
+pub mod Answer

@@ -2,8 +2,8 @@
 ghost use mathlib.Core.Path.{_≡_};
 ghost use mathlib.Core.List.{[], _∷_};
 ghost use lib.ListN.{take, drop, getD};
-ghost use Rattle.lines.specs.Put.{Put};
-ghost use Rattle.tool.specs.Show.{countOf, shownByte, shownText, times, depthOf, lineOf, countText, kindNames, valuesText, rightText, nodeText, byteText, containerText, shownOrCut, markText, reasons, namedText, refusedText};
+ghost use Rattle.lines.specs.Answer.{Put};
+ghost use Rattle.tool.specs.Answer.{countOf, shownByte, shownText, times, depthOf, lineOf, countText, kindNames, valuesText, rightText, nodeText, byteText, containerText, shownOrCut, markText, reasons, namedText, refusedText};
 use kinds::MAX_TEXT;
 use kinds::UNION;
 

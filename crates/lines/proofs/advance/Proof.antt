@@ -1,6 +1,6 @@
 -- `lines::advance` meets its contract. Assumes nothing.
 use mathlib.Core.Path.{sym, _∙_}
-use Rattle.lines.specs.Decimal.{stepGrown}
+use Rattle.lines.specs.Steps.{stepGrown}
 use Rattle.lines.specs.declared.Grown.the-variants as Grown
 use Rattle.lines.proofs.DecimalLaws.{step-comma, step-grown, words-comma, words-kept}
 use borrow.Author.Needs.{needs}

@@ -3,7 +3,7 @@ use Prim.Native.Nat.{_+_, _-_, _≤_}
 use mathlib.Core.Path.{_≡_}
 use native.Mathlib.Omega.{arith}
 use lib.ListN.{length, drop}
-use Rattle.lines.specs.Field.{until}
+use Rattle.lines.specs.Answer.{until}
 use Rattle.lines.proofs.FieldLaws.{until-here, until-more, until-end}
 use Rattle.lines.proofs.place_of.Statement.{statement}
 use Rattle.lines.proofs.place_of.Tie as tie

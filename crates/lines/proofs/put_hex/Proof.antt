@@ -4,8 +4,7 @@ use mathlib.Core.Path.{_≡_, refl, _∙_}
 use native.Mathlib.Omega.{arith}
 use borrow.Author.Needs.{needs}
 use lib.ListN.{length, drop, getD}
-use Rattle.lines.specs.Hex.{hexPair}
-use Rattle.lines.specs.Put.{each}
+use Rattle.lines.specs.Answer.{hexPair, each}
 use Rattle.lines.proofs.PutLaws.{ToPut, to-put, then-put, all-put, each-more, each-end}
 use Rattle.lines.proofs.put_hex.Statement.{statement}
 use Rattle.lines.proofs.put_hex.Tie as tie

@@ -5,7 +5,7 @@ use native.Mathlib.Omega.{arith}
 use borrow.Author.Needs.{needs}
 use lib.ListN.{length, drop, getD}
 use Rattle.kinds.specs.Print.{decimal}
-use Rattle.lines.specs.Put.{each, commaNumber}
+use Rattle.lines.specs.Answer.{each, commaNumber}
 use Rattle.lines.proofs.PutLaws.{ToPut, to-put, then-put, all-put, put-none, put-same, put-append, each-more, each-end, words-none, words-some}
 use Rattle.lines.proofs.put_words.Statement.{statement}
 use Rattle.lines.proofs.put_words.Tie as tie

@@ -39,7 +39,7 @@ use denote.Triple.Walked.{says, Stays, stay-none-slice, walkOf, goes-none-slice,
 use denote.Exit.{yes}
 use denote.Triple.Clauses.{ensured, lasts}
 use Rattle.parser.specs.Place.{lent}
-use Rattle.parser.specs.Reader.{newParser, remaining, stripQualifiers, skipQualifiers}
+use Rattle.parser.specs.Answer.{newParser, remaining, stripQualifiers, skipQualifiers}
 use Rattle.parser.specs.declared.Parser.{Parser}
 use Rattle.parser.proofs.PlaceLaws.{stripped-remains}
 use Rattle.parser.proofs.Parser as T

@@ -7,7 +7,7 @@ use borrow.Author.Needs.{needs}
 use Rattle.kinds.specs.Parse.{stripLeadingQualifiers}
 use Rattle.kinds.proofs.ParseLaws.{strip-shorter}
 use Rattle.parser.specs.Place.{endOf}
-use Rattle.parser.specs.Reader.{skipQualifiers}
+use Rattle.parser.specs.Answer.{skipQualifiers}
 use Rattle.parser.proofs.strip_leading_qualifiers.Statement.{statement}
 use Rattle.parser.proofs.strip_leading_qualifiers.Tie as tie
 

@@ -4,7 +4,7 @@ use mathlib.Core.Path.{_≡_}
 use native.Mathlib.Omega.{arith}
 use lib.ListN.{length, drop}
 use mathlib.Core.Logic.{⊎-elim}
-use Rattle.tool.specs.Show.{countOf}
+use Rattle.tool.specs.Answer.{countOf}
 use Rattle.tool.proofs.ShowLaws.{counts, counts-not, counts-end}
 use Rattle.tool.proofs.show.count_of.Statement.{statement}
 use Rattle.tool.proofs.show.count_of.Tie as tie

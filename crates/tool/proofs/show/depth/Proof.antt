@@ -4,7 +4,7 @@ use mathlib.Core.Path.{_≡_, refl, ap, subst, _∙_}
 use mathlib.Core.Logic.{⊎-elim}
 use native.Mathlib.Omega.{arith}
 use borrow.Author.Needs.{needs}
-use Rattle.tool.specs.Show.{holders, depthOf}
+use Rattle.tool.specs.Answer.{holders, depthOf}
 use Rattle.tool.proofs.ShowLaws.{holds, holds-not}
 use Rattle.tool.proofs.show.depth.Statement.{statement}
 use Rattle.tool.proofs.show.depth.Tie as tie

@@ -5,7 +5,7 @@ use native.Mathlib.Omega.{arith}
 use borrow.Author.Needs.{needs}
 use Rattle.lines.proofs.FieldLaws.{front-bytes}
 use Rattle.parser.proofs.PlaceLaws.{remains-bytes}
-use Rattle.tool.specs.Show.{lineOf}
+use Rattle.tool.specs.Answer.{lineOf}
 use Rattle.tool.proofs.ShowLaws.{line-more, line-here}
 use Rattle.tool.proofs.show.line_of.Statement.{statement}
 use Rattle.tool.proofs.show.line_of.Tie as tie

@@ -1,6 +1,6 @@
 -- `tool::show::put_kind` meets its contract. Assumes nothing.
 use Rattle.lines.proofs.PutLaws.{put-same}
-use Rattle.tool.specs.Show.{kindNames}
+use Rattle.tool.specs.Answer.{kindNames}
 use borrow.Author.Needs.{needs}
 use Rattle.tool.proofs.show.put_kind.Statement.{statement}
 use Rattle.tool.proofs.show.put_kind.Tie as tie

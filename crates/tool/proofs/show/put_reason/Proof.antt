@@ -1,6 +1,6 @@
 -- `tool::show::put_reason` meets its contract. Assumes nothing.
 use Rattle.lines.proofs.PutLaws.{put-same}
-use Rattle.tool.specs.Show.{reasons}
+use Rattle.tool.specs.Answer.{reasons}
 use borrow.Author.Needs.{needs}
 use Rattle.tool.proofs.show.put_reason.Statement.{statement}
 use Rattle.tool.proofs.show.put_reason.Tie as tie

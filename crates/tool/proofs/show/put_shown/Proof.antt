@@ -1,12 +1,12 @@
 -- `tool::show::put_shown` meets its contract. Assumes nothing.
 use Prim.Native.Nat.{_+_, _-_, _≤_}
-use mathlib.Core.Path.{_≡_, refl, sym, _∙_}
+use mathlib.Core.Path.{_≡_, refl, _∙_}
 use native.Mathlib.Omega.{arith}
 use borrow.Author.Needs.{needs}
 use lib.ListN.{length, drop, getD}
-use Rattle.lines.specs.Put.{each}
+use Rattle.lines.specs.Answer.{each}
 use Rattle.lines.proofs.PutLaws.{ToPut, to-put, then-put, all-put, put-same, each-more, each-end}
-use Rattle.tool.specs.Show.{shownByte, shownText}
+use Rattle.tool.specs.Answer.{shownByte, shownText}
 use Rattle.tool.proofs.show.put_shown.Statement.{statement}
 use Rattle.tool.proofs.show.put_shown.Tie as tie
 

@@ -5,7 +5,7 @@ use native.Mathlib.Omega.{arith}
 use borrow.Author.Needs.{needs}
 use lib.ListN.{length}
 use Rattle.lines.proofs.PutLaws.{ToPut, to-put, then-put, all-put}
-use Rattle.tool.specs.Show.{times}
+use Rattle.tool.specs.Answer.{times}
 use Rattle.tool.proofs.ShowLaws.{times-more, times-none}
 use Rattle.tool.proofs.show.put_times.Statement.{statement}
 use Rattle.tool.proofs.show.put_times.Tie as tie

@@ -1,4 +1,4 @@
--- What is shown of texts and trees.
+-- What the calls answer: what is shown of texts and trees.
 use Prim.Native.Nat.{ℕ, zero, suc, _+_, _-_, _*_}
 use mathlib.Core.Bool.{cond, _&&_, _||_}
 use mathlib.Core.List.{List, [], _∷_, _++_}
@@ -6,8 +6,7 @@ use lib.Dec.{leb, ltb, eqb}
 use lib.ListN.{length, take, drop, getD}
 use Rattle.kinds.specs.Byte.{byte, bytes}
 use Rattle.kinds.specs.Print.{decimal}
-use Rattle.lines.specs.Field.{until}
-use Rattle.lines.specs.Put.{each}
+use Rattle.lines.specs.Answer.{until, each}
 
 -- How often a byte stands in a text.
 unfoldable pub countOf : ℕ → List ℕ → ℕ
@@ -46,7 +45,11 @@ countText n unit = decimal n ++ (bytes " " ++ cond (eqb n 1) unit (unit ++ bytes
 
 -- What stands before a node's numbers or its name, a line for each kind.
 unfoldable pub kindNames : List ℕ
-kindNames = bytes "char\nshort\nint\nlong\nlong long\nunsigned char\nunsigned short\nunsigned int\nunsigned long\nunsigned long long\nfloat\ndouble\nlong double\ncomplex float\ncomplex double\ncomplex long double\nbool\nvoid\nC string\nobject\nblock\nclass\nselector\nunknown\nbitfield of \nbitfield at offset \npointer\natomic\narray of \nstruct \nunion \nnothing"
+kindNames =
+    bytes "char\nshort\nint\nlong\nlong long\nunsigned char\nunsigned short\nunsigned int\nunsigned long\nunsigned long long\n"
+    ++ (bytes "float\ndouble\nlong double\ncomplex float\ncomplex double\ncomplex long double\nbool\nvoid\nC string\n"
+    ++ (bytes "object\nblock\nclass\nselector\nunknown\n"
+    ++ bytes "bitfield of \nbitfield at offset \npointer\natomic\narray of \nstruct \nunion \nnothing"))
 
 -- A node's numbers or its name, by its kind and its two numbers.
 unfoldable pub valuesText : List ℕ → ℕ → ℕ → ℕ → List ℕ
@@ -86,7 +89,12 @@ markText number place = cond (ltb number 7) [] (bytes "\n" ++ (times place (byte
 
 -- Why an input was turned away, a line for each of document 01's numbers.
 unfoldable pub reasons : List ℕ
-reasons = bytes "\nthe text has more than 2,000 bytes\nthe lists are too short for the tree\nthe lists hold no tree\na name is neither ? nor letters, digits and underscores\nthe output is too short for the text\nthe size is above 2^64 - 1 bytes\nthe text ends where another byte must stand\nno type starts with \nf, d or D must follow j, not \na digit must stand here\na number is above 2^64 - 1, or a bitfield's size above 255\nno ] follows the array's item\nthe text ends inside the \nneither ? nor letters, digits and underscores name the \nbytes remain after the type"
+reasons =
+    bytes "\nthe text has more than 2,000 bytes\nthe lists are too short for the tree\nthe lists hold no tree\n"
+    ++ (bytes "a name is neither ? nor letters, digits and underscores\nthe output is too short for the text\nthe size is above 2^64 - 1 bytes\n"
+    ++ (bytes "the text ends where another byte must stand\nno type starts with \nf, d or D must follow j, not \na digit must stand here\n"
+    ++ (bytes "a number is above 2^64 - 1, or a bitfield's size above 255\nno ] follows the array's item\n"
+    ++ bytes "the text ends inside the \nneither ? nor letters, digits and underscores name the \nbytes remain after the type")))
 
 -- The byte or the container that a refusal names.
 unfoldable pub namedText : ℕ → ℕ → ℕ → List ℕ

@@ -1,4 +1,4 @@
--- The methods of `Parser` (parse.rs): the whole text stays, and the place moves.
+-- What the calls answer: the methods of `Parser` (parse.rs), in which the whole text stays and the place moves; at the end, of a plain text.
 use Prim.Native.Nat.{ℕ}
 use mathlib.Core.Bool.{Bool}
 use mathlib.Core.List.{List}
