@@ -2,12 +2,21 @@
 // (oracle/README.md). At most 524,288 bytes of questions are read, and an answer has at most 65,536 bytes.
 use helper::Sized;
 use kinds::Compared;
+use kinds::MAX_TEXT;
+use kinds::MAX_WORDS;
 use kinds::Refusal;
 use libc::STDIN_FILENO;
 use libc::STDOUT_FILENO;
 use lines::Decoded;
 use parse::Reading;
 use static_str::Printed;
+
+// The most bytes of questions, of a text in one, which may be longer than any that is read, and of an answer.
+const MAX_INPUT: usize = 524288;
+
+const MAX_DECODED: usize = 32768;
+
+const MAX_ANSWER: usize = 65536;
 
 // A tree stands in the lent lists, or the text was turned away, or the question is bad.
 enum Loaded {
@@ -339,14 +348,14 @@ fn write_answers(
 }
 
 fn main() {
-    let mut input = [0u8; 524288];
+    let mut input = [0u8; MAX_INPUT];
     let n = io::read_full(STDIN_FILENO, &mut input);
-    let mut text = [0u8; 32768];
-    let mut aw = [0u64; 8008];
-    let mut an = [0u8; 2000];
-    let mut bw = [0u64; 8008];
-    let mut bn = [0u8; 2000];
-    let mut out = [0u8; 65536];
+    let mut text = [0u8; MAX_DECODED];
+    let mut aw = [0u64; MAX_WORDS];
+    let mut an = [0u8; MAX_TEXT];
+    let mut bw = [0u64; MAX_WORDS];
+    let mut bn = [0u8; MAX_TEXT];
+    let mut out = [0u8; MAX_ANSWER];
     write_answers(
         &input[..n],
         &mut text,

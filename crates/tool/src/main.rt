@@ -4,6 +4,8 @@ mod show;
 
 use helper::Sized;
 use kinds::Compared;
+use kinds::MAX_TEXT;
+use kinds::MAX_WORDS;
 use libc::STDERR_FILENO;
 use libc::STDIN_FILENO;
 use libc::STDOUT_FILENO;
@@ -11,6 +13,15 @@ use parse::Reading;
 use sheet::Checked;
 use sheet::HEADER;
 use static_str::Printed;
+
+// The most bytes of commands from standard input.
+const MAX_INPUT: usize = 524288;
+
+// The most bytes of a text on the command line: more than of any that is read.
+const MAX_ARGUMENT: usize = 4096;
+
+// The most bytes of a line that is written.
+const MAX_LINE: usize = 8192;
 
 fn say(s: &[u8]) {
     io::write_all(STDOUT_FILENO, s);
@@ -67,7 +78,7 @@ fn complain(command: &[u8], why: &[u8]) {
 }
 
 fn say_refused(text: &[u8], why: &[u64; 4]) {
-    let mut out = [0u8; 8192];
+    let mut out = [0u8; MAX_LINE];
     let at = show::put_refused(&mut out, text, why);
     say_line(&mut out, at);
 }
@@ -81,7 +92,7 @@ fn say_decided(answer: bool) {
 }
 
 fn say_node(nodes: &[u64], names: &[u8], i: u16, last: u16) {
-    let mut out = [0u8; 8192];
+    let mut out = [0u8; MAX_LINE];
     let at = show::put_node(&mut out, nodes, names, i, last);
     say_line(&mut out, at);
 }
@@ -111,7 +122,7 @@ fn say_tree(words: &[u64], names: &[u8]) {
 }
 
 fn say_rest(rest: &[u8]) {
-    let mut out = [0u8; 8192];
+    let mut out = [0u8; MAX_LINE];
     if rest.len() == 0 {
         say(b"no rest\n");
     } else {
@@ -133,16 +144,16 @@ fn reads(text: &[u8], words: &mut [u64], names: &mut [u8]) -> bool {
 }
 
 fn answer_read(text: &[u8]) {
-    let mut words = [0u64; 8008];
-    let mut names = [0u8; 2000];
+    let mut words = [0u64; MAX_WORDS];
+    let mut names = [0u8; MAX_TEXT];
     if reads(text, &mut words, &mut names) {
         say_tree(&words, &names);
     }
 }
 
 fn answer_start(text: &[u8]) {
-    let mut words = [0u64; 8008];
-    let mut names = [0u8; 2000];
+    let mut words = [0u64; MAX_WORDS];
+    let mut names = [0u8; MAX_TEXT];
     let mut answer = [0u64; 4];
     let rest = encoding_box::from_start_of_str(text, &mut words, &mut names, &mut answer);
     if answer[0] == 0 {
@@ -154,7 +165,7 @@ fn answer_start(text: &[u8]) {
 }
 
 fn say_print(text: &[u8], words: &[u64], names: &[u8]) {
-    let mut out = [0u8; 8192];
+    let mut out = [0u8; MAX_LINE];
     match static_str::static_encoding_str_array(words, names, &mut out) {
         Printed::Refused(why) => say_refused(text, &why.words()),
         Printed::Bytes(n) => say_line(&mut out, n),
@@ -162,8 +173,8 @@ fn say_print(text: &[u8], words: &[u64], names: &[u8]) {
 }
 
 fn answer_print(text: &[u8]) {
-    let mut words = [0u64; 8008];
-    let mut names = [0u8; 2000];
+    let mut words = [0u64; MAX_WORDS];
+    let mut names = [0u8; MAX_TEXT];
     if reads(text, &mut words, &mut names) {
         say_print(text, &words, &names);
     }
@@ -176,8 +187,8 @@ fn say_size(n: u64) {
 }
 
 fn answer_size(text: &[u8]) {
-    let mut words = [0u64; 8008];
-    let mut names = [0u8; 2000];
+    let mut words = [0u64; MAX_WORDS];
+    let mut names = [0u8; MAX_TEXT];
     if reads(text, &mut words, &mut names) {
         match encoding::size(&words, &names) {
             Sized::Refused(why) => say_refused(text, &why.words()),
@@ -189,8 +200,8 @@ fn answer_size(text: &[u8]) {
 
 // The second text is not read: it is held against the tree.
 fn answer_match(a: &[u8], text: &[u8]) {
-    let mut words = [0u64; 8008];
-    let mut names = [0u8; 2000];
+    let mut words = [0u64; MAX_WORDS];
+    let mut names = [0u8; MAX_TEXT];
     if reads(a, &mut words, &mut names) {
         match encoding::equivalent_to_str(&words, &names, text) {
             Compared::Refused(why) => say_refused(text, &why.words()),
@@ -209,8 +220,8 @@ fn compared(all: bool, aw: &[u64], an: &[u8], bw: &[u64], bn: &[u8]) -> Compared
 
 // Compares a tree with that of a text.
 fn compare_with(all: bool, a: &[u8], aw: &[u64], an: &[u8], b: &[u8]) {
-    let mut bw = [0u64; 8008];
-    let mut bn = [0u8; 2000];
+    let mut bw = [0u64; MAX_WORDS];
+    let mut bn = [0u8; MAX_TEXT];
     if reads(b, &mut bw, &mut bn) {
         match compared(all, aw, an, &bw, &bn) {
             Compared::Refused(why) => say_refused(a, &why.words()),
@@ -220,8 +231,8 @@ fn compare_with(all: bool, a: &[u8], aw: &[u64], an: &[u8], b: &[u8]) {
 }
 
 fn answer_compare(all: bool, a: &[u8], b: &[u8]) {
-    let mut words = [0u64; 8008];
-    let mut names = [0u8; 2000];
+    let mut words = [0u64; MAX_WORDS];
+    let mut names = [0u8; MAX_TEXT];
     if reads(a, &mut words, &mut names) {
         compare_with(all, a, &words, &names, b);
     }
@@ -307,7 +318,7 @@ fn answer_lines(input: &[u8]) {
 }
 
 fn answer_input() {
-    let mut input = [0u8; 524288];
+    let mut input = [0u8; MAX_INPUT];
     let n = io::read_full(STDIN_FILENO, &mut input);
     answer_lines(&input[..n]);
 }
@@ -321,10 +332,10 @@ fn load(i: usize, list: &mut [u8]) -> usize {
     n
 }
 
-// Answers the command line, which has `texts` words after the command. A list is longer than any text that is read.
+// Answers the command line, which has `texts` words after the command.
 fn answer_arguments(command: &[u8], texts: usize) {
-    let mut a = [0u8; 4096];
-    let mut b = [0u8; 4096];
+    let mut a = [0u8; MAX_ARGUMENT];
+    let mut b = [0u8; MAX_ARGUMENT];
     let n = load(2, &mut a);
     let m = load(3, &mut b);
     answer(command, texts, lines::front(&a, n), lines::front(&b, m));

@@ -4,8 +4,24 @@ ghost use mathlib.Core.List.{[], _∷_};
 ghost use lib.ListN.{take, drop, getD};
 ghost use Rattle.lines.specs.Answer.{Put};
 ghost use Rattle.tool.specs.Answer.{countOf, shownByte, shownText, times, depthOf, lineOf, countText, kindNames, valuesText, rightText, nodeText, byteText, containerText, shownOrCut, markText, reasons, namedText, refusedText};
+use kinds::ARRAY;
+use kinds::BIT_FIELD;
 use kinds::MAX_TEXT;
+use kinds::STRUCT;
+use kinds::TYPED_BIT_FIELD;
 use kinds::UNION;
+
+// Document 01's numbers of the refusals that name a byte or a container.
+const UNKNOWN: u64 = 8;
+
+const UNKNOWN_AFTER_COMPLEX: u64 = 9;
+
+const WRONG_END_CONTAINER: u64 = 13;
+
+const INVALID_IDENTIFIER: u64 = 14;
+
+// The first number of a refusal that has a place.
+const FIRST_PLACED: u64 = 7;
 
 // The word at `i`, or 0 beyond the end.
 fn word_at(words: &[u64], i: usize) -> u64
@@ -140,14 +156,14 @@ fn put_values(out: &mut [u8], at: usize, names: &[u8], kind: u64, first: u64, se
     ensures { λ r. ⌜ Put (now (out .entry)) at (valuesText (now (names .entry)) kind first second) (now (out .exit)) r ⌝ }
 {
     match kind {
-        24 => put_count(out, at, second, b"bit"),
-        25 => {
+        BIT_FIELD => put_count(out, at, second, b"bit"),
+        TYPED_BIT_FIELD => {
             let offset = lines::put_number(out, at, first);
             let of = lines::put_bytes(out, offset, b" of ");
             put_count(out, of, second, b"bit")
         }
-        28 => lines::put_number(out, at, first),
-        29 | 30 => lines::put_bytes(out, at, part(names, first as usize, second as usize)),
+        ARRAY => lines::put_number(out, at, first),
+        STRUCT | UNION => lines::put_bytes(out, at, part(names, first as usize, second as usize)),
         _ => at,
     }
 }
@@ -215,7 +231,7 @@ fn put_text(out: &mut [u8], at: usize, text: &[u8]) -> usize
 fn put_mark(out: &mut [u8], at: usize, number: u64, place: u64) -> usize
     ensures { λ r. ⌜ Put (now (out .entry)) at (markText number place) (now (out .exit)) r ⌝ }
 {
-    if number < 7 {
+    if number < FIRST_PLACED {
         return at;
     }
     let line = lines::put_bytes(out, at, b"\n");
@@ -251,8 +267,8 @@ fn put_named(out: &mut [u8], at: usize, number: u64, byte: u64, container: u64) 
     ensures { λ r. ⌜ Put (now (out .entry)) at (namedText number byte container) (now (out .exit)) r ⌝ }
 {
     match number {
-        8 | 9 => put_byte(out, at, byte),
-        13 | 14 => put_container(out, at, container),
+        UNKNOWN | UNKNOWN_AFTER_COMPLEX => put_byte(out, at, byte),
+        WRONG_END_CONTAINER | INVALID_IDENTIFIER => put_container(out, at, container),
         _ => at,
     }
 }
