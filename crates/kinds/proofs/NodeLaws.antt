@@ -197,9 +197,6 @@ leaf-end s w at h e =
     let c = eqb-true (countAt w at) 1 (sym e ∙ node-arity w at h) in
     no-trees s w (countAt w at - 1) (at + 4) (omega arith)
 
-pub leaf-count : (w : List ℕ) (at : ℕ) → NodeAt w at → kindAt w at < 25 → countAt w at ≡ 1
-leaf-count w at h p = eqb-true (countAt w at) 1 (sym (arity-low (kindAt w at) (countAt w at) (countAt w (at + 4)) p) ∙ node-arity w at h)
-
 module _ (w : List ℕ) (m at n : ℕ) (h : KindsAndNames w m at n) where
   pub walk-here : 0 < n → KindAndName w m at
   walk-here p = subst (KindAndName w m) (omega arith) (h 0 p)
