@@ -4,7 +4,7 @@ use native.Mathlib.Omega.{arith}
 use mathlib.Core.Path.{_≡_, refl, ap, ap₂, sym, _∙_, subst}
 use mathlib.Core.List.{List, [], _∷_}
 use mathlib.Core.Bool.{Bool, true, false, cond, _||_, false≢true}
-use borrow.Author.Tests.{le-leb, leb-true, leb-false, ne-eqb, eqb-true}
+use borrow.Author.Tests.{le-leb, leb-true, leb-false, ne-eqb}
 use lib.ListN.{length, take, drop, List·getD-eq-default}
 use lib.Dec.{leb, eqb}
 use Rattle.kinds.proofs.SheetLaws.{trees-step}
