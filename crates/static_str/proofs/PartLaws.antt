@@ -2,7 +2,7 @@
 use Prim.Native.Nat.{ℕ, _+_, _-_, _≤_, _<_}
 use native.Mathlib.Omega.{arith}
 use mathlib.Core.Path.{_≡_, refl, ap, ap₂, sym, _∙_}
-use mathlib.Core.Bool.{Bool, true, false, cond, false≢true}
+use mathlib.Core.Bool.{Bool, true, false, cond, _||_, false≢true}
 use mathlib.Core.List.{List, [], _∷_, _++_}
 use borrow.Author.Tests.{le-leb, lt-leb, lt-ltb, le-ltb, eq-eqb, ne-eqb, eqb-true}
 use lib.Dec.{eqb, ltb}
@@ -10,7 +10,7 @@ use lib.ListN.{length, take, drop, length-append, length-drop}
 use lib.Seq.{length-take-le}
 use Rattle.kinds.specs.Container.{startByte, endByte}
 use Rattle.kinds.specs.Level.{containerIncludeFields}
-use Rattle.kinds.specs.Kind.{containerOf}
+use Rattle.kinds.specs.Kind.{containerOf, isIndirection}
 use Rattle.kinds.specs.Primitive.{codes, code}
 use Rattle.kinds.specs.Print.{decimal, fields}
 use Rattle.kinds.specs.Sheet.{isContainerKind}
@@ -66,7 +66,7 @@ module _ (k : ℕ) (h : k < 24) where
   unfolding codeLength
   code-other p q = rw (le-ltb k 13 (omega arith), le-ltb k 16 p, ne-eqb k 20 q) at (code-length k h)
 
-low-no-container : (k : ℕ) → k < 29 → isContainerKind k ≡ false
+pub low-no-container : (k : ℕ) → k < 29 → isContainerKind k ≡ false
 low-no-container k p = rw (ne-eqb k 29 (λ d. omega arith), ne-eqb k 30 (λ d. omega arith))
 
 module _ (k b : ℕ) where
@@ -139,11 +139,19 @@ module _ (s : List ℕ) (k a b : ℕ) (v : NestingLevel) where
   pub own-typed : k ≡ 25 → 1 + length (decimal a) + length (decimal b) ≡ length (opening s k a b v) + length (closing k b)
   own-typed p = rw (opening-typed p, closing-typed k b p) (omega arith)
 
-  pub own-pointer : k ≡ 26 → 1 ≡ length (opening s k a b v) + length (closing k b)
+  own-pointer : k ≡ 26 → 1 ≡ length (opening s k a b v) + length (closing k b)
   own-pointer p = rw (opening-pointer p, closing-none k b (λ d. omega arith) (λ d. omega arith) (low-no-container k (omega arith)))
 
-  pub own-atomic : k ≡ 27 → 1 ≡ length (opening s k a b v) + length (closing k b)
+  own-atomic : k ≡ 27 → 1 ≡ length (opening s k a b v) + length (closing k b)
   own-atomic p = rw (opening-atomic p, closing-none k b (λ d. omega arith) (λ d. omega arith) (low-no-container k (omega arith)))
+
+  pub own-indirection : isIndirection k ≡ true → 1 ≡ length (opening s k a b v) + length (closing k b)
+  own-indirection h = go (eqb k 26) refl (eqb k 27) refl h
+    where
+      go : (t : Bool) → eqb k 26 ≡ t → (u : Bool) → eqb k 27 ≡ u → (t || u) ≡ true → 1 ≡ length (opening s k a b v) + length (closing k b)
+      go true e u f r = own-pointer (eqb-true k 26 e)
+      go false e true f r = own-atomic (eqb-true k 27 f)
+      go false e false f r = absurd (false≢true r)
 
   pub own-array : k ≡ 28 → 2 + length (decimal a) ≡ length (opening s k a b v) + length (closing k b)
   own-array p = rw (opening-array p, closing-array k b p) (omega arith)

@@ -1,21 +1,21 @@
--- Trees side by side are one run of nodes, and a walk of the length may pass into a node's children as if they were trees after it.
+-- Trees side by side are one run of nodes, and the length may pass into children at their parent's level as if they were trees after it.
 use Prim.Native.Nat.{ℕ, zero, suc, _+_, _-_, _*_, _≤_, _<_}
 use native.Mathlib.Omega.{arith}
-use mathlib.Core.Path.{_≡_, refl, ap, ap₂, sym, _∙_, subst}
+use mathlib.Core.Path.{_≡_, ap, ap₂, sym, _∙_, subst}
 use mathlib.Core.Bool.{true}
 use mathlib.Core.List.{List, _++_, append-assoc}
 use lib.ListN.{length, length-append}
 use Rattle.kinds.specs.Print.{printNode, print}
-use Rattle.kinds.specs.Kind.{childrenLevel}
+use Rattle.kinds.specs.Kind.{childrenLevel, insideKind}
 use Rattle.kinds.specs.Sheet.{kindAt, countAt, labelAt, trees, nests}
 use Rattle.kinds.specs.Tree.{inside}
 use Rattle.kinds.specs.Walk.{TreesAt}
+use Rattle.kinds.specs.declared.Fields.the-variants.{Included, Dropped}
 use Rattle.kinds.specs.declared.NestingLevel.{NestingLevel}
+use Rattle.kinds.proofs.KindLaws.{children-kept}
 use Rattle.kinds.proofs.SheetLaws.{trees-step}
 use Rattle.kinds.proofs.NodeLaws.{node-inner, first-some, first-within, first-node, other-trees, nests-run, walk-inner}
-use Rattle.static_str.specs.Parts.{childrenText, fieldsBelow, passed, passedText, maxNodeText, PassedLength, TreesLength}
-use Rattle.static_str.specs.declared.Below.{Below}
-use Rattle.static_str.specs.declared.Below.the-variants.{Same, Hidden, Deeper}
+use Rattle.static_str.specs.Parts.{childrenText, maxNodeText, ChildrenLength, TreesLength}
 use Rattle.static_str.proofs.PrintLaws.{no-text, dropped-text, included-text}
 
 module _ (s w : List ℕ) (v : NestingLevel) where
@@ -41,7 +41,7 @@ module _ (s w : List ℕ) (v : NestingLevel) where
 
 module _ (w : List ℕ) (at m : ℕ) (h : TreesAt w at m) (p : 0 < m) where
   -- the children and the trees after the first, as one run
-  inner-run : TreesAt w (at + 4 * 1) (m - 1)
+  pub inner-run : TreesAt w (at + 4) (m - 1)
   inner-run =
       let c = first-within w at m h p in
       let i = first-some w at m h p in
@@ -55,26 +55,8 @@ module _ (w : List ℕ) (at m : ℕ) (h : TreesAt w at m) (p : 0 < m) where
             (subst (λ (j : ℕ). nests w (m - countAt w at) j ≡ true) (omega arith) (o .nested));
       }
 
-  pass-trees-of : (b : Below) → TreesAt w (at + 4 * passed b (countAt w at)) (m - passed b (countAt w at))
-  pass-trees-of Same = inner-run
-  pass-trees-of Hidden = other-trees w at m h p
-  pass-trees-of (Deeper u) = other-trees w at m h p
-
-  pub pass-trees : (b : Below) (k : ℕ) → k ≡ passed b (countAt w at) → TreesAt w (at + 4 * k) (m - k)
-  pass-trees b k e = subst (λ (n : ℕ). TreesAt w (at + 4 * n) (m - n)) (sym e) (pass-trees-of b)
-
-  pub pass-some : (b : Below) → 1 ≤ passed b (countAt w at)
-  pass-some Same = omega arith
-  pass-some Hidden = first-some w at m h p
-  pass-some (Deeper u) = first-some w at m h p
-
-  pub pass-within : (b : Below) → passed b (countAt w at) ≤ m
-  pass-within Same = p
-  pass-within Hidden = first-within w at m h p
-  pass-within (Deeper u) = first-within w at m h p
-
   module _ (s : List ℕ) (v : NestingLevel) where
-    inner-text : length (print v (trees s w (m - 1) (at + 4 * 1))) ≡ length (print v (trees s w (countAt w at - 1) (at + 4))) + length
+    inner-text : length (print v (trees s w (m - 1) (at + 4))) ≡ length (print v (trees s w (countAt w at - 1) (at + 4))) + length
         (print v (trees s w (m - countAt w at) (at + 4 * countAt w at)))
     inner-text =
         let c = first-within w at m h p in
@@ -84,26 +66,20 @@ module _ (w : List ℕ) (at m : ℕ) (h : TreesAt w at m) (p : 0 < m) where
         ∙ length-append (print v (trees s w (countAt w at - 1) (at + 4))) (print v (trees s w (m - countAt w at) (at + 4 + 4 * (countAt w at - 1))))
         ∙ ap (λ (j : ℕ). length (print v (trees s w (countAt w at - 1) (at + 4))) + length (print v (trees s w (m - countAt w at) j))) (omega arith)
 
-    pub pass-text : (b : Below) → fieldsBelow v b ≡ childrenLevel (kindAt w at) v
-        → length (passedText b (trees s w (countAt w at - 1) (at + 4))) + length
-        (print v (trees s w (m - passed b (countAt w at)) (at + 4 * passed b (countAt w at))))
-        ≡ length (childrenText s w at v) + length (print v (trees s w (m - countAt w at) (at + 4 * countAt w at)))
-    pass-text Same e = omega (arith, inner-text, ap length (included-text s w v at v (sym e)))
-    pass-text Hidden e = omega (arith, ap length (dropped-text s w v at (sym e)))
-    pass-text (Deeper u) e = omega (arith, ap length (included-text s w v at u (sym e)))
+    -- a node whose children stand at its own level: they and the trees after it are one run
+    pub kept-text : insideKind (kindAt w at) v ≡ v → length (print v (trees s w (m - 1) (at + 4))) ≡ length (childrenText s w at v) + length
+        (print v (trees s w (m - countAt w at) (at + 4 * countAt w at)))
+    kept-text e = omega (arith, inner-text, ap length (included-text s w v at v (children-kept (kindAt w at) v e)))
 
--- the length of what is passed with a node, and its bound
-module _ (w : List ℕ) (at : ℕ) where
-  pub same-passed : {b : Below} → b ≡ Same → PassedLength w at b 0 × (0 + maxNodeText ≤ maxNodeText * passed b (countAt w at))
-  same-passed e = subst (λ (x : Below). PassedLength w at x 0 × (0 + maxNodeText ≤ maxNodeText * passed x (countAt w at))) (sym e) (λ s k. refl, omega arith)
+-- the length of the text of a node's children, and its bound
+module _ (w : List ℕ) (at : ℕ) (v : NestingLevel) (p : 1 ≤ countAt w at) where
+  pub dropped-length : childrenLevel (kindAt w at) v ≡ Dropped → ChildrenLength w at v 0 × (0 + maxNodeText ≤ maxNodeText * countAt w at)
+  dropped-length e = (λ s k. let t = ap length (dropped-text s w v at e) in omega arith, omega arith)
 
-  pub hidden-passed : {b : Below} → b ≡ Hidden → 1 ≤ countAt w at → PassedLength w at b 0 × (0 + maxNodeText ≤ maxNodeText * passed b (countAt w at))
-  hidden-passed e p = subst (λ (x : Below). PassedLength w at x 0 × (0 + maxNodeText ≤ maxNodeText * passed x (countAt w at))) (sym e)
-      (λ s k. refl, omega arith)
-
-  pub deeper-passed : {b : Below} {u : NestingLevel} {r : ℕ} → b ≡ Deeper u → 1 ≤ countAt w at → TreesLength w (at + 4) (countAt w at - 1) u r ×
-      (r ≤ maxNodeText * (countAt w at - 1)) → PassedLength w at b r × (r + maxNodeText ≤ maxNodeText * passed b (countAt w at))
-  deeper-passed {b} {u} {r} e p l =
-      let f = l .1 in
-      subst (λ (x : Below). PassedLength w at x r × (r + maxNodeText ≤ maxNodeText * passed x (countAt w at))) (sym e)
-      (λ s k. l .0 s (walk-inner w (length s) at (countAt w at) k (countAt w at - 1) (omega arith)), omega arith)
+  pub included-length : (u : NestingLevel) (r : ℕ) → childrenLevel (kindAt w at) v ≡ Included u → TreesLength w (at + 4) (countAt w at - 1) u r ×
+      (r ≤ maxNodeText * (countAt w at - 1)) → ChildrenLength w at v r × (r + maxNodeText ≤ maxNodeText * countAt w at)
+  included-length u r e l =
+      let f = l .1 in (
+        λ s k. l .0 s (walk-inner w (length s) at (countAt w at) k (countAt w at - 1) (omega arith)) ∙ sym (ap length (included-text s w v at u e)),
+        omega arith,
+      )

@@ -170,8 +170,3 @@ module _ (s w : List ℕ) (v : NestingLevel) (at : ℕ) where
 pub held-shown : (k : ℕ) (v u : NestingLevel) → 26 ≤ k → k ≤ 27 → u ≡ insideKind k v → childrenLevel k v ≡ Included u
 unfolding childrenLevel
 held-shown k v u lo hi f = rw (ne-eqb k 29 (λ d. omega arith), ne-eqb k 30 (λ d. omega arith)) (ap Included (sym f))
-
--- codes and bitfields keep the level
-pub kept-level : (k : ℕ) (v : NestingLevel) → k < 26 → Included v ≡ childrenLevel k v
-unfolding childrenLevel insideKind
-kept-level k v h = rw (ne-eqb k 26 (λ e. omega arith), ne-eqb k 27 (λ e. omega arith), ne-eqb k 29 (λ e. omega arith), ne-eqb k 30 (λ e. omega arith))

@@ -1,24 +1,25 @@
 -- The loops over trees: what holds at each turn, and that a turn keeps it.
 use Prim.Native.Nat.{ℕ, _+_, _-_, _*_, _≤_, _<_}
 use native.Mathlib.Omega.{arith}
-use mathlib.Core.Path.{_≡_, refl, ap, ap₂, _∙_, subst}
+use mathlib.Core.Path.{_≡_, refl, ap, ap₂, sym, _∙_, subst}
+use mathlib.Core.Bool.{Bool, true, false}
 use mathlib.Core.List.{List, _++_, append-nil}
-use borrow.Author.Tests.{ne-eqb}
+use borrow.Author.Tests.{leb-true, leb-false, ne-eqb}
+use lib.Dec.{leb}
 use lib.ListN.{length}
 use Rattle.kinds.specs.Print.{print}
-use Rattle.kinds.specs.Kind.{childrenLevel, insideKind}
+use Rattle.kinds.specs.Kind.{insideKind}
 use Rattle.kinds.specs.Sheet.{kindAt, firstAt, secondAt, countAt, trees}
 use Rattle.kinds.specs.Walk.{NodeAt, TreesAt, KindAndName, KindsAndNames}
-use Rattle.kinds.specs.declared.Fields.the-variants.{Included}
 use Rattle.kinds.specs.declared.NestingLevel.{NestingLevel}
-use Rattle.kinds.proofs.NodeLaws.{node-inner, walk-inner, first-some, first-within, first-node, other-trees, walk-here, walk-first, walk-rest}
+use Rattle.kinds.proofs.KindLaws.{inside-low}
+use Rattle.kinds.proofs.NodeLaws.{leaf-count, node-inner, walk-inner, first-some, first-within, first-node, other-trees, walk-here, walk-first, walk-rest}
 use Rattle.static_str.specs.Output.{Wrote}
-use Rattle.static_str.specs.Parts.{opening, closing, childrenText, fieldsBelow, passed, maxNodeText, OwnLength, PassedLength, TreesLength}
-use Rattle.static_str.specs.declared.Below.{Below}
+use Rattle.static_str.specs.Parts.{opening, closing, childrenText, maxNodeText, OwnLength, ChildrenLength, TreesLength}
 use Rattle.static_str.proofs.OutputLaws.{ToWrite, to-write, room-for, then-write, all-written, written-length}
-use Rattle.static_str.proofs.PartLaws.{closing-none}
-use Rattle.static_str.proofs.PrintLaws.{trees-text, trees-length, no-text, included-text, held-shown}
-use Rattle.static_str.proofs.PassLaws.{pass-trees, pass-some, pass-within, pass-text}
+use Rattle.static_str.proofs.PartLaws.{closing-none, low-no-container}
+use Rattle.static_str.proofs.PrintLaws.{trees-text, trees-length, no-text, no-children, included-text, held-shown}
+use Rattle.static_str.proofs.PassLaws.{inner-run, kept-text}
 
 -- `left` of the `n` nodes from `from` on are left, from `at` on, and each has a kind and a name among `m` bytes.
 pub record Left (w : List ℕ) (m from n at left : ℕ) : Type 0 where
@@ -101,6 +102,24 @@ module _ {s w : List ℕ} {v : NestingLevel} {before all out : List ℕ} {start 
         pub room-to-fill : to₁ + length inner ≤ length out₁
         room-to-fill = room-for inner (closes ++ others) opened
 
+        -- a code or a bitfield: the tree after it comes next
+        module _ (k : kindAt w at < 25) where
+          alone : countAt w at ≡ 1
+          alone = leaf-count w at (node-here (i .nodes) p) k
+
+          leaf-text : inner ++ (closes ++ others) ≡ print v (trees s w (left - 1) (at + 4))
+          leaf-text =
+              ap₂ _++_ (no-children s w v at (omega (arith, alone)))
+              (ap₂ _++_ (closing-none (kindAt w at) (secondAt w at) (λ d. omega arith) (λ d. omega arith) (low-no-container (kindAt w at) (omega arith)))
+              (ap (λ (j : ℕ). print v (trees s w (left - j) (at + 4 * j))) alone))
+
+          leaf-next : Printing s w v before start from n all out₁ (at + 4) (left - 1) to₁
+          leaf-next = record {
+            nodes = subst (λ (j : ℕ). Left w (length s) from n (at + 4 * j) (left - j)) alone (others-left (i .nodes) p);
+            room = ap length (x .text) ∙ written-length out to opens room-to-open ∙ i .room;
+            text = subst (λ (z : List ℕ). ToWrite before start all out₁ to₁ z) leaf-text opened;
+          }
+
         -- a pointer or an atomic that no tree follows: what it holds comes next, at its own level
         module _ (lo : 26 ≤ kindAt w at) (hi : kindAt w at ≤ 27) (e : countAt w at ≡ left) (u : NestingLevel) (f : u ≡ insideKind (kindAt w at) v) where
           held-text : inner ++ (closes ++ others) ≡ print u (trees s w (left - 1) (at + 4))
@@ -112,7 +131,7 @@ module _ {s w : List ℕ} {v : NestingLevel} {before all out : List ℕ} {start 
               (no-text s w v (left - countAt w at) (at + 4 * countAt w at) (omega arith)))
               ∙ append-nil (print u (trees s w (left - 1) (at + 4)))
 
-          pub held-next : Printing s w u before start from n all out₁ (at + 4) (left - 1) to₁
+          held-next : Printing s w u before start from n all out₁ (at + 4) (left - 1) to₁
           held-next = record {
             nodes =
                 let ends = i .nodes .ends in
@@ -126,6 +145,17 @@ module _ {s w : List ℕ} {v : NestingLevel} {before all out : List ℕ} {start 
             room = ap length (x .text) ∙ written-length out to opens room-to-open ∙ i .room;
             text = subst (λ (z : List ℕ). ToWrite before start all out₁ to₁ z) held-text opened;
           }
+
+        pub walked-next : (25 ≤ kindAt w at → (26 ≤ kindAt w at) × (kindAt w at ≤ 27) × (countAt w at ≡ left)) → (u : NestingLevel)
+            → u ≡ insideKind (kindAt w at) v → Printing s w u before start from n all out₁ (at + 4) (left - 1) to₁
+        walked-next h u f = go (leb 25 (kindAt w at)) refl
+          where
+            go : (t : Bool) → leb 25 (kindAt w at) ≡ t → Printing s w u before start from n all out₁ (at + 4) (left - 1) to₁
+            go true e = let k = h (leb-true 25 (kindAt w at) e) in held-next (k .0) (k .1) (k .2) u f
+            go false e =
+                let k = leb-false 25 (kindAt w at) e in
+                subst (λ (y : NestingLevel). Printing s w y before start from n all out₁ (at + 4) (left - 1) to₁)
+                (sym (f ∙ inside-low (kindAt w at) v (omega arith))) (leaf-next k)
 
         module _ {out₂ : List ℕ} {to₂ : ℕ} (y : Wrote out₁ to₁ inner out₂ to₂) where
           filled : ToWrite before start all out₂ to₂ (closes ++ others)
@@ -160,32 +190,19 @@ module _ {w : List ℕ} {v : NestingLevel} {from n at left len : ℕ} (i : Measu
   pub measured : left ≤ 0 → TreesLength w from n v len × (len ≤ maxNodeText * n)
   measured p = (λ s k. let e = i .sum s k .1 in let f = ap length (no-text s w v left at p) in omega arith, let b = i .bound in omega arith)
 
-  module _ (p : 0 < left) (b : Below) where
-    pub passed-some : 1 ≤ passed b (countAt w at)
-    passed-some = pass-some w at left (i .nodes .whole) p b
-
-    pub passed-within : passed b (countAt w at) ≤ left
-    passed-within = pass-within w at left (i .nodes .whole) p b
-
-    -- a turn, which passes `k` nodes
-    pub summed : fieldsBelow v b ≡ childrenLevel (kindAt w at) v → (k own inner : ℕ) → k ≡ passed b (countAt w at)
-        → OwnLength (kindAt w at) (firstAt w at) (secondAt w at) v own × (own ≤ maxNodeText)
-        → PassedLength w at b inner × (inner + maxNodeText ≤ maxNodeText * passed b (countAt w at))
+  module _ (p : 0 < left) {own : ℕ} (o : OwnLength (kindAt w at) (firstAt w at) (secondAt w at) v own × (own ≤ maxNodeText)) where
+    -- a turn, which passes `k` nodes and with them `inner` bytes of the children's text
+    measured-on : (k inner : ℕ) → k ≤ left → inner + maxNodeText ≤ maxNodeText * k → TreesAt w (at + 4 * k) (left - k)
+        → ((s : List ℕ) → KindsAndNames w (length s) at left → inner + length (print v (trees s w (left - k) (at + 4 * k))) ≡ length (childrenText s w at v)
+        + length (print v (trees s w (left - countAt w at) (at + 4 * countAt w at))))
         → Measuring w v from n (at + 4 * k) (left - k) (len + own + inner)
-    summed q k own inner e o r =
-        let few = passed-within in
+    measured-on k inner few more later r =
         let fits = o .1 in
-        let more = r .1 in
         let sofar = i .bound in
         let ends = i .nodes .ends in
         let less = i .nodes .few in
         record {
-          nodes = record {
-            ends = omega arith;
-            few = omega arith;
-            whole = pass-trees w at left (i .nodes .whole) p b k e;
-            named = walk-rest w 2000 at left (i .nodes .named) k (omega arith);
-          };
+          nodes = record { ends = omega arith; few = omega arith; whole = later; named = walk-rest w 2000 at left (i .nodes .named) k few };
           bound = omega arith;
           sum = λ s all. total s (i .sum s all .0) (i .sum s all .1);
         }
@@ -193,10 +210,18 @@ module _ {w : List ℕ} {v : NestingLevel} {from n at left len : ℕ} (i : Measu
         total : {rest : ℕ} (s : List ℕ) → KindsAndNames w (length s) at left → len + length (print v (trees s w left at)) ≡ rest
             → KindsAndNames w (length s) (at + 4 * k) (left - k) × (len + own + inner + length (print v (trees s w (left - k) (at + 4 * k))) ≡ rest)
         total s names g =
-            let few = passed-within in
             let x = trees-length s w v at left (i .nodes .whole) p (here (i .nodes) p .kind) in
-            let y = pass-text w at left (i .nodes .whole) p s v b q in
-            let z = ap (λ (j : ℕ). length (print v (trees s w (left - j) (at + 4 * j)))) e in
+            let y = r s names in
             let f = o .0 s (walk-here w (length s) at left names p .name) in
-            let h = r .0 s (walk-first w (length s) at left names (countAt w at) (node-within (i .nodes) p)) in
-            (walk-rest w (length s) at left names k (omega arith), omega arith)
+            (walk-rest w (length s) at left names k few, omega arith)
+
+    pub kept-on : insideKind (kindAt w at) v ≡ v → Measuring w v from n (at + 4) (left - 1) (len + own)
+    kept-on e = subst (λ (j : ℕ). Measuring w v from n (at + 4) (left - 1) j) (omega arith)
+        (measured-on 1 0 p (omega arith) (inner-run w at left (i .nodes .whole) p)
+        (λ s names. let t = kept-text w at left (i .nodes .whole) p s v e in omega arith))
+
+    pub summed : {inner : ℕ} → ChildrenLength w at v inner × (inner + maxNodeText ≤ maxNodeText * countAt w at)
+        → Measuring w v from n (at + 4 * countAt w at) (left - countAt w at) (len + own + inner)
+    summed {inner} r = measured-on (countAt w at) inner (node-within (i .nodes) p) (r .1) (other-trees w at left (i .nodes .whole) p) (λ s names.
+        ap (λ (j : ℕ). j + length (print v (trees s w (left - countAt w at) (at + 4 * countAt w at))))
+        (r .0 s (walk-first w (length s) at left names (countAt w at) (node-within (i .nodes) p))))

@@ -17,8 +17,6 @@ use Rattle.kinds.specs.declared.Fields.{Fields}
 use Rattle.kinds.specs.declared.Fields.the-variants.{Included, Dropped}
 use Rattle.kinds.specs.declared.IndirectionKind.the-variants.{Atomic, Pointer}
 use Rattle.kinds.specs.declared.NestingLevel.{NestingLevel}
-use Rattle.static_str.specs.declared.Below.{Below}
-use Rattle.static_str.specs.declared.Below.the-variants.{Same, Hidden, Deeper}
 
 -- Kind `k`, numbers `a` and `b`.
 unfoldable pub opening : List ℕ → ℕ → ℕ → ℕ → NestingLevel → List ℕ
@@ -53,27 +51,9 @@ maxNodeText = 2003
 abbrev pub OwnLength : ℕ → ℕ → ℕ → NestingLevel → ℕ → Type 0
 OwnLength k a b v r = (names : List ℕ) → (isContainerKind k ≡ true → a + b ≤ length names) → r ≡ length (opening names k a b v) + length (closing k b)
 
--- Where a node's children stand: at its own level, not shown, or at another level.
-abbrev pub fieldsBelow : NestingLevel → Below → Fields
-fieldsBelow v Same = Included v
-fieldsBelow v Hidden = Dropped
-fieldsBelow v (Deeper u) = Included u
-
--- The nodes that a walk of the length passes at once with a node of `c` nodes: children at its own level are walked like the trees after it.
-abbrev pub passed : Below → ℕ → ℕ
-passed Same c = 1
-passed Hidden c = c
-passed (Deeper u) c = c
-
--- The text of the children that are passed.
-abbrev pub passedText : Below → Trees → List ℕ
-passedText Same ts = []
-passedText Hidden ts = []
-passedText (Deeper u) ts = print u ts
-
--- `r` is the length of the text of the children of the node at `at` that are passed, whatever the names.
-abbrev pub PassedLength : List ℕ → ℕ → Below → ℕ → Type 0
-PassedLength w at b r = (names : List ℕ) → KindsAndNames w (length names) at (countAt w at) → r ≡ length (passedText b (trees names w (countAt w at - 1) (at + 4)))
+-- `r` is the length of the text of the children of the node at `at`, whatever the names.
+abbrev pub ChildrenLength : List ℕ → ℕ → NestingLevel → ℕ → Type 0
+ChildrenLength w at v r = (names : List ℕ) → KindsAndNames w (length names) at (countAt w at) → r ≡ length (childrenText names w at v)
 
 -- `r` is the length of the text of the trees of the `n` nodes from `at` on, whatever the names.
 abbrev pub TreesLength : List ℕ → ℕ → ℕ → NestingLevel → ℕ → Type 0

@@ -5,14 +5,14 @@ ghost use mathlib.Core.List.{List, [], _∷_, _++_};
 ghost use lib.ListN.{length};
 ghost use mathlib.Core.Bool.{true};
 ghost use Rattle.kinds.specs.Container.{startByte};
-ghost use Rattle.kinds.specs.Kind.{childrenLevel};
+ghost use Rattle.kinds.specs.Kind.{insideKind};
 ghost use Rattle.kinds.specs.Primitive.{code};
 ghost use Rattle.kinds.specs.Print.{decimal, fields, print};
 ghost use Rattle.kinds.specs.Sheet.{countAt, isContainerKind, trees, maxNodes, maxNames};
 ghost use Rattle.kinds.specs.Walk.{NodeAt, TreesAt, KindsAndNames};
 ghost use Rattle.static_str.specs.Output.{Wrote};
 ghost use Rattle.static_str.specs.Answer.{fitted, placed, encodingLen, encodingArray, encodingOutput};
-ghost use Rattle.static_str.specs.Parts.{opening, closing, childrenText, maxNodeText, OwnLength, fieldsBelow, passed, PassedLength, TreesLength};
+ghost use Rattle.static_str.specs.Parts.{opening, closing, childrenText, maxNodeText, OwnLength, ChildrenLength, TreesLength};
 use kinds::ARRAY;
 use kinds::ATOMIC;
 use kinds::BIT_FIELD;
@@ -27,6 +27,7 @@ use kinds::Refusal;
 use kinds::TYPED_BIT_FIELD;
 use kinds::container_of;
 use kinds::is_container;
+use kinds::is_indirection;
 use kinds::primitive_code;
 use sheet::Checked;
 use sheet::check;
@@ -35,13 +36,6 @@ use sheet::check;
 pub enum Printed {
     Refused(Refusal),
     Bytes(usize),
-}
-
-// Where a node's children stand: at its own level, not shown, or at another level.
-enum Below {
-    Same,
-    Hidden,
-    Deeper(NestingLevel),
 }
 
 // The count of decimal digits.
@@ -169,17 +163,14 @@ fn node_len(kind: u64, first: u64, second: u64, level: NestingLevel) -> usize
     if is_container(kind) {
         return container_len(second, level);
     }
+    if is_indirection(kind) {
+        return 1;
+    }
     if kind == BIT_FIELD {
         return 1 + static_int_str_len(second);
     }
     if kind == TYPED_BIT_FIELD {
         return 1 + static_int_str_len(first) + static_int_str_len(second);
-    }
-    if kind == POINTER {
-        return 1;
-    }
-    if kind == ATOMIC {
-        return 1;
     }
     if kind == ARRAY {
         return 2 + static_int_str_len(first);
@@ -187,58 +178,54 @@ fn node_len(kind: u64, first: u64, second: u64, level: NestingLevel) -> usize
     0
 }
 
-// Children at the level `inner` of a node at `level`.
-fn level_step(level: NestingLevel, inner: NestingLevel) -> Below
-    ensures { λ r. ⌜ fieldsBelow level r ≡ Fields.Included inner ⌝ }
+fn same_level(a: NestingLevel, b: NestingLevel) -> bool
+    ensures { λ r. ⌜ (r ≡ true → a ≡ b) ⌝ }
 {
-    match level {
-        NestingLevel::Top => Below::Deeper(inner),
-        NestingLevel::Within => match inner {
-            NestingLevel::Within => Below::Same,
-            _ => Below::Deeper(inner),
+    match a {
+        NestingLevel::Top => match b {
+            NestingLevel::Top => true,
+            _ => false,
         },
-        NestingLevel::Bottom => match inner {
-            NestingLevel::Bottom => Below::Same,
-            _ => Below::Deeper(inner),
+        NestingLevel::Within => match b {
+            NestingLevel::Within => true,
+            _ => false,
+        },
+        NestingLevel::Bottom => match b {
+            NestingLevel::Bottom => true,
+            _ => false,
         },
     }
 }
 
-fn level_below(kind: u64, level: NestingLevel) -> Below
-    ensures { λ r. ⌜ fieldsBelow level r ≡ childrenLevel kind level ⌝ }
+// Whether a node of this kind keeps the level, so that its children can be walked like the trees after it.
+fn keeps_level(kind: u64, level: NestingLevel) -> bool
+    ensures { λ r. ⌜ (r ≡ true → insideKind kind level ≡ level) ⌝ }
 {
-    // Most nodes are codes and bitfields, which keep the level.
+    // Most nodes are codes and bitfields. What may lead to another level is asked apart, so that each is one test.
     if kind < POINTER {
-        return Below::Same;
+        return true;
     }
-    match level.children(kind) {
-        Fields::Dropped => Below::Hidden,
-        Fields::Included(inner) => level_step(level, inner),
+    if is_container(kind) {
+        return same_level(level.inside(kind), level);
     }
+    if is_indirection(kind) {
+        return same_level(level.inside(kind), level);
+    }
+    true
 }
 
-// The nodes that are passed at once with a node of `count` nodes.
-fn pass(below: Below, count: usize) -> usize
-    ensures { λ r. ⌜ r ≡ passed below count ⌝ }
-{
-    match below {
-        Below::Same => 1,
-        Below::Hidden => count,
-        Below::Deeper(_) => count,
-    }
-}
-
-// The length of the text of the children of the node at `at` that are passed with it.
-fn children_len(nodes: &[u64], at: usize, below: Below) -> usize
+// The length of the text of the children of the node at `at`.
+fn children_len(nodes: &[u64], at: usize, level: NestingLevel) -> usize
     requires { ⌜ NodeAt (now nodes) at × (countAt (now nodes) at ≤ maxNodes) ⌝ }
     requires { ⌜ KindsAndNames (now nodes) maxNames at (countAt (now nodes) at) ⌝ }
-    ensures { λ r. ⌜ PassedLength (now (nodes .entry)) at below r × (r + maxNodeText ≤ maxNodeText * passed below (countAt (now (nodes .entry)) at)) ⌝ }
+    ensures { λ r. ⌜ ChildrenLength (now (nodes .entry)) at level r × (r + maxNodeText ≤ maxNodeText * countAt (now (nodes .entry)) at) ⌝ }
 {
-    let count = nodes[at + 3] as usize;
-    match below {
-        Below::Same => 0,
-        Below::Hidden => 0,
-        Below::Deeper(inner) => trees_len(&nodes[0..], at + 4, count - 1, inner),
+    match level.children(nodes[at]) {
+        Fields::Dropped => 0,
+        Fields::Included(inner) => {
+            let below = nodes[at + 3] as usize - 1;
+            trees_len(&nodes[0..], at + 4, below, inner)
+        }
     }
 }
 
@@ -254,9 +241,13 @@ fn trees_len(nodes: &[u64], from: usize, n: usize, level: NestingLevel) -> usize
     while 0 < left {
         let kind = nodes[at];
         len = len + node_len(kind, nodes[at + 1], nodes[at + 2], level);
-        let children = level_below(kind, level);
-        len = len + children_len(nodes, at, children);
-        let count = pass(children, nodes[at + 3] as usize);
+        if keeps_level(kind, level) {
+            at = at + 4;
+            left = left - 1;
+            continue;
+        }
+        len = len + children_len(nodes, at, level);
+        let count = nodes[at + 3] as usize;
         at = at + 4 * count;
         left = left - count;
     }
@@ -378,21 +369,21 @@ fn print_children(
     }
 }
 
-// Whether a node of this kind and count, the first of the `left` nodes, is a pointer or an atomic that no tree follows.
-fn points_last(kind: u64, count: usize, left: usize) -> bool
-    ensures { λ r. ⌜ (r ≡ true → (26 ≤ kind) × (kind ≤ 27) × (count ≡ left)) ⌝ }
+// Whether nothing is written after what a node of this kind and count, the first of the `left` nodes, holds, so that the nodes after
+// it can be walked on: a code, a bitfield, and a pointer or an atomic that no tree follows.
+fn walked_on(kind: u64, count: usize, left: usize) -> bool
+    ensures { λ r. ⌜ (r ≡ true → 25 ≤ kind → (26 ≤ kind) × (kind ≤ 27) × (count ≡ left)) ⌝ }
 {
-    if kind < POINTER {
-        return false;
+    if kind < TYPED_BIT_FIELD {
+        return true;
     }
-    if ATOMIC < kind {
+    if !is_indirection(kind) {
         return false;
     }
     count == left
 }
 
-// Writes the text of the trees of the `n` nodes from `from` on; the next place. Nothing is written after what a pointer or an atomic
-// holds, so the last of them takes no call.
+// Writes the text of the trees of the `n` nodes from `from` on; the next place.
 fn print_trees(
     nodes: &[u64],
     names: &[u8],
@@ -414,7 +405,7 @@ fn print_trees(
         let second = nodes[at + 2];
         let count = nodes[at + 3] as usize;
         to = open_node(kind, nodes[at + 1], second, names, level, out, to);
-        if points_last(kind, count, left) {
+        if walked_on(kind, count, left) {
             level = level.inside(kind);
             at = at + 4;
             left = left - 1;

@@ -1,11 +1,12 @@
 -- `static_str::children_len` and `static_str::trees_len` meet their contracts. Assumes nothing.
 use Prim.Native.Nat.{ℕ, _+_, _*_, _<_}
+use mathlib.Core.Path.{sym, _∙_}
 use native.Mathlib.Omega.{arith}
 use borrow.Author.Needs.{needs}
 use Rattle.kinds.specs.Sheet.{countAt}
 use Rattle.kinds.proofs.ListLaws.{whole}
-use Rattle.static_str.proofs.PassLaws.{same-passed, hidden-passed, deeper-passed}
-use Rattle.static_str.proofs.TurnLaws.{children-there, here, node-within, node-here, node-named, Measuring, start-measuring, passed-some, passed-within, summed, measured}
+use Rattle.static_str.proofs.PassLaws.{dropped-length, included-length}
+use Rattle.static_str.proofs.TurnLaws.{children-there, here, some-node, node-within, node-here, node-named, Measuring, start-measuring, kept-on, summed, measured}
 use borrow.Fn.Kinds.{In}
 use borrow.Fn.PlainCycle.{Measures, is, falls, and}
 use Rattle.static_str.proofs.children_len.Reads as children-len
@@ -14,9 +15,9 @@ use Rattle.static_str.proofs.+children_len+trees_len.Lts-children_len a
 use Rattle.static_str.proofs.trees_len.Reads as trees-len
 use Rattle.static_str.proofs.trees_len.Kinds as trees-len-kinds
 use Rattle.static_str.proofs.+children_len+trees_len.Lts-trees_len as trees-len-lts
-use Rattle.static_str.proofs.level_below.Reads as level-below-reads
+use Rattle.kinds.proofs.NestingLevel.children.Reads as children-reads
+use Rattle.static_str.proofs.keeps_level.Reads as keeps-level-reads
 use Rattle.static_str.proofs.node_len.Reads as node-len-reads
-use Rattle.static_str.proofs.pass.Reads as pass-reads
 use Rattle.static_str.proofs.+children_len+trees_len.{statement}
 use Rattle.static_str.proofs.+children_len+trees_len.Tie.{close}
 
@@ -46,37 +47,38 @@ trees-len-below t =
     and 1 trees-len-kinds.ps (falls 1 trees-len-kinds.ps _<_ μ-trees-len t) trees-len.Pre
 
 abbrev children-len-claims : ℕ → children-len-lts.Claims
-children-len-claims t = (trees-len-below t, trees-len.Post)
+children-len-claims t = (children-reads.Asked, children-reads.Learnt, trees-len-below t, trees-len.Post)
 
 abbrev trees-len-claims : ℕ → trees-len-lts.Claims
-trees-len-claims t = (
-  node-len-reads.Asked,
-  node-len-reads.Learnt,
-  level-below-reads.Asked,
-  level-below-reads.Learnt,
-  children-len-below t,
-  children-len.Post,
-  pass-reads.Asked,
-  pass-reads.Learnt,
-)
+trees-len-claims t = (node-len-reads.Asked, node-len-reads.Learnt, keeps-level-reads.Asked, keeps-level-reads.Learnt, children-len-below t, children-len.Post)
 
-children-len-add-count : (t : ℕ) → children-len-lts.Need-add-count (children-len-claims t) (children-len-at t) children-len.Post
-children-len-add-count t c = search needs
+children-len-mul-children : (t : ℕ) → children-len-lts.Need-mul-children (children-len-claims t) (children-len-at t) children-len.Post
+children-len-mul-children t c = search needs
 
-children-len-mul-count : (t : ℕ) → children-len-lts.Need-mul-count (children-len-claims t) (children-len-at t) children-len.Post
-children-len-mul-count t c = search needs
+children-len-shared-slice-read-children : (t : ℕ) → children-len-lts.Need-shared-slice-read-children (children-len-claims t) (children-len-at t)
+    children-len.Post
+children-len-shared-slice-read-children t c = search needs
 
-children-len-shared-slice-read-count : (t : ℕ) → children-len-lts.Need-shared-slice-read-count (children-len-claims t) (children-len-at t) children-len.Post
-children-len-shared-slice-read-count t c = search needs
+children-len-children-requires : (t : ℕ) → children-len-lts.Need-children-requires (children-len-claims t) (children-len-at t) children-len.Post
+children-len-children-requires t c κs = search needs
 
 children-len-enum-told : (t : ℕ) → children-len-lts.Need-enum-told (children-len-claims t) (children-len-at t) children-len.Post
 children-len-enum-told t c = search needs
 
-children-len-enum-told-2 : (t : ℕ) → children-len-lts.Need-enum-told-2 (children-len-claims t) (children-len-at t) children-len.Post
-children-len-enum-told-2 t c = search needs
+children-len-enum-known-inner : (t : ℕ) → children-len-lts.Need-enum-known-inner (children-len-claims t) (children-len-at t) children-len.Post
+children-len-enum-known-inner t c = search needs
 
-children-len-enum-known-below : (t : ℕ) → children-len-lts.Need-enum-known-below (children-len-claims t) (children-len-at t) children-len.Post
-children-len-enum-known-below t c = search needs
+children-len-add-below : (t : ℕ) → children-len-lts.Need-add-below (children-len-claims t) (children-len-at t) children-len.Post
+children-len-add-below t c = search needs
+
+children-len-mul-below : (t : ℕ) → children-len-lts.Need-mul-below (children-len-claims t) (children-len-at t) children-len.Post
+children-len-mul-below t c = search needs
+
+children-len-shared-slice-read-below : (t : ℕ) → children-len-lts.Need-shared-slice-read-below (children-len-claims t) (children-len-at t) children-len.Post
+children-len-shared-slice-read-below t c = search needs
+
+children-len-sub-below : (t : ℕ) → children-len-lts.Need-sub-below (children-len-claims t) (children-len-at t) children-len.Post
+children-len-sub-below t c = search needs
 
 children-len-sub-trees-len : (t : ℕ) → children-len-lts.Need-sub-trees-len (children-len-claims t) (children-len-at t) children-len.Post
 children-len-sub-trees-len t c = search needs
@@ -90,30 +92,25 @@ children-len-part-trees-len-end t c = search needs
 children-len-add-trees-len : (t : ℕ) → children-len-lts.Need-add-trees-len (children-len-claims t) (children-len-at t) children-len.Post
 children-len-add-trees-len t c = search needs
 
-children-len-sub-trees-len-2 : (t : ℕ) → children-len-lts.Need-sub-trees-len-2 (children-len-claims t) (children-len-at t) children-len.Post
-children-len-sub-trees-len-2 t c = search needs
-
 children-len-trees-len-requires : (t : ℕ) → children-len-lts.Need-trees-len-requires (children-len-claims t) (children-len-at t) children-len.Post
 children-len-trees-len-requires t c κs =
-    let c6 = c .before .before .before .before .before .before in
-    let p = c6 .pre .1 .0 .0 .some-node in let i = children-there (c6 .pre .1 .0 .0) (c6 .pre .1 .1)
-    in rw whole (omega arith, ((i .0, omega (arith, c6 .pre .1 .0 .1)), i .1))
+    let c8 = c .before .before .before .before .before .before .before .before in
+    let p = c8 .pre .1 .0 .0 .some-node in
+    let i = children-there (c8 .pre .1 .0 .0) (c8 .pre .1 .1) in
+    rw whole (omega arith, ((i .0, omega (arith, c8 .pre .1 .0 .1)), i .1))
 
 children-len-returns : (t : ℕ) → children-len-lts.Need-returns (children-len-claims t) (children-len-at t) children-len.Post
 children-len-returns t c =
-    let c4 = c .before .before .before .before in
-    same-passed (c4 .args .nodes .now) (c4 .args .at) (c .enum-told .given .1)
+    let c2 = c .before .before in
+    let c5 = c2 .before .before .before in
+    dropped-length _ _ _ (c5 .pre .1 .0 .0 .some-node) (sym (c2 .children .ensures) ∙ c .enum-told .given .1)
 
 children-len-returns-2 : (t : ℕ) → children-len-lts.Need-returns-2 (children-len-claims t) (children-len-at t) children-len.Post
 children-len-returns-2 t c =
     let c4 = c .before .before .before .before in
-    hidden-passed (c4 .args .nodes .now) (c4 .args .at) (c .enum-told2 .given .1) (c4 .pre .1 .0 .0 .some-node)
-
-children-len-returns-3 : (t : ℕ) → children-len-lts.Need-returns-3 (children-len-claims t) (children-len-at t) children-len.Post
-children-len-returns-3 t c =
-    let c3 = c .before .before .before in
-    let c7 = c3 .before .before .before .before in
-    deeper-passed (c7 .args .nodes .now) (c7 .args .at) (c3 .below .given .1) (c7 .pre .1 .0 .0 .some-node) (rw whole at (c .trees-len .ensures))
+    let c6 = c4 .before .before in
+    let c9 = c6 .before .before .before in
+    included-length _ _ _ (c9 .pre .1 .0 .0 .some-node) _ _ (sym (c6 .children .ensures) ∙ c4 .inner .given .1) (rw whole at (c .trees-len .ensures))
 
 abbrev trees-len-Inv-loop : trees-len-lts.InvT-loop
 trees-len-Inv-loop nodes from n level at₀ left₀ len₀ at left len = Measuring nodes level from n at left len
@@ -126,49 +123,58 @@ trees-len-loop-holds t c =
     start-measuring _ _ _ _ (c .before .pre .1 .0 .0) (c .before .pre .1 .1)
 
 trees-len-mul-kind : (t : ℕ) → trees-len-lts.Need-mul-kind (trees-len-claims t) (trees-len-at t) trees-len.Post trees-len-Inv-loop trees-len-μ-loop
-trees-len-mul-kind t c = let h = node-here (c .before .loop .inv .nodes) (c .loop-test .taken) in omega arith
+trees-len-mul-kind t c =
+    let h = node-here (c .before .loop .inv .nodes) (c .loop-test .taken) in
+    omega arith
 
 trees-len-shared-slice-read-kind : (t : ℕ) → trees-len-lts.Need-shared-slice-read-kind (trees-len-claims t) (trees-len-at t) trees-len.Post trees-len-Inv-loop
     trees-len-μ-loop
 trees-len-shared-slice-read-kind t c =
     let c2 = c .before .before in
-    let h = node-here (c2 .loop .inv .nodes) (c .before .loop-test .taken) in omega arith
+    let h = node-here (c2 .loop .inv .nodes) (c .before .loop-test .taken) in
+    omega arith
 
 trees-len-add-node-len : (t : ℕ) → trees-len-lts.Need-add-node-len (trees-len-claims t) (trees-len-at t) trees-len.Post trees-len-Inv-loop trees-len-μ-loop
 trees-len-add-node-len t c =
     let c2 = c .before .before in
-    let h = node-here (c2 .loop .inv .nodes) (c .before .loop-test .taken) in omega arith
+    let h = node-here (c2 .loop .inv .nodes) (c .before .loop-test .taken) in
+    omega arith
 
 trees-len-mul-node-len : (t : ℕ) → trees-len-lts.Need-mul-node-len (trees-len-claims t) (trees-len-at t) trees-len.Post trees-len-Inv-loop trees-len-μ-loop
 trees-len-mul-node-len t c =
     let c2 = c .before .before in
-    let h = node-here (c2 .loop .inv .nodes) (c .before .loop-test .taken) in omega arith
+    let h = node-here (c2 .loop .inv .nodes) (c .before .loop-test .taken) in
+    omega arith
 
 trees-len-shared-slice-read-node-len : (t : ℕ) → trees-len-lts.Need-shared-slice-read-node-len (trees-len-claims t) (trees-len-at t) trees-len.Post
     trees-len-Inv-loop trees-len-μ-loop
 trees-len-shared-slice-read-node-len t c =
     let c2 = c .before .before in
     let c3 = c2 .before in
-    let h = node-here (c3 .loop .inv .nodes) (c2 .loop-test .taken) in omega arith
+    let h = node-here (c3 .loop .inv .nodes) (c2 .loop-test .taken) in
+    omega arith
 
 trees-len-add-node-len-2 : (t : ℕ) → trees-len-lts.Need-add-node-len-2 (trees-len-claims t) (trees-len-at t) trees-len.Post trees-len-Inv-loop trees-len-μ-loop
 trees-len-add-node-len-2 t c =
     let c2 = c .before .before in
     let c3 = c2 .before in
-    let h = node-here (c3 .loop .inv .nodes) (c2 .loop-test .taken) in omega arith
+    let h = node-here (c3 .loop .inv .nodes) (c2 .loop-test .taken) in
+    omega arith
 
 trees-len-mul-node-len-2 : (t : ℕ) → trees-len-lts.Need-mul-node-len-2 (trees-len-claims t) (trees-len-at t) trees-len.Post trees-len-Inv-loop trees-len-μ-loop
 trees-len-mul-node-len-2 t c =
     let c2 = c .before .before in
     let c3 = c2 .before in
-    let h = node-here (c3 .loop .inv .nodes) (c2 .loop-test .taken) in omega arith
+    let h = node-here (c3 .loop .inv .nodes) (c2 .loop-test .taken) in
+    omega arith
 
 trees-len-shared-slice-read-node-len-2 : (t : ℕ) → trees-len-lts.Need-shared-slice-read-node-len-2 (trees-len-claims t) (trees-len-at t) trees-len.Post
     trees-len-Inv-loop trees-len-μ-loop
 trees-len-shared-slice-read-node-len-2 t c =
     let c3 = c .before .before .before in
     let c4 = c3 .before in
-    let h = node-here (c4 .loop .inv .nodes) (c3 .loop-test .taken) in omega arith
+    let h = node-here (c4 .loop .inv .nodes) (c3 .loop-test .taken) in
+    omega arith
 
 trees-len-node-len-requires : (t : ℕ) → trees-len-lts.Need-node-len-requires (trees-len-claims t) (trees-len-at t) trees-len.Post trees-len-Inv-loop
     trees-len-μ-loop
@@ -184,136 +190,136 @@ trees-len-add-len t c =
     let c7 = c5 .before .before in
     omega (arith, c5 .loop .inv .bound, c4 .loop-test .taken, c .node-len .ensures .1, c7 .pre .1 .0 .1)
 
-trees-len-level-below-requires : (t : ℕ) → trees-len-lts.Need-level-below-requires (trees-len-claims t) (trees-len-at t) trees-len.Post trees-len-Inv-loop
+trees-len-keeps-level-requires : (t : ℕ) → trees-len-lts.Need-keeps-level-requires (trees-len-claims t) (trees-len-at t) trees-len.Post trees-len-Inv-loop
     trees-len-μ-loop
-trees-len-level-below-requires t c κs = search needs
+trees-len-keeps-level-requires t c κs = search needs
+
+trees-len-add-at : (t : ℕ) → trees-len-lts.Need-add-at (trees-len-claims t) (trees-len-at t) trees-len.Post trees-len-Inv-loop trees-len-μ-loop
+trees-len-add-at t c =
+    let c6 = c .before .before .before .before .before .before in
+    let c7 = c6 .before in
+    let h = node-here (c7 .loop .inv .nodes) (c6 .loop-test .taken) in
+    omega arith
+
+trees-len-sub-left : (t : ℕ) → trees-len-lts.Need-sub-left (trees-len-claims t) (trees-len-at t) trees-len.Post trees-len-Inv-loop trees-len-μ-loop
+trees-len-sub-left t c = omega (arith, c .before .before .before .before .before .before .loop-test .taken)
+
+trees-len-loop-less : (t : ℕ) → trees-len-lts.Need-loop-less (trees-len-claims t) (trees-len-at t) trees-len.Post trees-len-Inv-loop trees-len-μ-loop
+trees-len-loop-less t c = omega (arith, c .before .before .before .before .before .before .loop-test .taken)
+
+trees-len-loop-again : (t : ℕ) → trees-len-lts.Need-loop-again (trees-len-claims t) (trees-len-at t) trees-len.Post trees-len-Inv-loop trees-len-μ-loop
+trees-len-loop-again t c =
+    let c2 = c .before .before in
+    let c6 = c2 .before .before .before .before in
+    let c7 = c6 .before in
+    kept-on (c7 .loop .inv) (c6 .loop-test .taken) (c2 .node-len .ensures) (c .before .keeps-level .ensures (c .if1 .taken))
 
 trees-len-children-len-requires : (t : ℕ) → trees-len-lts.Need-children-len-requires (trees-len-claims t) (trees-len-at t) trees-len.Post trees-len-Inv-loop
     trees-len-μ-loop
 trees-len-children-len-requires t c κs =
-    let c5 = c .before .before .before .before .before in
-    let c6 = c5 .before in
-    let c8 = c6 .before .before in
-    let q = node-within (c6 .loop .inv .nodes) (c5 .loop-test .taken) in let f = c6 .loop .inv .nodes .few
-    in (
+    let c6 = c .before .before .before .before .before .before in
+    let c7 = c6 .before in
+    let c9 = c7 .before .before in
+    let q = node-within (c7 .loop .inv .nodes) (c6 .loop-test .taken) in
+    let f = c7 .loop .inv .nodes .few in (
       omega arith,
       (
-        (node-here (c6 .loop .inv .nodes) (c5 .loop-test .taken), omega (arith, c8 .pre .1 .0 .1)),
-        node-named (c6 .loop .inv .nodes)
-            (c5 .loop-test .taken),
+        (node-here (c7 .loop .inv .nodes) (c6 .loop-test .taken), omega (arith, c9 .pre .1 .0 .1)),
+        node-named (c7 .loop .inv .nodes) (c6 .loop-test .taken),
       ),
     )
 
 trees-len-add-len-2 : (t : ℕ) → trees-len-lts.Need-add-len-2 (trees-len-claims t) (trees-len-at t) trees-len.Post trees-len-Inv-loop trees-len-μ-loop
 trees-len-add-len-2 t c =
-    let c2 = c .before .before in
-    let c6 = c2 .before .before .before .before in
-    let c7 = c6 .before in
-    let c9 = c7 .before .before in
+    let c3 = c .before .before .before in
+    let c7 = c3 .before .before .before .before in
+    let c8 = c7 .before in
+    let c10 = c8 .before .before in
     omega (
       arith,
-      passed-within (c7 .loop .inv) (c6 .loop-test .taken) (c .before .level-below .result),
-      c7 .loop .inv .bound,
-      c2 .node-len .ensures .1,
+      node-within (c8 .loop .inv .nodes) (c7 .loop-test .taken),
+      c8 .loop .inv .bound,
+      c3 .node-len .ensures .1,
       c .children-len .ensures .1,
-      c9 .pre .1 .0 .1,
+      c10 .pre .1 .0 .1,
     )
 
-trees-len-add-pass : (t : ℕ) → trees-len-lts.Need-add-pass (trees-len-claims t) (trees-len-at t) trees-len.Post trees-len-Inv-loop trees-len-μ-loop
-trees-len-add-pass t c =
-    let c6 = c .before .before .before .before .before .before in
-    let c7 = c6 .before in
-    let h = node-here (c7 .loop .inv .nodes) (c6 .loop-test .taken) in omega arith
-
-trees-len-mul-pass : (t : ℕ) → trees-len-lts.Need-mul-pass (trees-len-claims t) (trees-len-at t) trees-len.Post trees-len-Inv-loop trees-len-μ-loop
-trees-len-mul-pass t c =
-    let c6 = c .before .before .before .before .before .before in
-    let c7 = c6 .before in
-    let h = node-here (c7 .loop .inv .nodes) (c6 .loop-test .taken) in omega arith
-
-trees-len-shared-slice-read-pass : (t : ℕ) → trees-len-lts.Need-shared-slice-read-pass (trees-len-claims t) (trees-len-at t) trees-len.Post trees-len-Inv-loop
-    trees-len-μ-loop
-trees-len-shared-slice-read-pass t c =
+trees-len-add-count : (t : ℕ) → trees-len-lts.Need-add-count (trees-len-claims t) (trees-len-at t) trees-len.Post trees-len-Inv-loop trees-len-μ-loop
+trees-len-add-count t c =
     let c7 = c .before .before .before .before .before .before .before in
     let c8 = c7 .before in
-    let h = node-here (c8 .loop .inv .nodes) (c7 .loop-test .taken) in omega arith
+    let h = node-here (c8 .loop .inv .nodes) (c7 .loop-test .taken) in
+    omega arith
 
-trees-len-pass-requires : (t : ℕ) → trees-len-lts.Need-pass-requires (trees-len-claims t) (trees-len-at t) trees-len.Post trees-len-Inv-loop trees-len-μ-loop
-trees-len-pass-requires t c κs = search needs
+trees-len-mul-count : (t : ℕ) → trees-len-lts.Need-mul-count (trees-len-claims t) (trees-len-at t) trees-len.Post trees-len-Inv-loop trees-len-μ-loop
+trees-len-mul-count t c =
+    let c7 = c .before .before .before .before .before .before .before in
+    let c8 = c7 .before in
+    let h = node-here (c8 .loop .inv .nodes) (c7 .loop-test .taken) in
+    omega arith
+
+trees-len-shared-slice-read-count : (t : ℕ) → trees-len-lts.Need-shared-slice-read-count (trees-len-claims t) (trees-len-at t) trees-len.Post
+    trees-len-Inv-loop trees-len-μ-loop
+trees-len-shared-slice-read-count t c =
+    let c8 = c .before .before .before .before .before .before .before .before in
+    let c9 = c8 .before in
+    let h = node-here (c9 .loop .inv .nodes) (c8 .loop-test .taken) in
+    omega arith
 
 trees-len-mul-at : (t : ℕ) → trees-len-lts.Need-mul-at (trees-len-claims t) (trees-len-at t) trees-len.Post trees-len-Inv-loop trees-len-μ-loop
 trees-len-mul-at t c =
-    let c3 = c .before .before .before in
-    let c8 = c3 .before .before .before .before .before in
+    let c8 = c .before .before .before .before .before .before .before .before in
     let c9 = c8 .before in
-    omega (arith, c .pass .ensures, passed-within (c9 .loop .inv) (c8 .loop-test .taken) (c3 .level-below .result), c9 .loop .inv .nodes .whole .room)
+    omega (arith, node-within (c9 .loop .inv .nodes) (c8 .loop-test .taken), c9 .loop .inv .nodes .whole .room)
 
-trees-len-add-at : (t : ℕ) → trees-len-lts.Need-add-at (trees-len-claims t) (trees-len-at t) trees-len.Post trees-len-Inv-loop trees-len-μ-loop
-trees-len-add-at t c =
-    let c3 = c .before .before .before in
-    let c8 = c3 .before .before .before .before .before in
+trees-len-add-at-2 : (t : ℕ) → trees-len-lts.Need-add-at-2 (trees-len-claims t) (trees-len-at t) trees-len.Post trees-len-Inv-loop trees-len-μ-loop
+trees-len-add-at-2 t c =
+    let c8 = c .before .before .before .before .before .before .before .before in
     let c9 = c8 .before in
-    omega (arith, c .pass .ensures, passed-within (c9 .loop .inv) (c8 .loop-test .taken) (c3 .level-below .result), c9 .loop .inv .nodes .whole .room)
+    omega (arith, node-within (c9 .loop .inv .nodes) (c8 .loop-test .taken), c9 .loop .inv .nodes .whole .room)
 
-trees-len-sub-left : (t : ℕ) → trees-len-lts.Need-sub-left (trees-len-claims t) (trees-len-at t) trees-len.Post trees-len-Inv-loop trees-len-μ-loop
-trees-len-sub-left t c =
-    let c3 = c .before .before .before in
-    let c8 = c3 .before .before .before .before .before in
+trees-len-sub-left-2 : (t : ℕ) → trees-len-lts.Need-sub-left-2 (trees-len-claims t) (trees-len-at t) trees-len.Post trees-len-Inv-loop trees-len-μ-loop
+trees-len-sub-left-2 t c =
+    let c8 = c .before .before .before .before .before .before .before .before in
     let c9 = c8 .before in
-    omega (
-      arith,
-      c .pass .ensures,
-      passed-some (c9 .loop .inv) (c8 .loop-test .taken) (c3 .level-below .result),
-      passed-within (c9 .loop .inv)
-          (c8 .loop-test .taken) (c3 .level-below .result),
-    )
+    omega (arith, some-node (c9 .loop .inv .nodes) (c8 .loop-test .taken), node-within (c9 .loop .inv .nodes) (c8 .loop-test .taken))
 
-trees-len-loop-less : (t : ℕ) → trees-len-lts.Need-loop-less (trees-len-claims t) (trees-len-at t) trees-len.Post trees-len-Inv-loop trees-len-μ-loop
-trees-len-loop-less t c =
-    let c3 = c .before .before .before in
-    let c8 = c3 .before .before .before .before .before in
+trees-len-loop-less-2 : (t : ℕ) → trees-len-lts.Need-loop-less-2 (trees-len-claims t) (trees-len-at t) trees-len.Post trees-len-Inv-loop trees-len-μ-loop
+trees-len-loop-less-2 t c =
+    let c8 = c .before .before .before .before .before .before .before .before in
     let c9 = c8 .before in
-    omega (
-      arith,
-      c .pass .ensures,
-      passed-some (c9 .loop .inv) (c8 .loop-test .taken) (c3 .level-below .result),
-      passed-within (c9 .loop .inv)
-          (c8 .loop-test .taken) (c3 .level-below .result),
-    )
+    omega (arith, some-node (c9 .loop .inv .nodes) (c8 .loop-test .taken), node-within (c9 .loop .inv .nodes) (c8 .loop-test .taken))
 
-trees-len-loop-again : (t : ℕ) → trees-len-lts.Need-loop-again (trees-len-claims t) (trees-len-at t) trees-len.Post trees-len-Inv-loop trees-len-μ-loop
-trees-len-loop-again t c =
-    let c2 = c .before .before in
-    let c3 = c2 .before in
-    let c4 = c3 .before in
+trees-len-loop-again-2 : (t : ℕ) → trees-len-lts.Need-loop-again-2 (trees-len-claims t) (trees-len-at t) trees-len.Post trees-len-Inv-loop trees-len-μ-loop
+trees-len-loop-again-2 t c =
+    let c4 = c .before .before .before .before in
     let c8 = c4 .before .before .before .before in
     let c9 = c8 .before in
-    summed (c9 .loop .inv) (c8 .loop-test .taken) (c3 .level-below .result) (c3 .level-below .ensures) _ _ _ (c .pass .ensures) (c4 .node-len .ensures)
-    (c2 .children-len .ensures)
+    summed (c9 .loop .inv) (c8 .loop-test .taken) (c4 .node-len .ensures) (c .before .children-len .ensures)
 
 trees-len-returns : (t : ℕ) → trees-len-lts.Need-returns (trees-len-claims t) (trees-len-at t) trees-len.Post trees-len-Inv-loop trees-len-μ-loop
 trees-len-returns t c = measured (c .before .loop .inv) (c .loop-test .left)
 
 pub +children-len+trees-len-spec : {M : Type 1} → statement M
-+children-len+trees-len-spec =
-    close μ-children-len μ-trees-len (λ t. children-len-lts.spec (children-len-claims t)
++children-len+trees-len-spec = close μ-children-len μ-trees-len (λ t. children-len-lts.spec (children-len-claims t)
     (children-len-at t)
     children-len.Post
-    (children-len-add-count t)
-    (children-len-mul-count t)
-    (children-len-shared-slice-read-count t)
+    (children-len-mul-children t)
+    (children-len-shared-slice-read-children t)
+    (children-len-children-requires t)
     (children-len-enum-told t)
-    (children-len-enum-told-2 t)
-    (children-len-enum-known-below t)
+    (children-len-enum-known-inner t)
+    (children-len-add-below t)
+    (children-len-mul-below t)
+    (children-len-shared-slice-read-below t)
+    (children-len-sub-below t)
     (children-len-sub-trees-len t)
     (children-len-part-trees-len-start t)
     (children-len-part-trees-len-end t)
     (children-len-add-trees-len t)
-    (children-len-sub-trees-len-2 t)
     (children-len-trees-len-requires t)
     (children-len-returns t)
-    (children-len-returns-2 t)
-    (children-len-returns-3 t))
+    (children-len-returns-2 t))
     λ t. trees-len-lts.spec (trees-len-claims t)
     (trees-len-at t)
     trees-len.Post
@@ -330,16 +336,19 @@ pub +children-len+trees-len-spec : {M : Type 1} → statement M
     (trees-len-shared-slice-read-node-len-2 t)
     (trees-len-node-len-requires t)
     (trees-len-add-len t)
-    (trees-len-level-below-requires t)
-    (trees-len-children-len-requires t)
-    (trees-len-add-len-2 t)
-    (trees-len-add-pass t)
-    (trees-len-mul-pass t)
-    (trees-len-shared-slice-read-pass t)
-    (trees-len-pass-requires t)
-    (trees-len-mul-at t)
+    (trees-len-keeps-level-requires t)
     (trees-len-add-at t)
     (trees-len-sub-left t)
     (trees-len-loop-less t)
     (trees-len-loop-again t)
+    (trees-len-children-len-requires t)
+    (trees-len-add-len-2 t)
+    (trees-len-add-count t)
+    (trees-len-mul-count t)
+    (trees-len-shared-slice-read-count t)
+    (trees-len-mul-at t)
+    (trees-len-add-at-2 t)
+    (trees-len-sub-left-2 t)
+    (trees-len-loop-less-2 t)
+    (trees-len-loop-again-2 t)
     (trees-len-returns t)

@@ -9,7 +9,7 @@ use Rattle.kinds.specs.Sheet.{countAt, trees}
 use Rattle.kinds.proofs.ListLaws.{whole}
 use Rattle.static_str.proofs.OutputLaws.{wrote-same, wrote-none}
 use Rattle.static_str.proofs.PrintLaws.{no-children, dropped-text, included-text}
-use Rattle.static_str.proofs.TurnLaws.{children-there, here, some-node, node-within, node-here, node-named, Printing, start-printing, room-to-open, room-to-fill, room-to-close, held-next, turned, printed}
+use Rattle.static_str.proofs.TurnLaws.{children-there, here, some-node, node-within, node-here, node-named, Printing, start-printing, room-to-open, room-to-fill, room-to-close, walked-next, turned, printed}
 use borrow.Fn.Kinds.{In}
 use borrow.Fn.PlainCycle.{Measures, is, falls, and}
 use Rattle.static_str.proofs.print_children.Reads as print-children
@@ -21,7 +21,7 @@ use Rattle.static_str.proofs.+print_children+print_trees.Lts-print_tree
 use Rattle.kinds.proofs.NestingLevel.children.Reads as children-reads
 use Rattle.static_str.proofs.close_node.Reads as close-node-reads
 use Rattle.kinds.proofs.NestingLevel.inside.Reads as inside-reads
-use Rattle.static_str.proofs.points_last.Reads as points-last-reads
+use Rattle.static_str.proofs.walked_on.Reads as walked-on-reads
 use Rattle.static_str.proofs.open_node.Reads as open-node-reads
 use Rattle.static_str.proofs.+print_children+print_trees.{statement}
 use Rattle.static_str.proofs.+print_children+print_trees.Tie.{close}
@@ -63,8 +63,8 @@ abbrev print-trees-claims : ℕ → print-trees-lts.Claims
 print-trees-claims t = (
   open-node-reads.Asked,
   open-node-reads.Learnt,
-  points-last-reads.Asked,
-  points-last-reads.Learnt,
+  walked-on-reads.Asked,
+  walked-on-reads.Learnt,
   inside-reads.Asked,
   inside-reads.Learnt,
   print-children-below t,
@@ -257,9 +257,9 @@ print-trees-open-node-requires t c κs =
     let c6 = c5 .before in
     (here (c6 .loop .inv .nodes) (c5 .loop-test .taken) .name, room-to-open (c6 .loop .inv) (c5 .loop-test .taken))
 
-print-trees-points-last-requires : (t : ℕ) → print-trees-lts.Need-points-last-requires (print-trees-claims t) (print-trees-at t) print-trees.Post
+print-trees-walked-on-requires : (t : ℕ) → print-trees-lts.Need-walked-on-requires (print-trees-claims t) (print-trees-at t) print-trees.Post
     print-trees-Inv-loop print-trees-μ-loop
-print-trees-points-last-requires t c κs = search needs
+print-trees-walked-on-requires t c κs = search needs
 
 print-trees-inside-requires : (t : ℕ) → print-trees-lts.Need-inside-requires (print-trees-claims t) (print-trees-at t) print-trees.Post print-trees-Inv-loop
     print-trees-μ-loop
@@ -292,8 +292,7 @@ print-trees-loop-again t c =
     let c5 = c2 .before .before .before in
     let c11 = c5 .before .before .before .before .before .before in
     let c12 = c11 .before in
-    let k = c2 .points-last .ensures (c .before .if1 .taken) in held-next (c12 .loop .inv) (c11 .loop-test .taken) (c5 .open-node .ensures) (k .0) (k .1)
-    (k .2) _ (c .inside .ensures)
+    walked-next (c12 .loop .inv) (c11 .loop-test .taken) (c5 .open-node .ensures) (c2 .walked-on .ensures (c .before .if1 .taken)) _ (c .inside .ensures)
 
 print-trees-print-children-requires : (t : ℕ) → print-trees-lts.Need-print-children-requires (print-trees-claims t) (print-trees-at t) print-trees.Post
     print-trees-Inv-loop print-trees-μ-loop
@@ -410,7 +409,7 @@ pub +print-children+print-trees-spec : {M : Type 1} → statement M
     (print-trees-mul-open-node t)
     (print-trees-shared-slice-read-open-node t)
     (print-trees-open-node-requires t)
-    (print-trees-points-last-requires t)
+    (print-trees-walked-on-requires t)
     (print-trees-inside-requires t)
     (print-trees-add-at t)
     (print-trees-sub-left t)

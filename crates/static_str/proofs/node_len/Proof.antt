@@ -3,8 +3,9 @@ use Prim.Native.Nat.{ℕ, _+_}
 use mathlib.Core.Path.{ap, ap₂, sym, _∙_}
 use native.Mathlib.Omega.{arith}
 use borrow.Author.Needs.{needs}
+use Rattle.kinds.proofs.KindLaws.{not-indirection}
 use Rattle.static_str.proofs.NumberLaws.{decimal-fits}
-use Rattle.static_str.proofs.PartLaws.{own-primitive, own-container, own-bits, own-typed, own-pointer, own-atomic, own-array, own-none}
+use Rattle.static_str.proofs.PartLaws.{own-primitive, own-container, own-indirection, own-bits, own-typed, own-array, own-none}
 use Rattle.static_str.proofs.node_len.Statement.{statement}
 use Rattle.static_str.proofs.node_len.Tie as tie
 
@@ -31,24 +32,32 @@ returns-2 c =
     let c2 = c .before .before in
     let c3 = c2 .before in
     let c4 = c3 .before in
-    let a = c4 .args in (
-      λ s h. c .container-len .ensures .0 ∙ own-container s (a .kind) (a .first) (a .second) (a .level) (c3 .if1 .left)
-          (sym (c2 .is-container .ensures) ∙ c .before .if2 .taken) (h (sym (c2 .is-container .ensures) ∙ c .before .if2 .taken)),
+    let a = c4 .args in
+    let k = sym (c2 .is-container .ensures) ∙ c .before .if2 .taken in (
+      λ s h. c .container-len .ensures .0 ∙ own-container s (a .kind) (a .first) (a .second) (a .level) (c3 .if1 .left) k (h k),
       c .container-len .ensures .1,
     )
+
+is-indirection-requires : tie.Need-is-indirection-requires
+is-indirection-requires c κs = search needs
+
+returns-3 : tie.Need-returns-3
+returns-3 c =
+    let c5 = c .before .before .before .before .before in
+    let a = c5 .args in
+    (λ s h. own-indirection s (a .kind) (a .first) (a .second) (a .level) (sym (c .before .is-indirection .ensures) ∙ c .if3 .taken), omega arith)
 
 static-int-str-len-requires : tie.Need-static-int-str-len-requires
 static-int-str-len-requires c κs = search needs
 
 add-result : tie.Need-add-result
-add-result c = omega (arith, decimal-fits (c .before .before .before .before .before .args .second) (omega arith))
+add-result c = omega (arith, decimal-fits (c .before .before .before .before .before .before .before .args .second) (omega arith))
 
-returns-3 : tie.Need-returns-3
-returns-3 c =
-    let c5 = c .before .before .before .before .before in
-    let a = c5 .args in (
-      λ s h. ap (λ (n : ℕ). 1 + n) (c .static-int-str-len .ensures)
-          ∙ own-bits s (a .kind) (a .first) (a .second) (a .level) (c .before .if3 .taken),
+returns-4 : tie.Need-returns-4
+returns-4 c =
+    let c7 = c .before .before .before .before .before .before .before in
+    let a = c7 .args in (
+      λ s h. ap (λ (n : ℕ). 1 + n) (c .static-int-str-len .ensures) ∙ own-bits s (a .kind) (a .first) (a .second) (a .level) (c .before .if4 .taken),
       omega (arith, decimal-fits (a .second) (omega arith)),
     )
 
@@ -56,33 +65,25 @@ static-int-str-len-requires-2 : tie.Need-static-int-str-len-requires-2
 static-int-str-len-requires-2 c κs = search needs
 
 add-result-2 : tie.Need-add-result-2
-add-result-2 c = omega (arith, decimal-fits (c .before .before .before .before .before .before .args .first) (omega arith))
+add-result-2 c = omega (arith, decimal-fits (c .before .before .before .before .before .before .before .before .args .first) (omega arith))
 
 static-int-str-len-requires-3 : tie.Need-static-int-str-len-requires-3
 static-int-str-len-requires-3 c κs = search needs
 
 add-result-3 : tie.Need-add-result-3
 add-result-3 c =
-    let c7 = c .before .before .before .before .before .before .before in
-    omega (arith, decimal-fits (c7 .args .first) (omega arith), decimal-fits (c7 .args .second) (omega arith))
-
-returns-4 : tie.Need-returns-4
-returns-4 c =
-    let c2 = c .before .before in
-    let c7 = c2 .before .before .before .before .before in
-    let a = c7 .args in (
-      λ s h. ap₂ (λ (m n : ℕ). 1 + m + n) (c .before .static-int-str-len2 .ensures) (c .static-int-str-len3 .ensures)
-          ∙ own-typed s (a .kind) (a .first) (a .second) (a .level) (c2 .if4 .taken),
-      omega (arith, decimal-fits (a .first) (omega arith), decimal-fits (a .second) (omega arith)),
-    )
+    let c9 = c .before .before .before .before .before .before .before .before .before in
+    omega (arith, decimal-fits (c9 .args .first) (omega arith), decimal-fits (c9 .args .second) (omega arith))
 
 returns-5 : tie.Need-returns-5
-returns-5 c = let a = c .before .before .before .before .before .before .args
-    in (λ s h. own-pointer s (a .kind) (a .first) (a .second) (a .level) (c .if5 .taken), omega arith)
-
-returns-6 : tie.Need-returns-6
-returns-6 c = let a = c .before .before .before .before .before .before .before .args
-    in (λ s h. own-atomic s (a .kind) (a .first) (a .second) (a .level) (c .if6 .taken), omega arith)
+returns-5 c =
+    let c2 = c .before .before in
+    let c9 = c2 .before .before .before .before .before .before .before in
+    let a = c9 .args in (
+      λ s h. ap₂ (λ (m n : ℕ). 1 + m + n) (c .before .static-int-str-len2 .ensures) (c .static-int-str-len3 .ensures)
+          ∙ own-typed s (a .kind) (a .first) (a .second) (a .level) (c2 .if5 .taken),
+      omega (arith, decimal-fits (a .first) (omega arith), decimal-fits (a .second) (omega arith)),
+    )
 
 static-int-str-len-requires-4 : tie.Need-static-int-str-len-requires-4
 static-int-str-len-requires-4 c κs = search needs
@@ -90,17 +91,16 @@ static-int-str-len-requires-4 c κs = search needs
 add-result-4 : tie.Need-add-result-4
 add-result-4 c = omega (arith, decimal-fits (c .before .before .before .before .before .before .before .before .before .args .first) (omega arith))
 
-returns-7 : tie.Need-returns-7
-returns-7 c =
+returns-6 : tie.Need-returns-6
+returns-6 c =
     let c9 = c .before .before .before .before .before .before .before .before .before in
     let a = c9 .args in (
-      λ s h. ap (λ (n : ℕ). 2 + n) (c .static-int-str-len4 .ensures)
-          ∙ own-array s (a .kind) (a .first) (a .second) (a .level) (c .before .if7 .taken),
+      λ s h. ap (λ (n : ℕ). 2 + n) (c .static-int-str-len4 .ensures) ∙ own-array s (a .kind) (a .first) (a .second) (a .level) (c .before .if6 .taken),
       omega (arith, decimal-fits (a .first) (omega arith)),
     )
 
-returns-8 : tie.Need-returns-8
-returns-8 c =
+returns-7 : tie.Need-returns-7
+returns-7 c =
     let c2 = c .before .before in
     let c3 = c2 .before in
     let c4 = c3 .before in
@@ -108,9 +108,11 @@ returns-8 c =
     let c6 = c5 .before in
     let c7 = c6 .before in
     let c8 = c7 .before in
-    let a = c8 .args in (
-      λ s h. own-none s (a .kind) (a .first) (a .second) (a .level) (c7 .if1 .left) (sym (c6 .is-container .ensures) ∙ c5 .if2 .left)
-          (c4 .if3 .left) (c3 .if4 .left) (c2 .if5 .left) (c .before .if6 .left) (c .if7 .left),
+    let a = c8 .args in
+    let n = not-indirection (a .kind) (sym (c4 .is-indirection .ensures) ∙ c3 .if3 .left) in (
+      λ s h. own-none s (a .kind) (a .first) (a .second) (a .level) (c7 .if1 .left) (sym (c6 .is-container .ensures) ∙ c5 .if2 .left) (c2 .if4 .left)
+          (c .before .if5 .left)
+          (n .0) (n .1) (c .if6 .left),
       omega arith,
     )
 
@@ -123,17 +125,17 @@ node-len-spec =
     is-container-requires
     container-len-requires
     returns-2
+    is-indirection-requires
+    returns-3
     static-int-str-len-requires
     add-result
-    returns-3
+    returns-4
     static-int-str-len-requires-2
     add-result-2
     static-int-str-len-requires-3
     add-result-3
-    returns-4
     returns-5
-    returns-6
     static-int-str-len-requires-4
     add-result-4
-    returns-7
-    returns-8)
+    returns-6
+    returns-7)

@@ -1,0 +1,56 @@
+use borrow.Author.Needs.{needs}
+use mathlib.Core.Path.{sym, _∙_}
+use Rattle.kinds.proofs.KindLaws.{inside-low, inside-plain}
+use Rattle.static_str.proofs.keeps_level.Statement.{statement}
+use Rattle.static_str.proofs.keeps_level.Tie as tie
+
+returns : tie.Need-returns
+returns c =
+    λ e. inside-low (c .before .args .kind) (c .before .args .level) (c .if1 .taken)
+
+is-container-requires : tie.Need-is-container-requires
+is-container-requires c κs = search needs
+
+inside-requires : tie.Need-inside-requires
+inside-requires c κs = search needs
+
+same-level-requires : tie.Need-same-level-requires
+same-level-requires c κs = search needs
+
+returns-2 : tie.Need-returns-2
+returns-2 c = λ e. sym (c .before .inside .ensures) ∙ c .same-level .ensures e
+
+is-indirection-requires : tie.Need-is-indirection-requires
+is-indirection-requires c κs = search needs
+
+inside-requires-2 : tie.Need-inside-requires-2
+inside-requires-2 c κs = search needs
+
+same-level-requires-2 : tie.Need-same-level-requires-2
+same-level-requires-2 c κs = search needs
+
+returns-3 : tie.Need-returns-3
+returns-3 c = λ e. sym (c .before .inside2 .ensures) ∙ c .same-level2 .ensures e
+
+returns-4 : tie.Need-returns-4
+returns-4 c =
+    let c2 = c .before .before in
+    let c3 = c2 .before in
+    let c5 = c3 .before .before in
+    λ e. inside-plain (c5 .args .kind) (c5 .args .level) (sym (c3 .is-container .ensures) ∙ c2 .if2 .left)
+    (sym (c .before .is-indirection .ensures) ∙ c .if3 .left)
+
+pub keeps-level-spec : {M : Type 1} → statement M
+keeps-level-spec =
+    tie.close
+    (tie.spec
+    returns
+    is-container-requires
+    inside-requires
+    same-level-requires
+    returns-2
+    is-indirection-requires
+    inside-requires-2
+    same-level-requires-2
+    returns-3
+    returns-4)
