@@ -2,7 +2,8 @@
  * Berzhotun: Objective-C type encodings read, compared, measured and printed.
  *
  * A proved port of the core of the Rust crate objc2-encode 4.1.0. `rt staticlib berzhotun`, at the
- * repository's root, proves it and writes target/staticlib/libberzhotun.a, for x86-64.
+ * repository's root, proves it and writes target/staticlib/libberzhotun.a, for x86-64 Linux;
+ * `tools/handover FOLDER` writes archives for macOS and for Linux on ARM from the same module.
  *
  *     cc -I include program.c target/staticlib/libberzhotun.a
  *
