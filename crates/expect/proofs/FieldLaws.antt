@@ -1,4 +1,4 @@
--- The walk over trees side by side: nodes whose own text is one byte, and what is left after each node.
+-- The walk over trees side by side: nodes whose own text is one byte, what is left after each node, and what a node holds.
 use Prim.Native.Nat.{ℕ, _+_, _-_, _*_, _≤_, _<_}
 use native.Mathlib.Omega.{arith}
 use mathlib.Core.Path.{_≡_, refl, ap, ap₂, sym, _∙_, subst}
@@ -9,7 +9,7 @@ use lib.ListN.{length, take, drop, List·getD-eq-default}
 use lib.Dec.{leb, eqb}
 use Rattle.kinds.proofs.SheetLaws.{trees-step}
 use Rattle.kinds.proofs.ListLaws.{whole}
-use Rattle.kinds.proofs.NodeLaws.{leaf-count, node-child, node-inner, child-count, first-some, first-within, first-node, other-trees, held-trees, no-trees, walk-inner, walk-rest}
+use Rattle.kinds.proofs.NodeLaws.{leaf-count, node-child, child-count, first-some, first-within, first-node, other-trees, held-trees, no-trees, walk-inner, walk-first, walk-rest}
 use Rattle.kinds.proofs.KindLaws.{indirection-range}
 use Rattle.kinds.proofs.TableLaws.{everyBelow, passBelow, same-bytes}
 use Rattle.kinds.specs.Byte.{among, sameBytes}
@@ -19,18 +19,15 @@ use Rattle.kinds.specs.Expect.{remaining, mismatch, _then_, expectByte, expectB
 use Rattle.kinds.specs.Kind.{isIndirection, insideKind}
 use Rattle.kinds.specs.Level.{indirection}
 use Rattle.kinds.specs.Primitive.{code, codes, isObject}
-use Rattle.kinds.specs.Sheet.{kindAt, secondAt, countAt, trees}
+use Rattle.kinds.specs.Sheet.{kindAt, countAt, trees}
 use Rattle.kinds.specs.Tree.{Trees, end, node, isEnd, inside}
 use Rattle.kinds.specs.Walk.{NodeAt, TreesAt, KindsAndNames}
 use Rattle.kinds.specs.declared.IndirectionKind.{IndirectionKind}
 use Rattle.kinds.specs.declared.IndirectionKind.the-variants.{Atomic, Pointer}
 use Rattle.kinds.specs.declared.NestingLevel.{NestingLevel}
-use Rattle.expect.specs.Agree.{ExpectedIs, expectAt, closing, indirectionOf, codeBytesByKind, codeByte, ownByte, levelAfter, OpenedAt}
+use Rattle.expect.specs.Agree.{ExpectedIs, expectAt, indirectionOf, codeBytesByKind, codeByte, ownByte, levelAfter}
 use Rattle.expect.specs.declared.Expected as X
-use Rattle.expect.specs.declared.Expected.the-variants as XV
-use Rattle.expect.specs.declared.Opened.{Opened}
-use Rattle.expect.specs.declared.Opened.the-variants as O
-use Rattle.expect.proofs.TextLaws.{then-remaining, then-mismatch, same-outcome, code-one, primitive-alone}
+use Rattle.expect.proofs.TextLaws.{then-remaining, then-mismatch, code-one, primitive-alone}
 use Rattle.expect.proofs.WalkLaws.{leaf-is, behind-off, behind-more, by-byte, lent-whole}
 
 -- ---- Nodes whose own text is one byte.
@@ -55,7 +52,7 @@ module _ (k : ℕ) (h : codeByte k ≡ 0 → ⊥) where
       go true e = absurd (h (code-beyond k (leb-true 24 k e)))
       go false e = leb-false 24 k e
 
-  code-taken : (s : List ℕ) → expectPrimitive k s ≡ expectByte (codeByte k) s
+  pub code-taken : (s : List ℕ) → expectPrimitive k s ≡ expectByte (codeByte k) s
   unfolding coded
   code-taken s = go (isObject k) refl (rw (ne-eqb (codeByte k) 0 h) at (passBelow coded 24 all-coded k code-low))
     where
@@ -152,8 +149,8 @@ module _ {v : NestingLevel} {names w text : List ℕ} {at n place : ℕ} {here :
     pub left-node : NodeAt w at
     left-node = first-node w at n (l .nodes) p
 
-    pub left-inner : TreesAt w (at + 4) (countAt w at - 1) × KindsAndNames w (length names) (at + 4) (countAt w at - 1)
-    left-inner = let b = left-bounds in (node-inner w at left-node, walk-inner w (length names) at n (l .walk) (countAt w at - 1) (omega arith))
+    pub left-named : KindsAndNames w (length names) at (countAt w at)
+    left-named = walk-first w (length names) at n (l .walk) (countAt w at) (left-bounds .within)
 
     left-step : q ≡ (expectAt names w at here (drop place text) then (λ t. expectEncoding v (trees names w (n - countAt w at) (at + 4 * countAt w at)) t))
     left-step = l .rest ∙ resume-step names w here v (drop place text) n at (left-bounds .some-node) (left-bounds .within)
@@ -231,25 +228,7 @@ module _ {v : NestingLevel} {names w text : List ℕ} {at n place : ℕ} {here :
               subst (λ (y : NestingLevel). Left v names w text (at + 4) (n - 1) to y q) (after-code (kindAt w at) v here i)
               (left-leaf to t (omega arith) (code-is i ∙ e))
 
--- ---- What stands after a node's children.
-
-module _ (names w : List ℕ) (at : ℕ) (v : NestingLevel) (text : List ℕ) (place : ℕ) (r : Opened) (h : OpenedAt names w at v text place r) (after : X.Expected)
-  where
-    pub after-off : r ≡ O.Mismatch → after ≡ XV.Mismatch → ExpectedIs text after (expectAt names w at v (drop place text))
-    after-off e f = subst (λ (a : X.Expected). ExpectedIs text a (expectAt names w at v (drop place text))) (sym f)
-        (subst (λ (x : Opened). OpenedAt names w at v text place x) e h)
-
-    pub after-whole : (to : ℕ) → r ≡ O.Taken to → after ≡ XV.Remaining to → ExpectedIs text after (expectAt names w at v (drop place text))
-    after-whole to e f = subst (λ (a : X.Expected). ExpectedIs text a (expectAt names w at v (drop place text))) (sym f)
-        (subst (λ (x : Opened). OpenedAt names w at v text place x) e h)
-
-    pub after-fields : (to : ℕ) (u : NestingLevel) → r ≡ O.Fields to u → (fields closed : X.Expected)
-        → ExpectedIs text fields (expectEncoding u (trees names w (countAt w at - 1) (at + 4)) (drop to text))
-        → ((q : E.Expected) → ExpectedIs text fields q → ExpectedIs text closed (q then (λ t. closing (kindAt w at) (secondAt w at) t)))
-        → after ≡ closed → ExpectedIs text after (expectAt names w at v (drop place text))
-    after-fields to u e fields closed f g d =
-        let k = subst (λ (x : Opened). OpenedAt names w at v text place x) e h in
-        subst (λ (a : X.Expected). ExpectedIs text a (expectAt names w at v (drop place text))) (sym d) (same-outcome text closed _ _ (k .0) (g _ f))
+-- ---- What a node holds.
 
 -- The three lists, each lent as a slice of its own: the names and the text whole, and node words `w'` that are `w`.
 module _ (names w w' text : List ℕ) (n at to : ℕ) (e : w' ≡ w) where

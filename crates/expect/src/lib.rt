@@ -12,7 +12,7 @@ ghost use Rattle.kinds.specs.Primitive.{codeBytes};
 ghost use Rattle.kinds.specs.Sheet.{kindAt, countAt, isContainerKind, labelAt, trees};
 ghost use Rattle.kinds.specs.Tree.{end, node, primitive, isEnd};
 ghost use Rattle.kinds.specs.Walk.{NodeAt, TreesAt, KindAndName, KindsAndNames};
-ghost use Rattle.expect.specs.Agree.{ExpectedIs, anyObject, expectLeaf, openingByte, opening, closing, afterName, InText, OpenedIs, codeByte, ownByte, levelAfter, OpenedAt};
+ghost use Rattle.expect.specs.Agree.{ExpectedIs, expectAt, anyObject, expectLeaf, openingByte, opening, closing, afterName, InText, OpenedIs, codeByte, ownByte, levelAfter, OpenedAt};
 ghost use Rattle.expect.specs.Answer.{compared};
 use kinds::ARRAY;
 use kinds::ATOMIC;
@@ -397,6 +397,30 @@ fn open_node(
     open_container(nodes, names, at, level, text, place)
 }
 
+// The node at `at`, no pointer and no atomic, and its children.
+fn expect_node(
+    nodes: &[u64],
+    names: &[u8],
+    at: usize,
+    level: NestingLevel,
+    text: &[u8],
+    place: usize,
+) -> Expected
+    requires { ⌜ NodeAt (now nodes) at × KindsAndNames (now nodes) (length (now names)) at (countAt (now nodes) at) × (place ≤ length (now text)) ⌝ }
+    requires { ⌜ isIndirection (kindAt (now nodes) at) ≡ false ⌝ }
+    ensures { λ r. ⌜ ExpectedIs (now (text .entry)) r (expectAt (now (names .entry)) (now (nodes .entry)) at level (drop place (now (text .entry)))) ⌝ }
+{
+    match open_node(nodes, names, at, level, text, place) {
+        Opened::Mismatch => Expected::Mismatch,
+        Opened::Taken(to) => Expected::Remaining(to),
+        Opened::Fields(to, inner) => {
+            let m = nodes[at + 3] as usize - 1;
+            let all = expect_encoding(&nodes[0..], &names[0..], at + 4, m, inner, &text[0..], to);
+            close_node(all, nodes[at], nodes[at + 2], text)
+        }
+    }
+}
+
 // The trees of the `n` nodes from `from` on, one after the other. A pointer and an atomic are followed by what they hold.
 fn expect_encoding(
     nodes: &[u64],
@@ -429,24 +453,7 @@ fn expect_encoding(
             continue;
         }
         let count = nodes[at + 3] as usize;
-        let m = count - 1;
-        let after = match open_node(nodes, names, at, here, text, place) {
-            Opened::Mismatch => Expected::Mismatch,
-            Opened::Taken(to) => Expected::Remaining(to),
-            Opened::Fields(to, inner) => {
-                let all = expect_encoding(
-                    &nodes[0..],
-                    &names[0..],
-                    at + 4,
-                    m,
-                    inner,
-                    &text[0..],
-                    to,
-                );
-                close_node(all, kind, nodes[at + 2], text)
-            }
-        };
-        let Expected::Remaining(next) = after else {
+        let Expected::Remaining(next) = expect_node(nodes, names, at, here, text, place) else {
             return Expected::Mismatch;
         };
         at = at + 4 * count;
@@ -466,11 +473,15 @@ fn decide(walked: Expected, text: &[u8]) -> bool
     }
 }
 
-// Whether a code matches the whole text.
+// Whether a code matches the whole text. Most codes are one byte.
 fn code_matches(kind: u64, text: &[u8]) -> bool
     ensures { λ r. ⌜ r ≡ equivalentToStr (node (primitive kind) end end) (now (text .entry)) ⌝ }
 {
     let start = strip_leading_qualifiers(text);
+    let byte = code_byte(kind);
+    if byte != 0 {
+        return decide(expect_byte(byte, text, start), text);
+    }
     decide(expect_primitive(kind, &text[0..], start), text)
 }
 
