@@ -123,8 +123,10 @@ stuck-on v (node l cs ts) ra rb (b ∷ t) g w h = go (isDigit b) refl (λ k. stu
     inner : List ℕ → Expected
     inner = λ u. expectEncoding (inside l v) cs u
 
-    go : (y : Bool) → isDigit b ≡ y → (startsDigit t ≡ true → Agrees ra rb false (expectEncoding v ts t)) → Agrees ra rb false (expectNode l v (isEnd cs) inner (b ∷ t) then (λ u. expectEncoding v ts u))
-    go true e rec = missed ra rb (expectNode l v (isEnd cs) inner (b ∷ t) then (λ u. expectEncoding v ts u)) (rw (node-mismatch-head isDigit l v (isEnd cs) inner b t (g' .0) o (fails-digit (kind l) (kind-bound l (g' .0) o)) e))
+    go : (y : Bool) → isDigit b ≡ y → (startsDigit t ≡ true → Agrees ra rb false (expectEncoding v ts t))
+        → Agrees ra rb false (expectNode l v (isEnd cs) inner (b ∷ t) then (λ u. expectEncoding v ts u))
+    go true e rec = missed ra rb (expectNode l v (isEnd cs) inner (b ∷ t) then (λ u. expectEncoding v ts u))
+        (rw (node-mismatch-head isDigit l v (isEnd cs) inner b t (g' .0) o (fails-digit (kind l) (kind-bound l (g' .0) o)) e))
     go false e rec =
         let i = both (integral b) (startsDigit t) (rw e at h') in
         elim (over-integral l v (isEnd cs) inner b t (g' .0) o (i .0)) [
@@ -150,7 +152,8 @@ printTree v l cs = printNode l v (print (inside l v) cs)
 
 -- The tree of `l` and `cs` and a tree of `m`, wherever both may stand: comparing them agrees with expecting the one in the print of the other.
 abbrev pub Matches : Label → Trees → Label → Type 0
-Matches l cs m = (ds : Trees) (v : NestingLevel) (ra rb : List ℕ) → NodeOk l v cs ra → NodeOk m v ds rb → mayFollow rb ≡ true → Agrees ra rb (compareTree v l cs m ds) (expectTree v l cs (printTree v m ds ++ rb))
+Matches l cs m = (ds : Trees) (v : NestingLevel) (ra rb : List ℕ) → NodeOk l v cs ra → NodeOk m v ds rb → mayFollow rb ≡ true
+    → Agrees ra rb (compareTree v l cs m ds) (expectTree v l cs (printTree v m ds ++ rb))
 
 abbrev pub MatchOne : Label → Trees → Type 0
 MatchOne l cs = (m : Label) → Matches l cs m

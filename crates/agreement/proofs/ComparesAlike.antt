@@ -30,7 +30,8 @@ alike-one : (l : Label) (cs : Trees) → MatchFirst cs → MatchFields cs → is
 unfolding isNone sameOpening tried among isObject kind labelOf
 alike-one (primitive p) cs first fields o = match-primitive p cs
 alike-one (bitField n) cs first fields o = alike-from (bitField n) cs ((omega arith, λ m. bits-bits n (bits m) cs), ((omega arith, λ m. bits-typed n (lengthOrOffset m) (bits m) cs), tt))
-alike-one (typedBitField x n) cs first fields o = alike-from (typedBitField x n) cs ((omega arith, λ m. typed-bits x n (bits m) cs), ((omega arith, λ m. typed-typed x n (lengthOrOffset m) (bits m) cs), tt))
+alike-one (typedBitField x n) cs first fields o = alike-from (typedBitField x n) cs
+    ((omega arith, λ m. typed-bits x n (bits m) cs), ((omega arith, λ m. typed-typed x n (lengthOrOffset m) (bits m) cs), tt))
 alike-one pointer cs first fields o = alike-from pointer cs ((omega arith, λ m. pointer-pair cs first), tt)
 alike-one atomic cs first fields o = alike-from atomic cs ((omega arith, λ m. atomic-pair cs first), tt)
 alike-one (array n) cs first fields o = alike-from (array n) cs ((omega arith, λ m. array-pair n (lengthOrOffset m) cs first), tt)
@@ -97,5 +98,6 @@ unfolding equivalentTo equivalentToStr mayFollow
 compare-agrees A B a b =
     let a' = sound-parts A a in
     let b' = sound-parts B b in
-    let r : Agrees [] [] (compareEncodings false Top A B) (expectEncoding Top A (print Top B)) = rw append-nil at (match-child A (matches A .0) B Top [] [] (a' .0) (b' .0) (a' .1) (b' .1) (a' .2) (b' .2) refl) in
+    let r : Agrees [] [] (compareEncodings false Top A B) (expectEncoding Top A (print Top B)) = rw append-nil
+    at (match-child A (matches A .0) B Top [] [] (a' .0) (b' .0) (a' .1) (b' .1) (a' .2) (b' .2) refl) in
     rw (unqualified B (b' .1)) (empty-agrees (compareEncodings false Top A B) (expectEncoding Top A (print Top B)) r)

@@ -43,7 +43,8 @@ read-digits (suc f) n acc r h = go (ltb n 10) refl (λ k. read-digits f (n / 10)
     go : (t : Bool) → ltb n 10 ≡ t → (n / 10 < f → moreDigits 0 (digits f (n / 10) ((byte "0" + n % 10) ∷ acc) ++ r) ≡ moreDigits (n / 10) ((byte "0" + n % 10) ∷ (acc ++ r)))
         → moreDigits 0 (digits (suc f) n acc ++ r) ≡ moreDigits n (acc ++ r)
     go true e ih = rw (last-digit f n acc (ltb-true n 10 e)) (digits-more 0 n (acc ++ r) (ltb-true n 10 e) ∙ ap (λ x. moreDigits x (acc ++ r)) (omega arith))
-    go false e ih = rw (one-digit f n acc (ltb-false n 10 e)) (ih (omega (arith, ltb-false n 10 e)) ∙ digits-more (n / 10) (n % 10) (acc ++ r) (omega arith) ∙ ap (λ x. moreDigits x (acc ++ r)) (omega arith))
+    go false e ih = rw (one-digit f n acc (ltb-false n 10 e))
+        (ih (omega (arith, ltb-false n 10 e)) ∙ digits-more (n / 10) (n % 10) (acc ++ r) (omega arith) ∙ ap (λ x. moreDigits x (acc ++ r)) (omega arith))
 
 digits-start : (f n : ℕ) (acc : List ℕ) (r : List ℕ) → n < f → startsDigit (digits f n acc ++ r) ≡ true
 unfolding startsDigit

@@ -67,7 +67,8 @@ bracket-follows r = refl
 -- A primitive's code may follow where what comes after it may.
 code-follows : (r : List ℕ) → startsDigit r ≡ false → (p : ℕ) → p < 24 → mayFollow (code p ++ r) ≡ true
 unfolding mayFollow nextBytes among integral code codes
-code-follows r h p = below (λ q. mayFollow (code q ++ r) ≡ true) 24 ((((((((((((((((((((((((tt, n), n), n), n), n), n), n), n), n), n), refl), refl), refl), refl), refl), refl), n), refl), refl), refl), refl), refl), refl), refl) p
+code-follows r h p = below (λ q. mayFollow (code q ++ r) ≡ true) 24
+    ((((((((((((((((((((((((tt, n), n), n), n), n), n), n), n), n), n), refl), refl), refl), refl), refl), refl), n), refl), refl), refl), refl), refl), refl), refl) p
   where
     n : not (startsDigit r) ≡ true
     n = ap not h

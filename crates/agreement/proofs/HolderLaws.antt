@@ -35,16 +35,19 @@ use Rattle.agreement.proofs.AgreeLaws.{number-mismatch, match-child}
 
 -- Pointers and atomics.
 pub pointer-pair : (cs : Trees) → MatchFirst cs → Matches pointer cs pointer
-unfolding expectTree printTree printNode expectNode expectByte _then_ compareTree compareLabels equivalent kind lengthOrOffset bits name sameBytes isContainer compareChildren validCount clearNode afterChildren
+unfolding expectTree printTree printNode expectNode expectByte _then_ compareTree compareLabels equivalent kind lengthOrOffset bits name sameBytes
+    isContainer compareChildren validCount clearNode afterChildren
 pointer-pair cs first ds v ra rb a b h = match-child cs first ds (inside pointer v) ra rb (a .okCount) (b .okCount) (a .okBelow) (b .okBelow) (a .okClear) (b .okClear) h
 
 pub atomic-pair : (cs : Trees) → MatchFirst cs → Matches atomic cs atomic
-unfolding expectTree printTree printNode expectNode expectByte _then_ compareTree compareLabels equivalent kind lengthOrOffset bits name sameBytes isContainer compareChildren validCount clearNode afterChildren
+unfolding expectTree printTree printNode expectNode expectByte _then_ compareTree compareLabels equivalent kind lengthOrOffset bits name sameBytes
+    isContainer compareChildren validCount clearNode afterChildren
 atomic-pair cs first ds v ra rb a b h = match-child cs first ds (inside atomic v) ra rb (a .okCount) (b .okCount) (a .okBelow) (b .okBelow) (a .okClear) (b .okClear) h
 
 -- Arrays.
 pub array-pair : (n k : ℕ) (cs : Trees) → MatchFirst cs → Matches (array n) cs (array k)
-unfolding expectTree printTree expectNode expectByte _then_ compareTree compareLabels equivalent kind lengthOrOffset bits name sameBytes isContainer compareChildren fitLabel validCount clearNode afterChildren isCloser among
+unfolding expectTree printTree expectNode expectByte _then_ compareTree compareLabels equivalent kind lengthOrOffset bits name sameBytes
+    isContainer compareChildren fitLabel validCount clearNode afterChildren isCloser among
 array-pair n k cs first ds v ra rb a b h = rw (array-text k v (print v ds) rb) (go (eqb n k) refl)
   where
     t : List ℕ
@@ -56,7 +59,8 @@ array-pair n k cs first ds v ra rb a b h = rw (array-text k v (print v ds) rb) (
     d : startsDigit t ≡ false
     d = no-digit t (trees-follow v ds (byte "]" ∷ rb) (b .okBelow) f)
 
-    go : (y : Bool) → eqb n k ≡ y → Agrees ra rb ((eqb n k && true) && compareEncodings false v cs ds) (expectNumber maxU64 n (decimal k ++ t) then (λ u. expectEncoding v cs u then (λ w. expectByte (byte "]") w)))
+    go : (y : Bool) → eqb n k ≡ y → Agrees ra rb ((eqb n k && true) && compareEncodings false v cs ds)
+        (expectNumber maxU64 n (decimal k ++ t) then (λ u. expectEncoding v cs u then (λ w. expectByte (byte "]") w)))
     go true e = rw (e, number-matches maxU64 n k t (leb-true n maxU64 (a .okLabel)) d e)
         (closed (byte "]") refl ra rb (compareEncodings false v cs ds) (expectEncoding v cs t)
         (match-child cs first ds v (byte "]" ∷ ra) (byte "]" ∷ rb) (a .okCount) (b .okCount) (a .okBelow) (b .okBelow) (a .okClear) (b .okClear) f))
@@ -87,7 +91,8 @@ unfolding compareTree compareLabels equivalent kind lengthOrOffset bits name isC
 compare-containers Struct v s cs t ds = refl
 compare-containers Union v s cs t ds = refl
 
-expect-opened : (k : ContainerKind) (v : NestingLevel) (s : List ℕ) (cs : Trees) (x : List ℕ) → expectTree v (container k s) cs (startByte k ∷ x) ≡ expectContainer k s v (isEnd cs) (λ t. expectEncoding Within cs t) x
+expect-opened : (k : ContainerKind) (v : NestingLevel) (s : List ℕ) (cs : Trees) (x : List ℕ) → expectTree v (container k s) cs (startByte k ∷ x)
+    ≡ expectContainer k s v (isEnd cs) (λ t. expectEncoding Within cs t) x
 unfolding expectTree expectNode expectByte _then_
 expect-opened Struct v s cs x = refl
 expect-opened Union v s cs x = refl
@@ -102,7 +107,8 @@ unfolding isCloser among
 kind-closes Struct = refl
 kind-closes Union = refl
 
-skip-fields : (k : ContainerKind) (ds : Trees) (r : List ℕ) → fit ds ≡ true → clear Within ds (endByte k ∷ r) ≡ true → withoutNone ds ≡ true → skipItems k (print Within ds ++ (endByte k ∷ r)) ≡ remaining r
+skip-fields : (k : ContainerKind) (ds : Trees) (r : List ℕ) → fit ds ≡ true → clear Within ds (endByte k ∷ r) ≡ true → withoutNone ds ≡ true
+    → skipItems k (print Within ds ++ (endByte k ∷ r)) ≡ remaining r
 unfolding skipItems
 skip-fields k ds r g c w =
     let t = print Within ds ++ (endByte k ∷ r) in
@@ -133,7 +139,10 @@ shown-pair : (k : ContainerKind) (s : List ℕ) (cs : Trees) → MatchFields cs 
     → Agrees ra rb (sameBytes s t && ((isEnd cs || isEnd ds) || compareEncodings false Within cs ds))
     (expectBytes s (t ++ (byte "=" ∷ (print Within ds ++ (endByte k ∷ rb)))) then (λ x. expectByte (byte "=") x then (λ u. expectFields k (isEnd cs) (λ w. expectEncoding Within cs w) u)))
 unfolding _then_
-shown-pair k s cs fields t ds ra rb n m a c b d = rw (then-then (expectBytes s (t ++ (byte "=" ∷ z))) (λ x. expectByte (byte "=") x) f, names-match (byte "=") s t z (lacks-equals s n) (lacks-equals t m)) (go (sameBytes s t) refl)
+shown-pair k s cs fields t ds ra rb n m a c b d = rw (
+  then-then (expectBytes s (t ++ (byte "=" ∷ z))) (λ x. expectByte (byte "=") x) f,
+  names-match (byte "=") s t z (lacks-equals s n) (lacks-equals t m),
+) (go (sameBytes s t) refl)
   where
     z : List ℕ
     z = print Within ds ++ (endByte k ∷ rb)
@@ -145,7 +154,8 @@ shown-pair k s cs fields t ds ra rb n m a c b d = rw (then-then (expectBytes s (
     go true e = rw e (fields-pair k cs fields ds ra rb a c b d)
     go false e = rw e tt
 
-hidden-pair : (k : ContainerKind) (s t ra rb : List ℕ) → verifyName s ≡ true → verifyName t ≡ true → Agrees ra rb (sameBytes s t && true) (expectBytes s (t ++ (endByte k ∷ rb)) then (λ x. expectByte (endByte k) x))
+hidden-pair : (k : ContainerKind) (s t ra rb : List ℕ) → verifyName s ≡ true → verifyName t ≡ true
+    → Agrees ra rb (sameBytes s t && true) (expectBytes s (t ++ (endByte k ∷ rb)) then (λ x. expectByte (endByte k) x))
 hidden-pair k s t ra rb n m = rw (names-match (endByte k) s t rb (lacks-closer k s n) (lacks-closer k t m)) (go (sameBytes s t))
   where
     go : (y : Bool) → Agrees ra rb (y && true) (cond y (remaining rb) mismatch)
@@ -162,7 +172,12 @@ named-pair k s cs fields t ds Top ra rb n m a c b d = rw
 named-pair k s cs fields t ds Within ra rb n m a c b d = rw
     (container-text k Within t (print Within ds) rb, compare-containers k Within s cs t ds, expect-opened k Within s cs (t ++ (byte "=" ∷ (print Within ds ++ (endByte k ∷ rb)))))
     (shown-pair k s cs fields t ds ra rb n m a c b d)
-named-pair k s cs fields t ds Bottom ra rb n m a c b d = rw (container-text k Bottom t (print Within ds) rb, compare-containers k Bottom s cs t ds, expect-opened k Bottom s cs (t ++ (endByte k ∷ rb))) (hidden-pair k s t ra rb n m)
+named-pair k s cs fields t ds Bottom ra rb n m a c b d = rw (
+  container-text k Bottom t (print Within ds) rb,
+  compare-containers k Bottom s cs t ds,
+  expect-opened k Bottom s cs
+      (t ++ (endByte k ∷ rb)),
+) (hidden-pair k s t ra rb n m)
 
 pub container-pair : (k : ContainerKind) (s : List ℕ) (cs : Trees) → MatchFields cs → (t : List ℕ) → Matches (container k s) cs (container k t)
 unfolding printTree fitLabel clearNode afterChildren

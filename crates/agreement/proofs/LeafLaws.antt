@@ -29,7 +29,8 @@ use Rattle.agreement.proofs.AgreeLaws.{number-matches, number-mismatch,
 
 -- Bitfields.
 pub bits-bits : (n k : ℕ) (cs : Trees) → Matches (bitField n) cs (bitField k)
-unfolding expectTree printTree printNode expectNode expectByte _then_ compareTree compareLabels equivalent kind lengthOrOffset bits name sameBytes isContainer compareChildren compareEncodings fitLabel validCount
+unfolding expectTree printTree printNode expectNode expectByte _then_ compareTree compareLabels equivalent kind lengthOrOffset bits name sameBytes
+    isContainer compareChildren compareEncodings fitLabel validCount
 bits-bits n k cs ds v ra rb a b h = rw (isEnd-end cs (a .okCount), isEnd-end ds (b .okCount)) (go (eqb n k) refl)
   where
     d : startsDigit rb ≡ false
@@ -53,7 +54,8 @@ bits-typed n o k cs ds v ra rb a b h =
     rw (typed-text o k v (print v ds) rb, i .1, typed-child v (i .0) (decimal k ++ rb)) (go (i .0) (i .2) (eqb n o) refl)
   where
     go : (p : ℕ) → among p integrals ≡ true → (y : Bool) → eqb n o ≡ y → Agrees ra rb false (expectNumber maxU8 n (decimal o ++ (code p ++ (decimal k ++ rb))))
-    go p i true e = rw (number-matches maxU8 n o (code p ++ (decimal k ++ rb)) (leb-true n maxU8 (a .okLabel)) (code-no-digit (decimal k ++ rb) p i) e) (typed-stuck ra (decimal k ++ rb) p i (decimal-start k rb))
+    go p i true e = rw (number-matches maxU8 n o (code p ++ (decimal k ++ rb)) (leb-true n maxU8 (a .okLabel)) (code-no-digit (decimal k ++ rb) p i) e)
+        (typed-stuck ra (decimal k ++ rb) p i (decimal-start k rb))
     go p i false e = missed ra rb (expectNumber maxU8 n (decimal o ++ (code p ++ (decimal k ++ rb)))) (number-mismatch maxU8 n o (code p ++ (decimal k ++ rb)) (code-no-digit (decimal k ++ rb) p i) e)
 
 code-then : (n x b : ℕ) (t : List ℕ) → integral x ≡ true → (integral b && startsDigit t) ≡ false → (expectBytes (x ∷ []) (b ∷ t) then (λ w. expectNumber maxU8 n w)) ≡ mismatch
@@ -100,7 +102,8 @@ typed-bits o n k cs ds v ra rb a b h =
     w p = expectNumber maxU64 o (decimal k ++ rb) then (λ u. expectEncoding v (node (primitive p) end end) u then (λ t. expectNumber maxU8 n t))
 
     go : (p : ℕ) → among p integrals ≡ true → (y : Bool) → eqb o k ≡ y → w p ≡ mismatch
-    go p i true e = rw (number-matches maxU64 o k rb (leb-true o maxU64 (both (leb o maxU64) (leb n maxU8) (a .okLabel) .0)) (no-digit rb h) e, expect-code v p rb) (typed-inner n p rb i (no-typed rb h))
+    go p i true e = rw (number-matches maxU64 o k rb (leb-true o maxU64 (both (leb o maxU64) (leb n maxU8) (a .okLabel) .0)) (no-digit rb h) e, expect-code v p rb)
+        (typed-inner n p rb i (no-typed rb h))
     go p i false e = rw (number-mismatch maxU64 o k rb (no-digit rb h) e)
 
 bytes-self : (s x : List ℕ) → expectBytes s (s ++ x) ≡ remaining x
@@ -201,7 +204,8 @@ object-text r q a = each (λ x. not (eqb x 19 && unknownNext r) ≡ true
     → orElse (expectBytes (code 20) (code x ++ r)) (orElse (expectBytes (code 19) (code x ++ r)) (expectBytes (code 21) (code x ++ r))) ≡ remaining r) (20 ∷ 19 ∷ 21 ∷ [])
     ((λ h. refl), ((λ h. rw (not-block r (not-true (unknownNext r) h))), ((λ h. refl), tt))) q a
 
-expect-object : (p q : ℕ) (r : List ℕ) → isObject p ≡ true → among q (20 ∷ 19 ∷ 21 ∷ []) ≡ true → not (eqb q 19 && unknownNext r) ≡ true → startsQuote r ≡ false → expectPrimitive p (code q ++ r) ≡ remaining r
+expect-object : (p q : ℕ) (r : List ℕ) → isObject p ≡ true → among q (20 ∷ 19 ∷ 21 ∷ []) ≡ true → not (eqb q 19 && unknownNext r) ≡ true → startsQuote r ≡ false
+    → expectPrimitive p (code q ++ r) ≡ remaining r
 unfolding expectPrimitive _then_
 expect-object p q r a b u h = rw (a, expectPrimitive) (rw (object-text r q b u) (go (eqb p 19)))
   where
@@ -222,7 +226,8 @@ unfolding equivalent
 equivalent-objects p q a b = rw (a, b) (or-true (eqb p q))
 
 -- Two codes of which one is tried for the other.
-like-codes : (p q : ℕ) (r : List ℕ) → among q (tried p) ≡ true → not (eqb q 19 && unknownNext r) ≡ true → startsQuote r ≡ false → (equivalent p q ≡ true) × (expectPrimitive p (code q ++ r) ≡ remaining r)
+like-codes : (p q : ℕ) (r : List ℕ) → among q (tried p) ≡ true → not (eqb q 19 && unknownNext r) ≡ true → startsQuote r ≡ false
+    → (equivalent p q ≡ true) × (expectPrimitive p (code q ++ r) ≡ remaining r)
 unfolding among
 like-codes p q r t u h = go (isObject p) refl
   where
@@ -230,7 +235,8 @@ like-codes p q r t u h = go (isObject p) refl
     go true e =
         let g : among q (20 ∷ 19 ∷ 21 ∷ []) ≡ true = rw (tried-object p e) at t in
         (equivalent-objects p q e (tried-is-object q g), expect-object p q r e g u h)
-    go false e = each (λ x. (equivalent p x ≡ true) × (expectPrimitive p (code x ++ r) ≡ remaining r)) (p ∷ []) ((equivalent-self p p (eq-eqb p p refl), code-self p r e), tt) q (rw (tried-one p e) at t)
+    go false e = each (λ x. (equivalent p x ≡ true) × (expectPrimitive p (code x ++ r) ≡ remaining r)) (p ∷ []) ((equivalent-self p p (eq-eqb p p refl), code-self p r e), tt) q
+        (rw (tried-one p e) at t)
 
 code-bound : (p q : ℕ) → p < 24 → among q (tried p) ≡ true → q < 24
 unfolding every

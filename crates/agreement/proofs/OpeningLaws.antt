@@ -63,7 +63,8 @@ all-distinct = refl
 pub unlike : (k j : ℕ) → k < 31 → j < 31 → among j (sameOpening k) ≡ false → (equivalent k j ≡ false) × (every (λ i. differing (opening i) (opening j)) (tried k) ≡ true)
 unfolding distinct
 unlike k j a b s =
-    let t = both (not (equivalent k j)) (every (λ i. differing (opening i) (opening j)) (tried k)) (rw s at (passBelow (distinct k) 31 (passBelow (λ x. everyBelow (distinct x) 31) 31 all-distinct k a) j b)) in
+    let t = both (not (equivalent k j)) (every (λ i. differing (opening i) (opening j)) (tried k))
+    (rw s at (passBelow (distinct k) 31 (passBelow (λ x. everyBelow (distinct x) 31) 31 all-distinct k a) j b)) in
     (not-true (equivalent k j) (t .0), t .1)
 
 pub kind-bound : (l : Label) → fitLabel l ≡ true → isNone l ≡ false → kind l < 31
@@ -116,7 +117,8 @@ tried-self : (k : ℕ) → isObject k ≡ false → among k (tried k) ≡ true
 unfolding among
 tried-self k e = rw (tried-one k e, eq-eqb k k refl)
 
-object-mismatch : (p : ℕ) (s : List ℕ) → isObject p ≡ true → expectBytes (opening 20) s ≡ mismatch → expectBytes (opening 19) s ≡ mismatch → expectBytes (opening 21) s ≡ mismatch → expectPrimitive p s ≡ mismatch
+object-mismatch : (p : ℕ) (s : List ℕ) → isObject p ≡ true → expectBytes (opening 20) s ≡ mismatch → expectBytes (opening 19) s ≡ mismatch → expectBytes (opening 21) s ≡ mismatch
+    → expectPrimitive p s ≡ mismatch
 unfolding expectPrimitive opening openings code codes orElse _then_
 object-mismatch p s e a b c = rw (e, expectPrimitive) (rw (a, b, c))
 
@@ -192,9 +194,11 @@ unfolding integral integrals everyBelow every tried among isObject opening openi
 fails-integral k h i = rw i at (passBelow (λ j. among j integrals || fails integral j) 31 refl k h)
 
 -- A node but None does not match at a closer or at the end.
-pub node-mismatch-closes : (l : Label) (v : NestingLevel) (e : Bool) (inner : List ℕ → Expected) (s : List ℕ) → fitLabel l ≡ true → isNone l ≡ false → closes s ≡ true → expectNode l v e inner s ≡ mismatch
+pub node-mismatch-closes : (l : Label) (v : NestingLevel) (e : Bool) (inner : List ℕ → Expected) (s : List ℕ) → fitLabel l ≡ true → isNone l ≡ false → closes s ≡ true
+    → expectNode l v e inner s ≡ mismatch
 unfolding closes fails
-node-mismatch-closes l v e inner [] a o h = node-mismatch l v e inner [] a o (λ k m. head-mismatch-end isCloser (opening k) (passes (λ i. headFails isCloser (opening i)) (tried (kind l)) (fails-closer (kind l) (kind-bound l a o)) k m))
+node-mismatch-closes l v e inner [] a o h = node-mismatch l v e inner [] a o
+    (λ k m. head-mismatch-end isCloser (opening k) (passes (λ i. headFails isCloser (opening i)) (tried (kind l)) (fails-closer (kind l) (kind-bound l a o)) k m))
 node-mismatch-closes l v e inner (b ∷ s) a o h = node-mismatch-head isCloser l v e inner b s a o (fails-closer (kind l) (kind-bound l a o)) h
 
 opening-closer : (k : ℕ) → k < 31 → headFails isCloser (opening k) ≡ true

@@ -39,11 +39,13 @@ encoded-tree l cs o g c =
     let g' = fit-parts l cs end g in
     rw (read-back (node l cs end) .0 Top [] (length t + length t) (g' .0) (g' .1) (g' .2) (clear-parts Top l cs end [] c .0) o refl (omega arith))
 
-encoded-none : (cs : Trees) → fit (node none cs end) ≡ true → clear Top (node none cs end) [] ≡ true → encodingOrNone (parse (print Top (node none cs end))) ≡ encoded none (keep (shows none Top) (shown (inside none Top) cs)) []
+encoded-none : (cs : Trees) → fit (node none cs end) ≡ true → clear Top (node none cs end) [] ≡ true → encodingOrNone (parse (print Top (node none cs end)))
+    ≡ encoded none (keep (shows none Top) (shown (inside none Top) cs)) []
 unfolding encodingOrNone parse parseInner print printNode shown keep
 encoded-none cs g c = rw (none-parts Top cs [] g c .0)
 
-encoded-one : (l : Label) (cs : Trees) → fit (node l cs end) ≡ true → clear Top (node l cs end) [] ≡ true → encodingOrNone (parse (print Top (node l cs end))) ≡ encoded l (keep (shows l Top) (shown (inside l Top) cs)) []
+encoded-one : (l : Label) (cs : Trees) → fit (node l cs end) ≡ true → clear Top (node l cs end) [] ≡ true → encodingOrNone (parse (print Top (node l cs end)))
+    ≡ encoded l (keep (shows l Top) (shown (inside l Top) cs)) []
 encoded-one l cs g c = go (isNone l) refl
   where
     Read : Label → Type 0

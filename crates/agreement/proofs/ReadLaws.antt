@@ -400,7 +400,8 @@ module _ (b : ℕ) (s : List ℕ) (o : opens (b ∷ s) ≡ 1) where
   array-found inner w (value n t) k = item-found n t (k .0) (k .1) (inner t) (w t (omega (arith, k .1)))
   array-found inner w (noNumber e t) k = tt
 
-  container-ok : (k : ContainerKind) (m : List ℕ) (ts : Trees) → verifyName m ≡ true → (validLabel (container k m) && validCount (container k m) ts ≡ true) × (goodName (container k m) ≡ true) × (name (container k m) ≡ m)
+  container-ok : (k : ContainerKind) (m : List ℕ) (ts : Trees) → verifyName m ≡ true → (validLabel (container k m) && validCount (container k m) ts ≡ true) ×
+      (goodName (container k m) ≡ true) × (name (container k m) ≡ m)
   unfolding validLabel validCount goodName name
   container-ok Struct m ts g = (refl, g, refl)
   container-ok Union m ts g = (refl, g, refl)

@@ -73,7 +73,8 @@ typed-at : (o n : ℕ) (r : List ℕ) → n ≤ maxU8 → mayFollow r ≡ true �
 unfolding typed
 typed-at o n r l h b i = is-typed o b (decimal n ++ r) i (decimal-start n r) ∙ ap (typed o (singleKind (start b))) (read-decimal maxU8 n r (no-digit r h) ∙ within-limit maxU8 n r l)
 
-typed-rest : (o n p : ℕ) (r : List ℕ) → n ≤ maxU8 → mayFollow r ≡ true → among p integrals ≡ true → parseBitField o (code p ++ (decimal n ++ r)) ≡ encoding (typedBitField o n) (node (primitive p) end end) r
+typed-rest : (o n p : ℕ) (r : List ℕ) → n ≤ maxU8 → mayFollow r ≡ true → among p integrals ≡ true → parseBitField o (code p ++ (decimal n ++ r))
+    ≡ encoding (typedBitField o n) (node (primitive p) end end) r
 unfolding integrals code codes start inSingles inOthers singles others singleKind integral among
 typed-rest o n p r l h a = each (λ q. parseBitField o (code q ++ (decimal n ++ r)) ≡ encoding (typedBitField o n) (node (primitive q) end end) r) integrals
     (go (byte "c") refl also go (byte "s") refl also go (byte "i") refl also go (byte "l") refl also go (byte "q") refl
@@ -91,7 +92,8 @@ code-no-digit r p a = each (λ q. startsDigit (code q ++ r) ≡ false) integrals
 read-typed : (f o n p : ℕ) (r : List ℕ) → o ≤ maxU64 → n ≤ maxU8 → mayFollow r ≡ true → among p integrals ≡ true
     → parseInner (suc f) (byte "b" ∷ (decimal o ++ (code p ++ (decimal n ++ r)))) ≡ encoding (typedBitField o n) (node (primitive p) end end) r
 unfolding parseInner begin start inSingles inOthers singles others parseBits
-read-typed f o n p r k l h a = rw (read-decimal maxU64 o (code p ++ (decimal n ++ r)) (code-no-digit (decimal n ++ r) p a), within-limit maxU64 o (code p ++ (decimal n ++ r)) k) (typed-rest o n p r l h a)
+read-typed f o n p r k l h a = rw (read-decimal maxU64 o (code p ++ (decimal n ++ r)) (code-no-digit (decimal n ++ r) p a), within-limit maxU64 o (code p ++ (decimal n ++ r)) k)
+    (typed-rest o n p r l h a)
 
 pub isEnd-end : (ts : Trees) → isEnd ts ≡ true → ts ≡ end
 unfolding isEnd
@@ -138,14 +140,16 @@ name-until k acc [] u a b = rw append-nil
 name-until k acc (x ∷ s) u a b =
     let a' = both (not (eqb x (byte "="))) (lacks (byte "=") s) a in
     let b' = both (not (eqb x (endByte k))) (lacks (endByte k) s) b in
-    rw (not-true (eqb x (byte "=")) (a' .0), not-true (eqb x (endByte k)) (b' .0), parseName) (name-until k (acc ++ (x ∷ [])) s u (a' .1) (b' .1) ∙ ap (λ y. checkName k y (byte "=" ∷ u) u) (append-assoc acc (x ∷ []) s))
+    rw (not-true (eqb x (byte "=")) (a' .0), not-true (eqb x (endByte k)) (b' .0), parseName)
+    (name-until k (acc ++ (x ∷ [])) s u (a' .1) (b' .1) ∙ ap (λ y. checkName k y (byte "=" ∷ u) u) (append-assoc acc (x ∷ []) s))
 
 name-end : (k : ContainerKind) (acc u : List ℕ) → parseName k acc (endByte k ∷ u) ≡ checkName k acc (endByte k ∷ u) (endByte k ∷ u)
 unfolding parseName
 name-end Struct acc u = refl
 name-end Union acc u = refl
 
-name-only : (k : ContainerKind) (acc s u : List ℕ) → lacks (byte "=") s ≡ true → lacks (endByte k) s ≡ true → parseName k acc (s ++ (endByte k ∷ u)) ≡ checkName k (acc ++ s) (endByte k ∷ u) (endByte k ∷ u)
+name-only : (k : ContainerKind) (acc s u : List ℕ) → lacks (byte "=") s ≡ true → lacks (endByte k) s ≡ true
+    → parseName k acc (s ++ (endByte k ∷ u)) ≡ checkName k (acc ++ s) (endByte k ∷ u) (endByte k ∷ u)
 unfolding parseName lacks
 name-only k acc [] u a b = name-end k acc u ∙ ap (λ y. checkName k y (endByte k ∷ u) (endByte k ∷ u)) (sym (append-nil acc))
 name-only k acc (x ∷ s) u a b =
@@ -225,7 +229,8 @@ child-tree : (Q : List ℕ → Parsed → Trees → Type 0) (m : Label) (ds : Tr
 unfolding shown print
 child-tree Q m ds one o v r f h tree g c n =
     let g' = fit-parts m ds end g in
-    rw (print-one v m ds r, one v r f (g' .0) (g' .1) (g' .2) (clear-parts v m ds end r c .0) o h (rw (print-one v m ds r) at n)) (tree (printNode m v (print (inside m v) ds) ++ r) m (keep (shows m v) (shown (inside m v) ds)))
+    rw (print-one v m ds r, one v r f (g' .0) (g' .1) (g' .2) (clear-parts v m ds end r c .0) o h (rw (print-one v m ds r) at n))
+    (tree (printNode m v (print (inside m v) ds) ++ r) m (keep (shows m v) (shown (inside m v) ds)))
 
 child-none : (Q : List ℕ → Parsed → Trees → Type 0) (ds : Trees) (v : NestingLevel) (r : List ℕ) (f : ℕ) → (closes r ≡ true → 2 * length r ≤ f → Q r (parseInner f r) (node none end end))
     → ChildRead Q (node none ds end) v r f
@@ -280,7 +285,8 @@ code-length r p = below (λ q. length r < length (code q ++ r)) 24 (((((((((((((
 tree-read-primitive : (p : ℕ) (cs : Trees) → TreeRead (primitive p) cs
 unfolding fitLabel validCount printNode clearNode shown keep
 tree-read-primitive p cs v r zero a b g c o h n = absurd (omega (arith, code-length r p (ltb-true p 24 a)))
-tree-read-primitive p cs v r (suc f) a b g c o h n = rw (isEnd-end cs b) (read-primitive f r h p (ltb-true p 24 a) (both (not (eqb p 19 && unknownNext r)) (clear v cs (afterChildren (primitive p) r)) c .0))
+tree-read-primitive p cs v r (suc f) a b g c o h n = rw (isEnd-end cs b)
+    (read-primitive f r h p (ltb-true p 24 a) (both (not (eqb p 19 && unknownNext r)) (clear v cs (afterChildren (primitive p) r)) c .0))
 
 open-fields : (k : ContainerKind) (s : List ℕ) (cs : Trees) → FieldsRead cs → (r : List ℕ) (f : ℕ) → verifyName s ≡ true → fit cs ≡ true → (withoutNone cs && clear Within cs (endByte k ∷ r)) ≡ true
     → 2 * length (startByte k ∷ (s ++ (byte "=" ∷ (print Within cs ++ (endByte k ∷ r))))) ≤ suc f
@@ -307,7 +313,8 @@ tree-read-container : (k : ContainerKind) (s : List ℕ) (cs : Trees) → Fields
 unfolding body keep
 tree-read-container k s cs many v r zero a g c n = absurd (omega (arith, ap length (container-text k v s (print Within cs) r)))
 tree-read-container k s cs many Top r (suc f) a g c n = rw (container-text k Top s (print Within cs) r) (open-fields k s cs many r f a g c (rw (container-text k Top s (print Within cs) r) at n))
-tree-read-container k s cs many Within r (suc f) a g c n = rw (container-text k Within s (print Within cs) r) (open-fields k s cs many r f a g c (rw (container-text k Within s (print Within cs) r) at n))
+tree-read-container k s cs many Within r (suc f) a g c n = rw (container-text k Within s (print Within cs) r)
+    (open-fields k s cs many r f a g c (rw (container-text k Within s (print Within cs) r) at n))
 tree-read-container k s cs many Bottom r (suc f) a g c n = rw (container-text k Bottom s (print Within cs) r) (open-hidden k s r f a (rw (container-text k Bottom s (print Within cs) r) at n))
 
 pub typed-text : (o n : ℕ) (v : NestingLevel) (c r : List ℕ) → printNode (typedBitField o n) v c ++ r ≡ byte "b" ∷ (decimal o ++ (c ++ (decimal n ++ r)))
@@ -383,7 +390,12 @@ fields-read-node l cs ts one many v k r (suc f) g c w n =
     let w' = both (not (isNone l)) (withoutNone ts) w in
     let o = not-true (isNone l) (w' .0) in
     let m = trees-follow v ts (endByte k ∷ r) (g' .3) (closer-follows k r) in
-    rw (append-assoc p (print v ts) (endByte k ∷ r), one v t f (g' .0) (g' .1) (g' .2) (c' .0) o m (omega arith), many v k r f (g' .3) (c' .1) (w' .1) (omega (arith, node-length l v (print (inside l v) cs) t (g' .0) o)))
+    rw (
+      append-assoc p (print v ts) (endByte k ∷ r),
+      one v t f (g' .0) (g' .1) (g' .2) (c' .0) o m (omega arith),
+      many v k r f (g' .3) (c' .1) (w' .1)
+          (omega (arith, node-length l v (print (inside l v) cs) t (g' .0) o)),
+    )
 
 fields-read-nil : FieldsRead end
 unfolding print shown

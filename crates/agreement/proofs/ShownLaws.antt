@@ -51,7 +51,8 @@ print-hidden l v h = hidden (λ l v. (x y : List ℕ) → printNode l v x ≡ pr
 pub print-shown : (v : NestingLevel) (ts : Trees) → print v (shown v ts) ≡ print v ts
 unfolding print shown
 print-shown v end = refl
-print-shown v (node l cs ts) = ap₂ (λ x y. x ++ y) (kept (λ x. printNode l v x) (λ u. print (inside l v) u) (shows l v) cs (shown (inside l v) cs) (print-hidden l v) (print-shown (inside l v) cs)) (print-shown v ts)
+print-shown v (node l cs ts) = ap₂ (λ x y. x ++ y) (kept (λ x. printNode l v x) (λ u. print (inside l v) u) (shows l v) cs (shown (inside l v) cs) (print-hidden l v)
+    (print-shown (inside l v) cs)) (print-shown v ts)
 
 -- Sizes.
 size-hidden : (l : Label) (v : NestingLevel) → shows l v ≡ false → (x y : List (Option ℕ)) → nodeSize l v x ≡ nodeSize l v y
@@ -61,7 +62,8 @@ size-hidden l v h = hidden (λ l v. (x y : List (Option ℕ)) → nodeSize l v x
 sizes-shown : (v : NestingLevel) (ts : Trees) → sizes v (shown v ts) ≡ sizes v ts
 unfolding sizes shown
 sizes-shown v end = refl
-sizes-shown v (node l cs ts) = ap₂ (λ x y. x ∷ y) (kept (λ x. nodeSize l v x) (λ u. sizes (inside l v) u) (shows l v) cs (shown (inside l v) cs) (size-hidden l v) (sizes-shown (inside l v) cs)) (sizes-shown v ts)
+sizes-shown v (node l cs ts) = ap₂ (λ x y. x ∷ y) (kept (λ x. nodeSize l v x) (λ u. sizes (inside l v) u) (shows l v) cs (shown (inside l v) cs) (size-hidden l v)
+    (sizes-shown (inside l v) cs)) (sizes-shown v ts)
 
 end-shown : (v : NestingLevel) (ts : Trees) → isEnd (shown v ts) ≡ isEnd ts
 unfolding isEnd shown

@@ -43,7 +43,8 @@ kinds (node l cs ts) = kind l ∷ (kinds cs ++ kinds ts)
 
 -- `t` breaks a condition on the shown part and nothing else, and the text that it prints is read as a sound tree that is another one.
 abbrev pub Ambiguous : Trees → List ℕ → Type 0
-Ambiguous t s = ((isOne t && (valid t && goodNames t)) ≡ true) × (sound t ≡ false) × (print Top t ≡ s) × (sound (readTree s) ≡ true) × (sameBytes (kinds (shown Top t)) (kinds (shown Top (readTree s))) ≡ false)
+Ambiguous t s = ((isOne t && (valid t && goodNames t)) ≡ true) × (sound t ≡ false) × (print Top t ≡ s) × (sound (readTree s) ≡ true) ×
+    (sameBytes (kinds (shown Top t)) (kinds (shown Top (readTree s))) ≡ false)
 
 abbrev pub AllAmbiguous : List (Trees × List ℕ) → Type 0
 AllAmbiguous [] = Unit {0}
