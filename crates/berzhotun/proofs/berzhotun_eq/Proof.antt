@@ -8,16 +8,10 @@ use Rattle.berzhotun.proofs.berzhotun_eq.Lts as lts
 use Rattle.berzhotun.proofs.give_compared.Reads as give-compared-reads
 use Rattle.encoding_box.proofs.eq.Reads as eq-reads
 
-eq-requires : tie.Need-eq-requires
-eq-requires c κs = search needs
-
-give-compared-requires : tie.Need-give-compared-requires
-give-compared-requires c κs = search needs
-
 returns : tie.Need-returns
 returns c =
     let c2 = c .before .before in
     (c .give-compared .ensures .0 ∙ ap compareNumber (c2 .eq .ensures), c .give-compared .ensures .1 ∙ ap compareValues (c2 .eq .ensures))
 
 pub berzhotun-eq-spec : {M : Type 1} → statement M
-berzhotun-eq-spec = tie.close (tie.spec eq-requires give-compared-requires returns)
+berzhotun-eq-spec = tie.close (tie.spec (λ c κs. search needs) (λ c κs. search needs) returns)

@@ -8,12 +8,6 @@ use Rattle.berzhotun.proofs.berzhotun_equivalent_to.Lts as lts
 use Rattle.berzhotun.proofs.give_compared.Reads as give-compared-reads
 use Rattle.encoding.proofs.equivalent_to.Reads as equivalent-to-reads
 
-equivalent-to-requires : tie.Need-equivalent-to-requires
-equivalent-to-requires c κs = search needs
-
-give-compared-requires : tie.Need-give-compared-requires
-give-compared-requires c κs = search needs
-
 returns : tie.Need-returns
 returns c =
     let c2 = c .before .before in
@@ -21,4 +15,4 @@ returns c =
 
 pub berzhotun-equivalent-to-spec : {M : Type 1} → statement M
 berzhotun-equivalent-to-spec =
-    tie.close (tie.spec equivalent-to-requires give-compared-requires returns)
+    tie.close (tie.spec (λ c κs. search needs) (λ c κs. search needs) returns)

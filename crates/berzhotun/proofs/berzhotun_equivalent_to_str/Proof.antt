@@ -8,12 +8,6 @@ use Rattle.berzhotun.proofs.berzhotun_equivalent_to_str.Lts as lts
 use Rattle.berzhotun.proofs.give_compared.Reads as give-compared-reads
 use Rattle.expect.proofs.equivalent_to_str.Reads as equivalent-to-str-reads
 
-equivalent-to-str-requires : tie.Need-equivalent-to-str-requires
-equivalent-to-str-requires c κs = search needs
-
-give-compared-requires : tie.Need-give-compared-requires
-give-compared-requires c κs = search needs
-
 returns : tie.Need-returns
 returns c =
     let c2 = c .before .before in (
@@ -24,4 +18,4 @@ returns c =
 
 pub berzhotun-equivalent-to-str-spec : {M : Type 1} → statement M
 berzhotun-equivalent-to-str-spec =
-    tie.close (tie.spec equivalent-to-str-requires give-compared-requires returns)
+    tie.close (tie.spec (λ c κs. search needs) (λ c κs. search needs) returns)

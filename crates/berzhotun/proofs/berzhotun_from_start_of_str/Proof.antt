@@ -11,20 +11,8 @@ use Rattle.berzhotun.proofs.berzhotun_from_start_of_str.Reads as reads
 use Rattle.berzhotun.proofs.berzhotun_from_start_of_str.Lts as lts
 use Rattle.parse.proofs.from_start_of_str.Reads as from-start-of-str-reads
 
-from-start-of-str-requires : tie.Need-from-start-of-str-requires
-from-start-of-str-requires c κs = search needs
-
-array-read-number : tie.Need-array-read-number
-array-read-number c = search needs
-
 sub-t19 : tie.Need-sub-t19
 sub-t19 c = end-shorter _ _ (c .before .before .before .before .before .from-start-of-str .ensures .1 .0)
-
-same-length : tie.Need-same-length
-same-length c = search needs
-
-same-length-2 : tie.Need-same-length-2
-same-length-2 c = search needs
 
 returns : tie.Need-returns
 returns c =
@@ -35,21 +23,6 @@ returns c =
     let r = fromStartAnswer (now (g .text)) (now (g .words)) (now (g .names)) in
     let p = length (now (g .text)) - length (now (c6 .from-start-of-str .result)) in
     (tree-number _ r (a .1 .1 .0) (c .before .if1 .taken), (rw (← a .0) (tree-values _ r p (a .1 .1 .0) (c .before .if1 .taken)), a .1 .1 .1))
-
-array-read-t15 : tie.Need-array-read-t15
-array-read-t15 c = search needs
-
-array-read-t25 : tie.Need-array-read-t25
-array-read-t25 c = search needs
-
-array-read-t28 : tie.Need-array-read-t28
-array-read-t28 c = search needs
-
-same-length-3 : tie.Need-same-length-3
-same-length-3 c = search needs
-
-same-length-4 : tie.Need-same-length-4
-same-length-4 c = search needs
 
 returns-2 : tie.Need-returns-2
 returns-2 c =
@@ -65,15 +38,15 @@ pub berzhotun-from-start-of-str-spec : {M : Type 1} → statement M
 berzhotun-from-start-of-str-spec =
     tie.close
     (tie.spec
-    from-start-of-str-requires
-    array-read-number
+    (λ c κs. search needs)
+    (λ c. search needs)
     sub-t19
-    same-length
-    same-length-2
+    (λ c. search needs)
+    (λ c. search needs)
     returns
-    array-read-t15
-    array-read-t25
-    array-read-t28
-    same-length-3
-    same-length-4
+    (λ c. search needs)
+    (λ c. search needs)
+    (λ c. search needs)
+    (λ c. search needs)
+    (λ c. search needs)
     returns-2)

@@ -6,14 +6,8 @@ use Rattle.berzhotun.proofs.berzhotun_size.Lts as lts
 use Rattle.berzhotun.proofs.give_sized.Reads as give-sized-reads
 use Rattle.encoding.proofs.size.Reads as size-reads
 
-size-requires : tie.Need-size-requires
-size-requires c κs = search needs
-
-give-sized-requires : tie.Need-give-sized-requires
-give-sized-requires c κs = search needs
-
 returns : tie.Need-returns
 returns c = rw (← c .before .before .size .ensures) (c .give-sized .ensures)
 
 pub berzhotun-size-spec : {M : Type 1} → statement M
-berzhotun-size-spec = tie.close (tie.spec size-requires give-sized-requires returns)
+berzhotun-size-spec = tie.close (tie.spec (λ c κs. search needs) (λ c κs. search needs) returns)

@@ -6,15 +6,6 @@ use Rattle.berzhotun.proofs.berzhotun_static_encoding_str_array.Lts as 
 use Rattle.berzhotun.proofs.give_printed.Reads as give-printed-reads
 use Rattle.static_str.proofs.static_encoding_str_array.Reads as static-encoding-str-array-reads
 
-static-encoding-str-array-requires : tie.Need-static-encoding-str-array-requires
-static-encoding-str-array-requires c κs = search needs
-
-give-printed-requires : tie.Need-give-printed-requires
-give-printed-requires c κs = search needs
-
-same-length : tie.Need-same-length
-same-length c = search needs
-
 returns : tie.Need-returns
 returns c =
     let a = c .before .before .before .before .static-encoding-str-array .ensures in
@@ -23,4 +14,4 @@ returns c =
 pub berzhotun-static-encoding-str-array-spec : {M : Type 1} → statement M
 berzhotun-static-encoding-str-array-spec =
     tie.close
-    (tie.spec static-encoding-str-array-requires give-printed-requires same-length returns)
+    (tie.spec (λ c κs. search needs) (λ c κs. search needs) (λ c. search needs) returns)

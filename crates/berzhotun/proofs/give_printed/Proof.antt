@@ -6,15 +6,6 @@ use Rattle.berzhotun.proofs.give_printed.Reads as reads
 use Rattle.berzhotun.proofs.give_printed.Lts as lts
 use Rattle.kinds.proofs.Refusal.number.Reads as number-reads
 
-enum-known-p : tie.Need-enum-known-p
-enum-known-p c = search needs
-
-number-requires : tie.Need-number-requires
-number-requires c κs = search needs
-
-enum-known-p-2 : tie.Need-enum-known-p-2
-enum-known-p-2 c = search needs
-
 returns : tie.Need-returns
 returns c = search needs
 
@@ -23,4 +14,4 @@ returns-2 c = rw (c .before .before .p2 .given .1) (refl, refl)
 
 pub give-printed-spec : {M : Type 1} → statement M
 give-printed-spec =
-    tie.close (tie.spec enum-known-p number-requires enum-known-p-2 returns returns-2)
+    tie.close (tie.spec (λ c. search needs) (λ c κs. search needs) (λ c. search needs) returns returns-2)

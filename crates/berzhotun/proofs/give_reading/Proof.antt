@@ -6,18 +6,6 @@ use Rattle.berzhotun.proofs.give_reading.Lts as lts
 use Rattle.kinds.proofs.Refusal.number.Reads as number-reads
 use Rattle.kinds.proofs.Refusal.values.Reads as values-reads
 
-enum-told : tie.Need-enum-told
-enum-told c = search needs
-
-enum-known-reading : tie.Need-enum-known-reading
-enum-known-reading c = search needs
-
-values-requires : tie.Need-values-requires
-values-requires c κs = search needs
-
-number-requires : tie.Need-number-requires
-number-requires c κs = search needs
-
 returns : tie.Need-returns
 returns c = search needs
 
@@ -29,4 +17,4 @@ returns-2 c =
 pub give-reading-spec : {M : Type 1} → statement M
 give-reading-spec =
     tie.close
-    (tie.spec enum-told enum-known-reading values-requires number-requires returns returns-2)
+    (tie.spec (λ c. search needs) (λ c. search needs) (λ c κs. search needs) (λ c κs. search needs) returns returns-2)

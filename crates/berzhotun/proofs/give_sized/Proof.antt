@@ -6,18 +6,6 @@ use Rattle.berzhotun.proofs.give_sized.Reads as reads
 use Rattle.berzhotun.proofs.give_sized.Lts as lts
 use Rattle.kinds.proofs.Refusal.number.Reads as number-reads
 
-enum-known-s : tie.Need-enum-known-s
-enum-known-s c = search needs
-
-number-requires : tie.Need-number-requires
-number-requires c κs = search needs
-
-enum-told : tie.Need-enum-told
-enum-told c = search needs
-
-enum-known-s-2 : tie.Need-enum-known-s-2
-enum-known-s-2 c = search needs
-
 returns : tie.Need-returns
 returns c = search needs
 
@@ -30,4 +18,4 @@ returns-3 c = rw (c .before .before .s2 .given .1) (refl, refl)
 pub give-sized-spec : {M : Type 1} → statement M
 give-sized-spec =
     tie.close
-    (tie.spec enum-known-s number-requires enum-told enum-known-s-2 returns returns-2 returns-3)
+    (tie.spec (λ c. search needs) (λ c κs. search needs) (λ c. search needs) (λ c. search needs) returns returns-2 returns-3)

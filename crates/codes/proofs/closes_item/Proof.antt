@@ -4,9 +4,6 @@ use borrow.Author.Tests.{lt-ltb, le-ltb}
 use Rattle.codes.proofs.closes_item.Statement.{statement}
 use Rattle.codes.proofs.closes_item.Tie as tie
 
-shared-slice-read-result : tie.Need-shared-slice-read-result
-shared-slice-read-result c = search needs
-
 returns : tie.Need-returns
 returns c = rw (lt-ltb _ _ (c .before .if1 .taken)) refl
 
@@ -14,4 +11,4 @@ returns-2 : tie.Need-returns-2
 returns-2 c = rw (le-ltb _ _ (c .if1 .left)) refl
 
 pub closes-item-spec : {M : Type 1} → statement M
-closes-item-spec = tie.close (tie.spec shared-slice-read-result returns returns-2)
+closes-item-spec = tie.close (tie.spec (λ c. search needs) returns returns-2)

@@ -22,9 +22,6 @@ loop-holds c = refl
 shared-slice-read-is-code : tie.Need-shared-slice-read-is-code Inv-loop μ-loop
 shared-slice-read-is-code c = omega arith
 
-is-code-requires : tie.Need-is-code-requires Inv-loop μ-loop
-is-code-requires c κs = search needs
-
 returns : tie.Need-returns Inv-loop μ-loop
 returns c =
     let p = c .before .before .before in
@@ -52,7 +49,7 @@ codes-end-spec =
     μ-loop
     loop-holds
     shared-slice-read-is-code
-    is-code-requires
+    (λ c κs. search needs)
     returns
     add-i
     loop-less

@@ -22,9 +22,6 @@ loop-holds c = refl
 shared-slice-read-is-indirection : tie.Need-shared-slice-read-is-indirection Inv-loop μ-loop
 shared-slice-read-is-indirection c = omega arith
 
-is-indirection-requires : tie.Need-is-indirection-requires Inv-loop μ-loop
-is-indirection-requires c κs = search needs
-
 returns : tie.Need-returns Inv-loop μ-loop
 returns c =
     let p = c .before .before .before in
@@ -52,7 +49,7 @@ indirections-end-spec =
     μ-loop
     loop-holds
     shared-slice-read-is-indirection
-    is-indirection-requires
+    (λ c κs. search needs)
     returns
     add-to
     loop-less

@@ -6,12 +6,9 @@ use borrow.Author.Needs.{needs}
 use Rattle.codes.proofs.is_code.Statement.{statement}
 use Rattle.codes.proofs.is_code.Tie as tie
 
-single-kind-requires : tie.Need-single-kind-requires
-single-kind-requires c κs = search needs
-
 returns : tie.Need-returns
 unfolding isCode
 returns c = ap (λ (p : ℕ). ltb p 24) (c .single-kind .ensures)
 
 pub is-code-spec : {M : Type 1} → statement M
-is-code-spec = tie.close (tie.spec single-kind-requires returns)
+is-code-spec = tie.close (tie.spec (λ c κs. search needs) returns)

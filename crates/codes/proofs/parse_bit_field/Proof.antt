@@ -11,26 +11,8 @@ use borrow.Author.Needs.{needs}
 use Rattle.codes.proofs.parse_bit_field.Statement.{statement}
 use Rattle.codes.proofs.parse_bit_field.Tie as tie
 
-sub-if1 : tie.Need-sub-if1
-sub-if1 c = search needs
-
-untyped-requires : tie.Need-untyped-requires
-untyped-requires c κs = search needs
-
 returns : tie.Need-returns
 returns c = c .untyped .ensures ∙ answer-untyped _ _ (search needs) _ _ (bits-short _ _ (simp length-drop (omega arith)))
-
-shared-slice-read-single-kind : tie.Need-shared-slice-read-single-kind
-shared-slice-read-single-kind c = search needs
-
-single-kind-requires : tie.Need-single-kind-requires
-single-kind-requires c κs = search needs
-
-is-integral-requires : tie.Need-is-integral-requires
-is-integral-requires c κs = search needs
-
-untyped-requires-2 : tie.Need-untyped-requires-2
-untyped-requires-2 c κs = search needs
 
 returns-2 : tie.Need-returns-2
 returns-2 c =
@@ -39,35 +21,11 @@ returns-2 c =
     let no = integral-is _ ∙ ap integralKind (sym (k .before .single-kind .ensures)) ∙ sym (k .is-integral .ensures) ∙ not-true _ (c .before .if2 .taken) in
     c .untyped2 .ensures ∙ answer-untyped _ _ (search needs) _ _ (bits-no-type (a .text .now) (a .to) (omega arith) _ no)
 
-add-is-digit : tie.Need-add-is-digit
-add-is-digit c = search needs
-
-shared-slice-read-is-digit : tie.Need-shared-slice-read-is-digit
-shared-slice-read-is-digit c = search needs
-
-is-digit-requires : tie.Need-is-digit-requires
-is-digit-requires c κs = search needs
-
-untyped-requires-3 : tie.Need-untyped-requires-3
-untyped-requires-3 c κs = search needs
-
 returns-3 : tie.Need-returns-3
 returns-3 c =
     let a = c .before .before .before .before .before .before .before .before .before .before .args in
     let no = sym (c .before .before .is-digit .ensures) ∙ not-true _ (c .before .if3 .taken) in
     c .untyped3 .ensures ∙ answer-untyped _ _ (search needs) _ _ (bits-no-digit (a .text .now) (a .to) (omega arith) _ no)
-
-add-parse-u8 : tie.Need-add-parse-u8
-add-parse-u8 c = search needs
-
-parse-u8-requires : tie.Need-parse-u8-requires
-parse-u8-requires c κs = search needs
-
-enum-known-size : tie.Need-enum-known-size
-enum-known-size c = search needs
-
-enum-known-why : tie.Need-enum-known-why
-enum-known-why c = search needs
 
 returns-4 : tie.Need-returns-4
 returns-4 c =
@@ -99,22 +57,22 @@ pub parse-bit-field-spec : {M : Type 1} → statement M
 parse-bit-field-spec =
     tie.close
     (tie.spec
-    sub-if1
-    untyped-requires
+    (λ c. search needs)
+    (λ c κs. search needs)
     returns
-    shared-slice-read-single-kind
-    single-kind-requires
-    is-integral-requires
-    untyped-requires-2
+    (λ c. search needs)
+    (λ c κs. search needs)
+    (λ c κs. search needs)
+    (λ c κs. search needs)
     returns-2
-    add-is-digit
-    shared-slice-read-is-digit
-    is-digit-requires
-    untyped-requires-3
+    (λ c. search needs)
+    (λ c. search needs)
+    (λ c κs. search needs)
+    (λ c κs. search needs)
     returns-3
-    add-parse-u8
-    parse-u8-requires
-    enum-known-size
-    enum-known-why
+    (λ c. search needs)
+    (λ c κs. search needs)
+    (λ c. search needs)
+    (λ c. search needs)
     returns-4
     returns-5)

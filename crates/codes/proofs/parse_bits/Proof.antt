@@ -7,15 +7,6 @@ use borrow.Author.Needs.{needs}
 use Rattle.codes.proofs.parse_bits.Statement.{statement}
 use Rattle.codes.proofs.parse_bits.Tie as tie
 
-parse-u64-requires : tie.Need-parse-u64-requires
-parse-u64-requires c κs = search needs
-
-enum-known-why : tie.Need-enum-known-why
-enum-known-why c = search needs
-
-enum-known-first : tie.Need-enum-known-first
-enum-known-first c = search needs
-
 parse-bit-field-requires : tie.Need-parse-bit-field-requires
 parse-bit-field-requires c κs =
     let p = c .before .before .before in
@@ -38,9 +29,9 @@ pub parse-bits-spec : {M : Type 1} → statement M
 parse-bits-spec =
     tie.close
     (tie.spec
-    parse-u64-requires
-    enum-known-why
-    enum-known-first
+    (λ c κs. search needs)
+    (λ c. search needs)
+    (λ c. search needs)
     parse-bit-field-requires
     returns
     returns-2)

@@ -7,18 +7,6 @@ use Rattle.codes.proofs.parse_complex.Tie as tie
 returns : tie.Need-returns
 returns c = answer-refused _ _ (search needs) _ _ (complex-end _ _ (c .if1 .taken))
 
-shared-slice-read-b : tie.Need-shared-slice-read-b
-shared-slice-read-b c = search needs
-
-add-t10 : tie.Need-add-t10
-add-t10 c = search needs
-
-add-t11 : tie.Need-add-t11
-add-t11 c = search needs
-
-add-t12 : tie.Need-add-t12
-add-t12 c = search needs
-
 returns-2 : tie.Need-returns-2
 returns-2 c = answer-primitive _ _ (omega arith) _ _ (complex-f _ _ (c .before .before .if1 .left) (c .match .keys1))
 
@@ -38,10 +26,10 @@ parse-complex-spec =
     tie.close
     (tie.spec
     returns
-    shared-slice-read-b
-    add-t10
-    add-t11
-    add-t12
+    (λ c. search needs)
+    (λ c. search needs)
+    (λ c. search needs)
+    (λ c. search needs)
     returns-2
     returns-3
     returns-4

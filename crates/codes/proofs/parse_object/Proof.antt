@@ -9,18 +9,6 @@ use Rattle.codes.proofs.parse_object.Tie as tie
 returns : tie.Need-returns
 returns c = answer-primitive _ _ (search needs) _ _ (object-end _ _ (c .if1 .taken))
 
-shared-slice-read-b : tie.Need-shared-slice-read-b
-shared-slice-read-b c = search needs
-
-add-t9 : tie.Need-add-t9
-add-t9 c = search needs
-
-add-quoted : tie.Need-add-parse-quoted
-add-quoted c = search needs
-
-parse-quoted-requires : tie.Need-parse-quoted-requires
-parse-quoted-requires c κs = search needs
-
 returns-2 : tie.Need-returns-2
 returns-2 c = answer-primitive _ _ (omega arith) _ _ (object-block _ _ (c .before .before .if1 .left) (c .match .keys1))
 
@@ -35,10 +23,10 @@ parse-object-spec =
     tie.close
     (tie.spec
     returns
-    shared-slice-read-b
-    add-t9
-    add-quoted
-    parse-quoted-requires
+    (λ c. search needs)
+    (λ c. search needs)
+    (λ c. search needs)
+    (λ c κs. search needs)
     returns-2
     returns-3
     returns-4)

@@ -13,29 +13,11 @@ use Rattle.codes.proofs.token_at.Tie as tie
 returns : tie.Need-returns
 returns c = token-end _ _ (c .if1 .taken)
 
-shared-slice-read-b : tie.Need-shared-slice-read-b
-shared-slice-read-b c = search needs
-
-add-next : tie.Need-add-next
-add-next c = search needs
-
-single-kind-requires : tie.Need-single-kind-requires
-single-kind-requires c κs = search needs
-
 returns-2 : tie.Need-returns-2
 unfolding tokenFrom hasParts begin leaf
 returns-2 c =
     let k = c .before .single-kind .ensures in
     answer-primitive _ _ (omega arith) _ _ refl ∙ sym (token-begins _ _ (c .before .before .before .if1 .left) (single-code _ _ k (omega (arith, c .if2 .taken))))
-
-parse-complex-requires : tie.Need-parse-complex-requires
-parse-complex-requires c κs = search needs
-
-parse-object-requires : tie.Need-parse-object-requires
-parse-object-requires c κs = search needs
-
-parse-bits-requires : tie.Need-parse-bits-requires
-parse-bits-requires c κs = search needs
 
 returns-3 : tie.Need-returns-3
 unfolding start inSingles singles inOthers others tokenFrom hasParts begin
@@ -99,13 +81,13 @@ token-at-spec =
     tie.close
     (tie.spec
     returns
-    shared-slice-read-b
-    add-next
-    single-kind-requires
+    (λ c. search needs)
+    (λ c. search needs)
+    (λ c κs. search needs)
     returns-2
-    parse-complex-requires
-    parse-object-requires
-    parse-bits-requires
+    (λ c κs. search needs)
+    (λ c κs. search needs)
+    (λ c κs. search needs)
     returns-3
     returns-4
     returns-5

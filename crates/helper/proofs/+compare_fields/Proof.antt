@@ -71,9 +71,6 @@ Inv-loop a an at₀ left₀ b bn bt₀ more₀ level₀ all here₀ at left bt m
 abbrev μ-loop : compare-fields-lts.MeasureT-loop
 μ-loop a an at₀ left₀ b bn bt₀ more₀ level₀ all here₀ at left bt more level here = left
 
-compare-fields-either-none-requires : (t : ℕ) → compare-fields-lts.Need-either-none-requires (claims t) (asked t) compare-fields.Post Inv-loop μ-loop
-compare-fields-either-none-requires t c κs = search needs
-
 compare-fields-returns : (t : ℕ) → compare-fields-lts.Need-returns (claims t) (asked t) compare-fields.Post Inv-loop μ-loop
 compare-fields-returns t c =
     let a = c .before .before .before .before .before .before .args in
@@ -97,9 +94,6 @@ compare-fields-loop-holds t c =
             ∙ sym (fields-some (a .all) (a .level) (a .an .now) (a .a .now) (a .bn .now) (a .b .now) (a .left) (a .more) (a .at) (a .bt) (s .0) (s .1));
       },
     )
-
-compare-fields-either-none-requires-2 : (t : ℕ) → compare-fields-lts.Need-either-none-requires-2 (claims t) (asked t) compare-fields.Post Inv-loop μ-loop
-compare-fields-either-none-requires-2 t c κs = search needs
 
 compare-fields-compare-labels-requires : (t : ℕ) → compare-fields-lts.Need-compare-labels-requires (claims t) (asked t) compare-fields.Post Inv-loop μ-loop
 compare-fields-compare-labels-requires t c κs =
@@ -142,9 +136,6 @@ compare-fields-shared-slice-read-kind t c =
     let b = left-bounds (l .inv .1) (s .0) (s .1) in
     let g = good .1 .1 .1 .1 .0 .0 in
     omega arith
-
-compare-fields-is-container-requires : (t : ℕ) → compare-fields-lts.Need-is-container-requires (claims t) (asked t) compare-fields.Post Inv-loop μ-loop
-compare-fields-is-container-requires t c κs = search needs
 
 compare-fields-add-c : (t : ℕ) → compare-fields-lts.Need-add-c (claims t) (asked t) compare-fields.Post Inv-loop μ-loop
 compare-fields-add-c t c =
@@ -224,9 +215,6 @@ compare-fields-shared-slice-read-d t c =
     let g = good .1 .1 .1 .1 .0 .0 in
     omega arith
 
-compare-fields-level-for-requires : (t : ℕ) → compare-fields-lts.Need-level-for-requires (claims t) (asked t) compare-fields.Post Inv-loop μ-loop
-compare-fields-level-for-requires t c κs = search needs
-
 compare-fields-sub-shown-count : (t : ℕ) → compare-fields-lts.Need-sub-shown-count (claims t) (asked t) compare-fields.Post Inv-loop μ-loop
 compare-fields-sub-shown-count t c =
     let p8 = c .before .before .before .before .before .before .before .before in
@@ -239,9 +227,6 @@ compare-fields-sub-shown-count t c =
     let b = left-bounds (l .inv .1) (s .0) (s .1) in
     let g = good .1 .1 .1 .1 .0 .0 in
     omega arith
-
-compare-fields-shown-count-requires : (t : ℕ) → compare-fields-lts.Need-shown-count-requires (claims t) (asked t) compare-fields.Post Inv-loop μ-loop
-compare-fields-shown-count-requires t c κs = search needs
 
 compare-fields-sub-m : (t : ℕ) → compare-fields-lts.Need-sub-m (claims t) (asked t) compare-fields.Post Inv-loop μ-loop
 compare-fields-sub-m t c =
@@ -313,9 +298,6 @@ compare-fields-sub-fields-last-2 t c =
     let g = good .1 .1 .1 .1 .0 .0 in
     omega arith
 
-compare-fields-fields-last-requires : (t : ℕ) → compare-fields-lts.Need-fields-last-requires (claims t) (asked t) compare-fields.Post Inv-loop μ-loop
-compare-fields-fields-last-requires t c κs = search needs
-
 compare-fields-loop-less : (t : ℕ) → compare-fields-lts.Need-loop-less (claims t) (asked t) compare-fields.Post Inv-loop μ-loop
 compare-fields-loop-less t c =
     let p2 = c .before .before in
@@ -365,45 +347,6 @@ compare-fields-loop-again t c =
           ∙ not-false _ (p9 .if3 .left)) (sym (p7 .is-container .ensures)
           ∙ p6 .if4 .taken) (p3 .level-for .ensures) (p2 .shown-count .ensures) (omega arith) (omega arith) (f .2) (f .3),
     )
-
-compare-fields-sub-compare-fields : (t : ℕ) → compare-fields-lts.Need-sub-compare-fields (claims t) (asked t) compare-fields.Post Inv-loop μ-loop
-compare-fields-sub-compare-fields t c = search needs
-
-compare-fields-part-compare-fields-start : (t : ℕ) → compare-fields-lts.Need-part-compare-fields-start (claims t) (asked t) compare-fields.Post Inv-loop μ-loop
-compare-fields-part-compare-fields-start t c = search needs
-
-compare-fields-part-compare-fields-end : (t : ℕ) → compare-fields-lts.Need-part-compare-fields-end (claims t) (asked t) compare-fields.Post Inv-loop μ-loop
-compare-fields-part-compare-fields-end t c = search needs
-
-compare-fields-sub-compare-fields-2 : (t : ℕ) → compare-fields-lts.Need-sub-compare-fields-2 (claims t) (asked t) compare-fields.Post Inv-loop μ-loop
-compare-fields-sub-compare-fields-2 t c = search needs
-
-compare-fields-part-compare-fields-start-2 : (t : ℕ) → compare-fields-lts.Need-part-compare-fields-start-2 (claims t) (asked t) compare-fields.Post Inv-loop
-    μ-loop
-compare-fields-part-compare-fields-start-2 t c = search needs
-
-compare-fields-part-compare-fields-end-2 : (t : ℕ) → compare-fields-lts.Need-part-compare-fields-end-2 (claims t) (asked t) compare-fields.Post Inv-loop μ-loop
-compare-fields-part-compare-fields-end-2 t c = search needs
-
-compare-fields-sub-compare-fields-3 : (t : ℕ) → compare-fields-lts.Need-sub-compare-fields-3 (claims t) (asked t) compare-fields.Post Inv-loop μ-loop
-compare-fields-sub-compare-fields-3 t c = search needs
-
-compare-fields-part-compare-fields-start-3 : (t : ℕ) → compare-fields-lts.Need-part-compare-fields-start-3 (claims t) (asked t) compare-fields.Post Inv-loop
-    μ-loop
-compare-fields-part-compare-fields-start-3 t c = search needs
-
-compare-fields-part-compare-fields-end-3 : (t : ℕ) → compare-fields-lts.Need-part-compare-fields-end-3 (claims t) (asked t) compare-fields.Post Inv-loop μ-loop
-compare-fields-part-compare-fields-end-3 t c = search needs
-
-compare-fields-sub-compare-fields-4 : (t : ℕ) → compare-fields-lts.Need-sub-compare-fields-4 (claims t) (asked t) compare-fields.Post Inv-loop μ-loop
-compare-fields-sub-compare-fields-4 t c = search needs
-
-compare-fields-part-compare-fields-start-4 : (t : ℕ) → compare-fields-lts.Need-part-compare-fields-start-4 (claims t) (asked t) compare-fields.Post Inv-loop
-    μ-loop
-compare-fields-part-compare-fields-start-4 t c = search needs
-
-compare-fields-part-compare-fields-end-4 : (t : ℕ) → compare-fields-lts.Need-part-compare-fields-end-4 (claims t) (asked t) compare-fields.Post Inv-loop μ-loop
-compare-fields-part-compare-fields-end-4 t c = search needs
 
 compare-fields-compare-fields-requires : (t : ℕ) → compare-fields-lts.Need-compare-fields-requires (claims t) (asked t) compare-fields.Post Inv-loop μ-loop
 compare-fields-compare-fields-requires t c κs =
@@ -531,9 +474,6 @@ compare-fields-sub-more t c =
     let g = good .1 .1 .1 .1 .0 .0 in
     ⊎-elim (λ i. omega arith) (λ i. omega arith) (p2 .if4 .came)
 
-compare-fields-level-after-requires : (t : ℕ) → compare-fields-lts.Need-level-after-requires (claims t) (asked t) compare-fields.Post Inv-loop μ-loop
-compare-fields-level-after-requires t c κs = search needs
-
 compare-fields-loop-less-2 : (t : ℕ) → compare-fields-lts.Need-loop-less-2 (claims t) (asked t) compare-fields.Post Inv-loop μ-loop
 compare-fields-loop-less-2 t c =
     let p3 = c .before .before .before in
@@ -585,44 +525,44 @@ pub +compare-fields-spec : {M : Type 1} → statement M
     compare-fields.Post
     Inv-loop
     μ-loop
-    (compare-fields-either-none-requires t)
+    (λ c κs. search needs)
     (compare-fields-returns t)
     (compare-fields-loop-holds t)
-    (compare-fields-either-none-requires-2 t)
+    (λ c κs. search needs)
     (compare-fields-compare-labels-requires t)
     (compare-fields-returns-2 t)
     (compare-fields-mul-kind t)
     (compare-fields-shared-slice-read-kind t)
-    (compare-fields-is-container-requires t)
+    (λ c κs. search needs)
     (compare-fields-add-c t)
     (compare-fields-mul-c t)
     (compare-fields-shared-slice-read-c t)
     (compare-fields-add-d t)
     (compare-fields-mul-d t)
     (compare-fields-shared-slice-read-d t)
-    (compare-fields-level-for-requires t)
+    (λ c κs. search needs)
     (compare-fields-sub-shown-count t)
-    (compare-fields-shown-count-requires t)
+    (λ c κs. search needs)
     (compare-fields-sub-m t)
     (compare-fields-add-i t)
     (compare-fields-add-j t)
     (compare-fields-sub-fields-last t)
     (compare-fields-sub-fields-last-2 t)
-    (compare-fields-fields-last-requires t)
+    (λ c κs. search needs)
     (compare-fields-loop-less t)
     (compare-fields-loop-again t)
-    (compare-fields-sub-compare-fields t)
-    (compare-fields-part-compare-fields-start t)
-    (compare-fields-part-compare-fields-end t)
-    (compare-fields-sub-compare-fields-2 t)
-    (compare-fields-part-compare-fields-start-2 t)
-    (compare-fields-part-compare-fields-end-2 t)
-    (compare-fields-sub-compare-fields-3 t)
-    (compare-fields-part-compare-fields-start-3 t)
-    (compare-fields-part-compare-fields-end-3 t)
-    (compare-fields-sub-compare-fields-4 t)
-    (compare-fields-part-compare-fields-start-4 t)
-    (compare-fields-part-compare-fields-end-4 t)
+    (λ c. search needs)
+    (λ c. search needs)
+    (λ c. search needs)
+    (λ c. search needs)
+    (λ c. search needs)
+    (λ c. search needs)
+    (λ c. search needs)
+    (λ c. search needs)
+    (λ c. search needs)
+    (λ c. search needs)
+    (λ c. search needs)
+    (λ c. search needs)
     (compare-fields-compare-fields-requires t)
     (compare-fields-returns-3 t)
     (compare-fields-mul-at t)
@@ -631,7 +571,7 @@ pub +compare-fields-spec : {M : Type 1} → statement M
     (compare-fields-mul-bt t)
     (compare-fields-add-bt t)
     (compare-fields-sub-more t)
-    (compare-fields-level-after-requires t)
+    (λ c κs. search needs)
     (compare-fields-loop-less-2 t)
     (compare-fields-loop-again-2 t)
     (compare-fields-returns-4 t)

@@ -65,47 +65,11 @@ Inv-loop nodes at kind inner child₀ left₀ all₀ child left all = (left < co
 abbrev μ-loop : size-of-lts.MeasureT-loop
 μ-loop nodes at kind inner child₀ left₀ all₀ child left all = left
 
-size-of-mul-kind : (t : ℕ) → size-of-lts.Need-mul-kind (claims t) (asked t) size-of.Post Inv-loop μ-loop
-size-of-mul-kind t c = search needs
-
-size-of-shared-slice-read-kind : (t : ℕ) → size-of-lts.Need-shared-slice-read-kind (claims t) (asked t) size-of.Post Inv-loop μ-loop
-size-of-shared-slice-read-kind t c = search needs
-
-size-of-is-leaf-requires : (t : ℕ) → size-of-lts.Need-is-leaf-requires (claims t) (asked t) size-of.Post Inv-loop μ-loop
-size-of-is-leaf-requires t c κs = search needs
-
-size-of-add-leaf-size : (t : ℕ) → size-of-lts.Need-add-leaf-size (claims t) (asked t) size-of.Post Inv-loop μ-loop
-size-of-add-leaf-size t c = search needs
-
-size-of-mul-leaf-size : (t : ℕ) → size-of-lts.Need-mul-leaf-size (claims t) (asked t) size-of.Post Inv-loop μ-loop
-size-of-mul-leaf-size t c = search needs
-
-size-of-shared-slice-read-leaf-size : (t : ℕ) → size-of-lts.Need-shared-slice-read-leaf-size (claims t) (asked t) size-of.Post Inv-loop μ-loop
-size-of-shared-slice-read-leaf-size t c = search needs
-
-size-of-leaf-size-requires : (t : ℕ) → size-of-lts.Need-leaf-size-requires (claims t) (asked t) size-of.Post Inv-loop μ-loop
-size-of-leaf-size-requires t c κs = search needs
-
 size-of-returns : (t : ℕ) → size-of-lts.Need-returns (claims t) (asked t) size-of.Post Inv-loop μ-loop
 size-of-returns t c =
     let a = c .before .before .before .before .before .before .args in
     λ s. c .leaf-size .ensures ∙ sym (ap clip (size-leaf s (a .nodes .now) (a .at) (a .level)
     (sym (c .before .before .before .is-leaf .ensures) ∙ c .before .before .if1 .taken)))
-
-size-of-sub-size-of : (t : ℕ) → size-of-lts.Need-sub-size-of (claims t) (asked t) size-of.Post Inv-loop μ-loop
-size-of-sub-size-of t c = search needs
-
-size-of-part-size-of-start : (t : ℕ) → size-of-lts.Need-part-size-of-start (claims t) (asked t) size-of.Post Inv-loop μ-loop
-size-of-part-size-of-start t c = search needs
-
-size-of-part-size-of-end : (t : ℕ) → size-of-lts.Need-part-size-of-end (claims t) (asked t) size-of.Post Inv-loop μ-loop
-size-of-part-size-of-end t c = search needs
-
-size-of-add-size-of : (t : ℕ) → size-of-lts.Need-add-size-of (claims t) (asked t) size-of.Post Inv-loop μ-loop
-size-of-add-size-of t c = search needs
-
-size-of-inside-requires : (t : ℕ) → size-of-lts.Need-inside-requires (claims t) (asked t) size-of.Post Inv-loop μ-loop
-size-of-inside-requires t c κs = search needs
 
 size-of-size-of-requires : (t : ℕ) → size-of-lts.Need-size-of-requires (claims t) (asked t) size-of.Post Inv-loop μ-loop
 size-of-size-of-requires t c κs =
@@ -116,27 +80,6 @@ size-of-size-of-requires t c κs =
     let hi : kindAt (a .nodes .now) (a .at) ≤ 28 = omega arith in
     let k = child-count _ _ (pre .1) lo hi in
     rw whole (omega arith, node-child _ _ (pre .1) lo hi)
-
-size-of-add-held-by : (t : ℕ) → size-of-lts.Need-add-held-by (claims t) (asked t) size-of.Post Inv-loop μ-loop
-size-of-add-held-by t c = search needs
-
-size-of-mul-held-by : (t : ℕ) → size-of-lts.Need-mul-held-by (claims t) (asked t) size-of.Post Inv-loop μ-loop
-size-of-mul-held-by t c = search needs
-
-size-of-shared-slice-read-held-by : (t : ℕ) → size-of-lts.Need-shared-slice-read-held-by (claims t) (asked t) size-of.Post Inv-loop μ-loop
-size-of-shared-slice-read-held-by t c = search needs
-
-size-of-add-held-by-2 : (t : ℕ) → size-of-lts.Need-add-held-by-2 (claims t) (asked t) size-of.Post Inv-loop μ-loop
-size-of-add-held-by-2 t c = search needs
-
-size-of-mul-held-by-2 : (t : ℕ) → size-of-lts.Need-mul-held-by-2 (claims t) (asked t) size-of.Post Inv-loop μ-loop
-size-of-mul-held-by-2 t c = search needs
-
-size-of-shared-slice-read-held-by-2 : (t : ℕ) → size-of-lts.Need-shared-slice-read-held-by-2 (claims t) (asked t) size-of.Post Inv-loop μ-loop
-size-of-shared-slice-read-held-by-2 t c = search needs
-
-size-of-held-by-requires : (t : ℕ) → size-of-lts.Need-held-by-requires (claims t) (asked t) size-of.Post Inv-loop μ-loop
-size-of-held-by-requires t c κs = search needs
 
 size-of-returns-2 : (t : ℕ) → size-of-lts.Need-returns-2 (claims t) (asked t) size-of.Post Inv-loop μ-loop
 size-of-returns-2 t c =
@@ -152,15 +95,6 @@ size-of-returns-2 t c =
     ∙ clip-holding _ _ _ _
     ∙ sym (ap clip (size-held s (a .nodes .now) (a .at) (pre .1) lo hi (a .level) (n .2)))
 
-size-of-container-include-fields-requires : (t : ℕ) → size-of-lts.Need-container-include-fields-requires (claims t) (asked t) size-of.Post Inv-loop μ-loop
-size-of-container-include-fields-requires t c κs = search needs
-
-size-of-enum-known-inner : (t : ℕ) → size-of-lts.Need-enum-known-inner (claims t) (asked t) size-of.Post Inv-loop μ-loop
-size-of-enum-known-inner t c = search needs
-
-size-of-enum-told : (t : ℕ) → size-of-lts.Need-enum-told (claims t) (asked t) size-of.Post Inv-loop μ-loop
-size-of-enum-told t c = search needs
-
 size-of-returns-3 : (t : ℕ) → size-of-lts.Need-returns-3 (claims t) (asked t) size-of.Post Inv-loop μ-loop
 unfolding clip
 size-of-returns-3 t c =
@@ -169,24 +103,6 @@ size-of-returns-3 t c =
     ∙ c .before .before .before .before .if1 .left) in
     λ s. sym (ap clip (size-dropped s (a .nodes .now) (a .at) (a .level) (container-kind (kindAt (a .nodes .now) (a .at)) (omega arith) (omega arith))
     (sym (c .before .before .container-include-fields .ensures) ∙ c .enum-told .given .1)))
-
-size-of-add-child : (t : ℕ) → size-of-lts.Need-add-child (claims t) (asked t) size-of.Post Inv-loop μ-loop
-size-of-add-child t c = search needs
-
-size-of-add-left : (t : ℕ) → size-of-lts.Need-add-left (claims t) (asked t) size-of.Post Inv-loop μ-loop
-size-of-add-left t c = search needs
-
-size-of-mul-left : (t : ℕ) → size-of-lts.Need-mul-left (claims t) (asked t) size-of.Post Inv-loop μ-loop
-size-of-mul-left t c = search needs
-
-size-of-shared-slice-read-left : (t : ℕ) → size-of-lts.Need-shared-slice-read-left (claims t) (asked t) size-of.Post Inv-loop μ-loop
-size-of-shared-slice-read-left t c = search needs
-
-size-of-sub-left : (t : ℕ) → size-of-lts.Need-sub-left (claims t) (asked t) size-of.Post Inv-loop μ-loop
-size-of-sub-left t c = search needs
-
-size-of-of-no-fields-requires : (t : ℕ) → size-of-lts.Need-of-no-fields-requires (claims t) (asked t) size-of.Post Inv-loop μ-loop
-size-of-of-no-fields-requires t c κs = search needs
 
 size-of-loop-holds : (t : ℕ) → size-of-lts.Need-loop-holds (claims t) (asked t) size-of.Post Inv-loop μ-loop
 size-of-loop-holds t c =
@@ -210,12 +126,6 @@ size-of-mul-leaf-size-2 t c = let b = gathered-within (c .before .before .before
 size-of-shared-slice-read-leaf-size-2 : (t : ℕ) → size-of-lts.Need-shared-slice-read-leaf-size-2 (claims t) (asked t) size-of.Post Inv-loop μ-loop
 size-of-shared-slice-read-leaf-size-2 t c = let b = gathered-within (c .before .before .before .before .loop .inv .1)
     (c .before .before .before .loop-test .taken) in omega arith
-
-size-of-leaf-size-requires-2 : (t : ℕ) → size-of-lts.Need-leaf-size-requires-2 (claims t) (asked t) size-of.Post Inv-loop μ-loop
-size-of-leaf-size-requires-2 t c κs = search needs
-
-size-of-join-requires : (t : ℕ) → size-of-lts.Need-join-requires (claims t) (asked t) size-of.Post Inv-loop μ-loop
-size-of-join-requires t c κs = search needs
 
 size-of-add-child-2 : (t : ℕ) → size-of-lts.Need-add-child-2 (claims t) (asked t) size-of.Post Inv-loop μ-loop
 size-of-add-child-2 t c = let b = gathered-within (c .before .before .before .before .before .before .loop .inv .1)
@@ -277,21 +187,6 @@ size-of-shared-slice-read-leaf-size-3 : (t : ℕ) → size-of-lts.Need-shared-sl
 size-of-shared-slice-read-leaf-size-3 t c = let b = gathered-within (c .before .before .before .before .before .loop .inv .1)
     (c .before .before .before .before .loop-test .taken) in omega arith
 
-size-of-leaf-size-requires-3 : (t : ℕ) → size-of-lts.Need-leaf-size-requires-3 (claims t) (asked t) size-of.Post Inv-loop μ-loop
-size-of-leaf-size-requires-3 t c κs = search needs
-
-size-of-is-leaf-requires-2 : (t : ℕ) → size-of-lts.Need-is-leaf-requires-2 (claims t) (asked t) size-of.Post Inv-loop μ-loop
-size-of-is-leaf-requires-2 t c κs = search needs
-
-size-of-sub-size-of-2 : (t : ℕ) → size-of-lts.Need-sub-size-of-2 (claims t) (asked t) size-of.Post Inv-loop μ-loop
-size-of-sub-size-of-2 t c = search needs
-
-size-of-part-size-of-start-2 : (t : ℕ) → size-of-lts.Need-part-size-of-start-2 (claims t) (asked t) size-of.Post Inv-loop μ-loop
-size-of-part-size-of-start-2 t c = search needs
-
-size-of-part-size-of-end-2 : (t : ℕ) → size-of-lts.Need-part-size-of-end-2 (claims t) (asked t) size-of.Post Inv-loop μ-loop
-size-of-part-size-of-end-2 t c = search needs
-
 size-of-size-of-requires-2 : (t : ℕ) → size-of-lts.Need-size-of-requires-2 (claims t) (asked t) size-of.Post Inv-loop μ-loop
 size-of-size-of-requires-2 t c κs =
     let b = gathered-within (c .before .before .before .before .before .before .before .before .before .loop .inv .1)
@@ -302,15 +197,9 @@ size-of-size-of-requires-2 t c κs =
           (c .before .before .before .before .before .before .before .before .loop-test .taken),
     )
 
-size-of-join-requires-2 : (t : ℕ) → size-of-lts.Need-join-requires-2 (claims t) (asked t) size-of.Post Inv-loop μ-loop
-size-of-join-requires-2 t c κs = search needs
-
 size-of-add-count : (t : ℕ) → size-of-lts.Need-add-count (claims t) (asked t) size-of.Post Inv-loop μ-loop
 size-of-add-count t c = let b = gathered-within (c .before .before .before .before .before .before .before .before .before .loop .inv .1)
     (c .before .before .before .before .before .before .before .before .loop-test .taken) in omega arith
-
-size-of-mul-count : (t : ℕ) → size-of-lts.Need-mul-count (claims t) (asked t) size-of.Post Inv-loop μ-loop
-size-of-mul-count t c = search needs
 
 size-of-shared-slice-read-count : (t : ℕ) → size-of-lts.Need-shared-slice-read-count (claims t) (asked t) size-of.Post Inv-loop μ-loop
 size-of-shared-slice-read-count t c = let b = gathered-within (c .before .before .before .before .before .before .before .before .before .before .loop .inv .1)
@@ -361,46 +250,46 @@ pub +size-of-spec : {M : Type 1} → statement M
     size-of.Post
     Inv-loop
     μ-loop
-    (size-of-mul-kind t)
-    (size-of-shared-slice-read-kind t)
-    (size-of-is-leaf-requires t)
-    (size-of-add-leaf-size t)
-    (size-of-mul-leaf-size t)
-    (size-of-shared-slice-read-leaf-size t)
-    (size-of-leaf-size-requires t)
+    (λ c. search needs)
+    (λ c. search needs)
+    (λ c κs. search needs)
+    (λ c. search needs)
+    (λ c. search needs)
+    (λ c. search needs)
+    (λ c κs. search needs)
     (size-of-returns t)
-    (size-of-sub-size-of t)
-    (size-of-part-size-of-start t)
-    (size-of-part-size-of-end t)
-    (size-of-add-size-of t)
-    (size-of-inside-requires t)
+    (λ c. search needs)
+    (λ c. search needs)
+    (λ c. search needs)
+    (λ c. search needs)
+    (λ c κs. search needs)
     (size-of-size-of-requires t)
-    (size-of-add-held-by t)
-    (size-of-mul-held-by t)
-    (size-of-shared-slice-read-held-by t)
-    (size-of-add-held-by-2 t)
-    (size-of-mul-held-by-2 t)
-    (size-of-shared-slice-read-held-by-2 t)
-    (size-of-held-by-requires t)
+    (λ c. search needs)
+    (λ c. search needs)
+    (λ c. search needs)
+    (λ c. search needs)
+    (λ c. search needs)
+    (λ c. search needs)
+    (λ c κs. search needs)
     (size-of-returns-2 t)
-    (size-of-container-include-fields-requires t)
-    (size-of-enum-known-inner t)
-    (size-of-enum-told t)
+    (λ c κs. search needs)
+    (λ c. search needs)
+    (λ c. search needs)
     (size-of-returns-3 t)
-    (size-of-add-child t)
-    (size-of-add-left t)
-    (size-of-mul-left t)
-    (size-of-shared-slice-read-left t)
-    (size-of-sub-left t)
-    (size-of-of-no-fields-requires t)
+    (λ c. search needs)
+    (λ c. search needs)
+    (λ c. search needs)
+    (λ c. search needs)
+    (λ c. search needs)
+    (λ c κs. search needs)
     (size-of-loop-holds t)
     (size-of-mul-field t)
     (size-of-shared-slice-read-field t)
     (size-of-add-leaf-size-2 t)
     (size-of-mul-leaf-size-2 t)
     (size-of-shared-slice-read-leaf-size-2 t)
-    (size-of-leaf-size-requires-2 t)
-    (size-of-join-requires t)
+    (λ c κs. search needs)
+    (λ c κs. search needs)
     (size-of-add-child-2 t)
     (size-of-sub-left-2 t)
     (size-of-loop-less t)
@@ -412,15 +301,15 @@ pub +size-of-spec : {M : Type 1} → statement M
     (size-of-add-leaf-size-3 t)
     (size-of-mul-leaf-size-3 t)
     (size-of-shared-slice-read-leaf-size-3 t)
-    (size-of-leaf-size-requires-3 t)
-    (size-of-is-leaf-requires-2 t)
-    (size-of-sub-size-of-2 t)
-    (size-of-part-size-of-start-2 t)
-    (size-of-part-size-of-end-2 t)
+    (λ c κs. search needs)
+    (λ c κs. search needs)
+    (λ c. search needs)
+    (λ c. search needs)
+    (λ c. search needs)
     (size-of-size-of-requires-2 t)
-    (size-of-join-requires-2 t)
+    (λ c κs. search needs)
     (size-of-add-count t)
-    (size-of-mul-count t)
+    (λ c. search needs)
     (size-of-shared-slice-read-count t)
     (size-of-mul-child t)
     (size-of-add-child-4 t)

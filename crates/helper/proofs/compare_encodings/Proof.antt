@@ -6,24 +6,6 @@ use borrow.Author.Needs.{needs}
 use Rattle.helper.proofs.compare_encodings.Statement.{statement}
 use Rattle.helper.proofs.compare_encodings.Tie as tie
 
-check-both-requires : tie.Need-check-both-requires
-check-both-requires c κs = search needs
-
-enum-known-why : tie.Need-enum-known-why
-enum-known-why c = search needs
-
-enum-known-k : tie.Need-enum-known-k
-enum-known-k c = search needs
-
-equivalent-kinds-requires : tie.Need-equivalent-kinds-requires
-equivalent-kinds-requires c κs = search needs
-
-enum-known-f : tie.Need-enum-known-f
-enum-known-f c = search needs
-
-new-requires : tie.Need-new-requires
-new-requires c κs = search needs
-
 mul-compare-fields : tie.Need-mul-compare-fields
 mul-compare-fields c =
     let p2 = c .before .before in
@@ -54,18 +36,6 @@ part-compare-fields-start c =
     let s = g .0 .starts in
     omega arith
 
-part-compare-fields-end : tie.Need-part-compare-fields-end
-part-compare-fields-end c = search needs
-
-sub-compare-fields-2 : tie.Need-sub-compare-fields-2
-sub-compare-fields-2 c = search needs
-
-part-compare-fields-start-2 : tie.Need-part-compare-fields-start-2
-part-compare-fields-start-2 c = search needs
-
-part-compare-fields-end-2 : tie.Need-part-compare-fields-end-2
-part-compare-fields-end-2 c = search needs
-
 mul-compare-fields-2 : tie.Need-mul-compare-fields-2
 mul-compare-fields-2 c =
     let p4 = c .before .before .before .before in
@@ -95,18 +65,6 @@ part-compare-fields-start-3 c =
     let g = given-nodes-both (a .aw .now) (a .an .now) (a .bw .now) (a .bn .now) (p6 .check-both .ensures .1) (p4 .f .given .1) in
     let s = g .1 .starts in
     omega arith
-
-part-compare-fields-end-3 : tie.Need-part-compare-fields-end-3
-part-compare-fields-end-3 c = search needs
-
-sub-compare-fields-4 : tie.Need-sub-compare-fields-4
-sub-compare-fields-4 c = search needs
-
-part-compare-fields-start-4 : tie.Need-part-compare-fields-start-4
-part-compare-fields-start-4 c = search needs
-
-part-compare-fields-end-4 : tie.Need-part-compare-fields-end-4
-part-compare-fields-end-4 c = search needs
 
 compare-fields-requires : tie.Need-compare-fields-requires
 compare-fields-requires c κs =
@@ -151,26 +109,26 @@ pub compare-encodings-spec : {M : Type 1} → statement M
 compare-encodings-spec =
     tie.close
     (tie.spec
-    check-both-requires
-    enum-known-why
-    enum-known-k
-    equivalent-kinds-requires
-    enum-known-f
-    new-requires
+    (λ c κs. search needs)
+    (λ c. search needs)
+    (λ c. search needs)
+    (λ c κs. search needs)
+    (λ c. search needs)
+    (λ c κs. search needs)
     mul-compare-fields
     sub-compare-fields
     part-compare-fields-start
-    part-compare-fields-end
-    sub-compare-fields-2
-    part-compare-fields-start-2
-    part-compare-fields-end-2
+    (λ c. search needs)
+    (λ c. search needs)
+    (λ c. search needs)
+    (λ c. search needs)
     mul-compare-fields-2
     sub-compare-fields-3
     part-compare-fields-start-3
-    part-compare-fields-end-3
-    sub-compare-fields-4
-    part-compare-fields-start-4
-    part-compare-fields-end-4
+    (λ c. search needs)
+    (λ c. search needs)
+    (λ c. search needs)
+    (λ c. search needs)
     compare-fields-requires
     returns
     returns-2

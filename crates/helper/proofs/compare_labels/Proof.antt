@@ -7,21 +7,6 @@ use native.Mathlib.Omega.{arith}
 use Rattle.kinds.specs.Sheet.{isContainerKind}
 use Rattle.helper.proofs.CompareLaws.{labels-differ, labels-primitive, labels-named, labels-numbers, partner}
 
-mul-kind : tie.Need-mul-kind
-mul-kind c = search needs
-
-shared-slice-read-kind : tie.Need-shared-slice-read-kind
-shared-slice-read-kind c = search needs
-
-mul-equivalent-kinds : tie.Need-mul-equivalent-kinds
-mul-equivalent-kinds c = search needs
-
-shared-slice-read-equivalent-kinds : tie.Need-shared-slice-read-equivalent-kinds
-shared-slice-read-equivalent-kinds c = search needs
-
-equivalent-kinds-requires : tie.Need-equivalent-kinds-requires
-equivalent-kinds-requires c κs = search needs
-
 returns : tie.Need-returns
 returns c =
     let a = c .before .before .before .before .before .before .before .before .args in
@@ -34,9 +19,6 @@ returns-2 c =
     let a = c .before .before .before .before .before .before .before .before .before .args in
     sym (labels-primitive (a .an .now) (a .a .now) (a .at) (a .bn .now) (a .b .now) (a .bt)
     (sym (c .before .before .equivalent-kinds .ensures) ∙ not-false _ (c .before .if1 .left)) (c .if2 .taken))
-
-is-container-requires : tie.Need-is-container-requires
-is-container-requires c κs = search needs
 
 same-name-requires : tie.Need-same-name-requires
 same-name-requires c κs =
@@ -53,42 +35,6 @@ returns-3 c =
     let if1 = c .before .before .before .before .if1 in
     c .same-name .ensures ∙ sym (labels-named (a .an .now) (a .a .now) (a .at) (a .bn .now) (a .b .now) (a .bt)
     (sym (kinds .ensures) ∙ not-false _ (if1 .left)) (sym (c .before .before .is-container .ensures) ∙ c .before .if3 .taken))
-
-add-same-numbers : tie.Need-add-same-numbers
-add-same-numbers c = search needs
-
-mul-same-numbers : tie.Need-mul-same-numbers
-mul-same-numbers c = search needs
-
-shared-slice-read-same-numbers : tie.Need-shared-slice-read-same-numbers
-shared-slice-read-same-numbers c = search needs
-
-add-same-numbers-2 : tie.Need-add-same-numbers-2
-add-same-numbers-2 c = search needs
-
-mul-same-numbers-2 : tie.Need-mul-same-numbers-2
-mul-same-numbers-2 c = search needs
-
-shared-slice-read-same-numbers-2 : tie.Need-shared-slice-read-same-numbers-2
-shared-slice-read-same-numbers-2 c = search needs
-
-add-same-numbers-3 : tie.Need-add-same-numbers-3
-add-same-numbers-3 c = search needs
-
-mul-same-numbers-3 : tie.Need-mul-same-numbers-3
-mul-same-numbers-3 c = search needs
-
-shared-slice-read-same-numbers-3 : tie.Need-shared-slice-read-same-numbers-3
-shared-slice-read-same-numbers-3 c = search needs
-
-add-same-numbers-4 : tie.Need-add-same-numbers-4
-add-same-numbers-4 c = search needs
-
-mul-same-numbers-4 : tie.Need-mul-same-numbers-4
-mul-same-numbers-4 c = search needs
-
-shared-slice-read-same-numbers-4 : tie.Need-shared-slice-read-same-numbers-4
-shared-slice-read-same-numbers-4 c = search needs
 
 same-numbers-requires : tie.Need-same-numbers-requires
 same-numbers-requires c κs =
@@ -110,27 +56,27 @@ pub compare-labels-spec : {M : Type 1} → statement M
 compare-labels-spec =
     tie.close
     (tie.spec
-    mul-kind
-    shared-slice-read-kind
-    mul-equivalent-kinds
-    shared-slice-read-equivalent-kinds
-    equivalent-kinds-requires
+    (λ c. search needs)
+    (λ c. search needs)
+    (λ c. search needs)
+    (λ c. search needs)
+    (λ c κs. search needs)
     returns
     returns-2
-    is-container-requires
+    (λ c κs. search needs)
     same-name-requires
     returns-3
-    add-same-numbers
-    mul-same-numbers
-    shared-slice-read-same-numbers
-    add-same-numbers-2
-    mul-same-numbers-2
-    shared-slice-read-same-numbers-2
-    add-same-numbers-3
-    mul-same-numbers-3
-    shared-slice-read-same-numbers-3
-    add-same-numbers-4
-    mul-same-numbers-4
-    shared-slice-read-same-numbers-4
+    (λ c. search needs)
+    (λ c. search needs)
+    (λ c. search needs)
+    (λ c. search needs)
+    (λ c. search needs)
+    (λ c. search needs)
+    (λ c. search needs)
+    (λ c. search needs)
+    (λ c. search needs)
+    (λ c. search needs)
+    (λ c. search needs)
+    (λ c. search needs)
     same-numbers-requires
     returns-4)

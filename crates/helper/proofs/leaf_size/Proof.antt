@@ -8,15 +8,9 @@ use Rattle.helper.specs.Measure.{leafSize, clip}
 use Rattle.helper.specs.declared.Measured.the-variants.{Bytes}
 use Rattle.helper.proofs.SizeLaws.{clip-some, bits-fit}
 
-of-primitive-requires : tie.Need-of-primitive-requires
-of-primitive-requires c κs = search needs
-
 returns : tie.Need-returns
 unfolding leafSize
 returns c = rw (le-leb (c .before .before .args .kind) 23 (omega arith)) (c .of-primitive .ensures)
-
-bit-bytes-requires : tie.Need-bit-bytes-requires
-bit-bytes-requires c κs = search needs
 
 returns-2 : tie.Need-returns-2
 unfolding leafSize clip
@@ -39,4 +33,4 @@ returns-4 c = rw (lt-leb (c .before .before .before .args .kind) 23 (omega arith
 pub leaf-size-spec : {M : Type 1} → statement M
 leaf-size-spec =
     tie.close
-    (tie.spec of-primitive-requires returns bit-bytes-requires returns-2 returns-3 returns-4)
+    (tie.spec (λ c κs. search needs) returns (λ c κs. search needs) returns-2 returns-3 returns-4)

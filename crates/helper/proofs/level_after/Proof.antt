@@ -15,12 +15,6 @@ returns-2 : tie.Need-returns-2
 unfolding levelAfter
 returns-2 c = rw (le-leb 25 (c .before .before .args .kind) (omega arith), lt-leb (c .before .before .args .kind) 28 (c .if2 .taken))
 
-level-for-requires : tie.Need-level-for-requires
-level-for-requires c κs = search needs
-
-inside-requires : tie.Need-inside-requires
-inside-requires c κs = search needs
-
 returns-3 : tie.Need-returns-3
 unfolding levelAfter
 returns-3 c =
@@ -29,4 +23,4 @@ returns-3 c =
 
 pub level-after-spec : {M : Type 1} → statement M
 level-after-spec =
-    tie.close (tie.spec returns returns-2 level-for-requires inside-requires returns-3)
+    tie.close (tie.spec returns returns-2 (λ c κs. search needs) (λ c κs. search needs) returns-3)

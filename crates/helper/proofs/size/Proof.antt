@@ -6,24 +6,6 @@ use borrow.Author.Needs.{needs}
 use Rattle.helper.proofs.size.Statement.{statement}
 use Rattle.helper.proofs.size.Tie as tie
 
-check-requires : tie.Need-check-requires
-check-requires c κs = search needs
-
-enum-known-why : tie.Need-enum-known-why
-enum-known-why c = search needs
-
-enum-known-kind : tie.Need-enum-known-kind
-enum-known-kind c = search needs
-
-of-primitive-requires : tie.Need-of-primitive-requires
-of-primitive-requires c κs = search needs
-
-answer-requires : tie.Need-answer-requires
-answer-requires c κs = search needs
-
-enum-known-first : tie.Need-enum-known-first
-enum-known-first c = search needs
-
 mul-size-of : tie.Need-mul-size-of
 mul-size-of c =
     let p1 = c .before in
@@ -54,12 +36,6 @@ part-size-of-start c =
     let s = g .starts in
     omega arith
 
-part-size-of-end : tie.Need-part-size-of-end
-part-size-of-end c = search needs
-
-new-requires : tie.Need-new-requires
-new-requires c κs = search needs
-
 size-of-requires : tie.Need-size-of-requires
 size-of-requires c κs =
     let p3 = c .before .before .before in
@@ -68,9 +44,6 @@ size-of-requires c κs =
     let a = p8 .args in
     let g = given-nodes (a .words .now) (a .names .now) (p5 .check .ensures .1) (p3 .first .given .1) in
     nodes-part g .root
-
-answer-requires-2 : tie.Need-answer-requires-2
-answer-requires-2 c κs = search needs
 
 returns : tie.Need-returns
 returns c =
@@ -103,19 +76,19 @@ pub size-spec : {M : Type 1} → statement M
 size-spec =
     tie.close
     (tie.spec
-    check-requires
-    enum-known-why
-    enum-known-kind
-    of-primitive-requires
-    answer-requires
-    enum-known-first
+    (λ c κs. search needs)
+    (λ c. search needs)
+    (λ c. search needs)
+    (λ c κs. search needs)
+    (λ c κs. search needs)
+    (λ c. search needs)
     mul-size-of
     sub-size-of
     part-size-of-start
-    part-size-of-end
-    new-requires
+    (λ c. search needs)
+    (λ c κs. search needs)
     size-of-requires
-    answer-requires-2
+    (λ c κs. search needs)
     returns
     returns-2
     returns-3)

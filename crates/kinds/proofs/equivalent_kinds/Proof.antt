@@ -9,15 +9,9 @@ returns : tie.Need-returns
 unfolding equivalent
 returns c = rw (eq-eqb _ _ (c .if1 .taken))
 
-is-object-requires : tie.Need-is-object-requires
-is-object-requires c κs = search needs
-
 returns-2 : tie.Need-returns-2
 unfolding equivalent
 returns-2 c = rw (ne-eqb _ _ (c .before .before .if1 .left), sym (c .before .is-object .ensures) ∙ not-true _ (c .if2 .taken))
-
-is-object-requires-2 : tie.Need-is-object-requires-2
-is-object-requires-2 c κs = search needs
 
 returns-3 : tie.Need-returns-3
 unfolding equivalent
@@ -25,4 +19,4 @@ returns-3 c = rw (ne-eqb _ _ (c .before .before .before .if1 .left), sym (c .bef
 
 pub equivalent-kinds-spec : {M : Type 1} → statement M
 equivalent-kinds-spec =
-    tie.close (tie.spec returns is-object-requires returns-2 is-object-requires-2 returns-3)
+    tie.close (tie.spec returns (λ c κs. search needs) returns-2 (λ c κs. search needs) returns-3)

@@ -7,12 +7,6 @@ use Rattle.kinds.proofs.primitive_code.Tie as tie
 returns : tie.Need-returns
 returns c = sym (code-beyond _ (c .if1 .taken))
 
-array-read-a : tie.Need-array-read-a
-array-read-a c = search needs
-
-array-read-b : tie.Need-array-read-b
-array-read-b c = search needs
-
 returns-2 : tie.Need-returns-2
 returns-2 c = code-one (c .before .before .args .kind) (search needs) (c .if2 .taken)
 
@@ -20,4 +14,4 @@ returns-3 : tie.Need-returns-3
 returns-3 c = code-two (c .before .before .args .kind) (search needs) (c .if2 .left)
 
 pub primitive-code-spec : {M : Type 1} → statement M
-primitive-code-spec = tie.close (tie.spec returns array-read-a array-read-b returns-2 returns-3)
+primitive-code-spec = tie.close (tie.spec returns (λ c. search needs) (λ c. search needs) returns-2 returns-3)

@@ -7,12 +7,6 @@ use Rattle.kinds.proofs.primitive_size.Tie as tie
 returns : tie.Need-returns
 returns c = sym (size-beyond _ (c .if1 .taken))
 
-array-read-wide : tie.Need-array-read-wide
-array-read-wide c = search needs
-
-wide-requires : tie.Need-wide-requires
-wide-requires c κs = search needs
-
 returns-2 : tie.Need-returns-2
 returns-2 c = let h = c .before .before .if1 .left in size-none _ h (sym (c .before .wide .ensures) ∙ c .if2 .taken)
 
@@ -23,4 +17,4 @@ returns-3 c =
 
 pub primitive-size-spec : {M : Type 1} → statement M
 primitive-size-spec =
-    tie.close (tie.spec returns array-read-wide wide-requires returns-2 returns-3)
+    tie.close (tie.spec returns (λ c. search needs) (λ c κs. search needs) returns-2 returns-3)

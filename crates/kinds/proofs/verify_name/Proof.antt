@@ -32,9 +32,6 @@ loop-holds c = (⊎-elim (λ w. name-one _ (w .0 .taken) (w .2 .left)) (λ w. na
 shared-slice-read-is-name-byte : tie.Need-shared-slice-read-is-name-byte Inv-loop μ-loop
 shared-slice-read-is-name-byte c = omega arith
 
-is-name-byte-requires : tie.Need-is-name-byte-requires Inv-loop μ-loop
-is-name-byte-requires c κs = search needs
-
 returns-3 : tie.Need-returns-3 Inv-loop μ-loop
 returns-3 c = sym (c .before .before .before .before .loop .inv .0 ∙ all-stop _ _ (c .before .before .before .loop-test .taken) (sym (c .before .is-name-byte .ensures) ∙ not-true _ (c .if4 .taken)))
 
@@ -61,7 +58,7 @@ verify-name-spec =
     returns-2
     loop-holds
     shared-slice-read-is-name-byte
-    is-name-byte-requires
+    (λ c κs. search needs)
     returns-3
     add-i
     loop-less

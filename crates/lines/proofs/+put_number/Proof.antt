@@ -29,36 +29,12 @@ put-number-below t =
 abbrev put-number-claims : ℕ → put-number-lts.Claims
 put-number-claims t = (put-byte-reads.Asked, put-byte-reads.Learnt, put-number-below t, put-number.Post)
 
-put-number-cast-put-byte : (t : ℕ) → put-number-lts.Need-cast-put-byte (put-number-claims t) (put-number-at t) put-number.Post
-put-number-cast-put-byte t c = search needs
-
-put-number-add-put-byte : (t : ℕ) → put-number-lts.Need-add-put-byte (put-number-claims t) (put-number-at t) put-number.Post
-put-number-add-put-byte t c = search needs
-
-put-number-put-byte-requires : (t : ℕ) → put-number-lts.Need-put-byte-requires (put-number-claims t) (put-number-at t) put-number.Post
-put-number-put-byte-requires t c κs = search needs
-
-put-number-same-length : (t : ℕ) → put-number-lts.Need-same-length (put-number-claims t) (put-number-at t) put-number.Post
-put-number-same-length t c = search needs
-
 put-number-returns : (t : ℕ) → put-number-lts.Need-returns (put-number-claims t) (put-number-at t) put-number.Post
 put-number-returns t c =
     let c2 = c .before .before in
     let c4 = c2 .before .before in
     let c6 = c4 .before .before in
     put-same (sym (decimal-low (c6 .args .n) (c4 .if1 .taken))) (c2 .put-byte .ensures)
-
-put-number-put-number-requires : (t : ℕ) → put-number-lts.Need-put-number-requires (put-number-claims t) (put-number-at t) put-number.Post
-put-number-put-number-requires t c κs = search needs
-
-put-number-cast-digit : (t : ℕ) → put-number-lts.Need-cast-digit (put-number-claims t) (put-number-at t) put-number.Post
-put-number-cast-digit t c = search needs
-
-put-number-add-put-byte-2 : (t : ℕ) → put-number-lts.Need-add-put-byte-2 (put-number-claims t) (put-number-at t) put-number.Post
-put-number-add-put-byte-2 t c = search needs
-
-put-number-put-byte-requires-2 : (t : ℕ) → put-number-lts.Need-put-byte-requires-2 (put-number-claims t) (put-number-at t) put-number.Post
-put-number-put-byte-requires-2 t c κs = search needs
 
 put-number-same-length-2 : (t : ℕ) → put-number-lts.Need-same-length-2 (put-number-claims t) (put-number-at t) put-number.Post
 put-number-same-length-2 t c =
@@ -79,14 +55,14 @@ pub +put-number-spec : {M : Type 1} → statement M
 +put-number-spec = close μ-put-number λ t. put-number-lts.spec (put-number-claims t)
     (put-number-at t)
     put-number.Post
-    (put-number-cast-put-byte t)
-    (put-number-add-put-byte t)
-    (put-number-put-byte-requires t)
-    (put-number-same-length t)
+    (λ c. search needs)
+    (λ c. search needs)
+    (λ c κs. search needs)
+    (λ c. search needs)
     (put-number-returns t)
-    (put-number-put-number-requires t)
-    (put-number-cast-digit t)
-    (put-number-add-put-byte-2 t)
-    (put-number-put-byte-requires-2 t)
+    (λ c κs. search needs)
+    (λ c. search needs)
+    (λ c. search needs)
+    (λ c κs. search needs)
     (put-number-same-length-2 t)
     (put-number-returns-2 t)

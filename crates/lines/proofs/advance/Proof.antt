@@ -7,29 +7,11 @@ use borrow.Author.Needs.{needs}
 use Rattle.lines.proofs.advance.Statement.{statement}
 use Rattle.lines.proofs.advance.Tie as tie
 
-put-word-requires : tie.Need-put-word-requires
-put-word-requires c κs = search needs
-
-add-t10 : tie.Need-add-t10
-add-t10 c = search needs
-
-same-length : tie.Need-same-length
-same-length c = search needs
-
 returns : tie.Need-returns
 returns c =
     let c2 = c .before .before in
     let c4 = c2 .before .before in
     (step-comma _ _ _ (c4 .if1 .taken), c2 .put-word .ensures ∙ words-comma _ _ _ _ (c4 .if1 .taken))
-
-grow-requires : tie.Need-grow-requires
-grow-requires c κs = search needs
-
-enum-known-v : tie.Need-enum-known-v
-enum-known-v c = search needs
-
-enum-told : tie.Need-enum-told
-enum-told c = search needs
 
 returns-2 : tie.Need-returns-2
 unfolding stepGrown
@@ -52,12 +34,12 @@ pub advance-spec : {M : Type 1} → statement M
 advance-spec =
     tie.close
     (tie.spec
-    put-word-requires
-    add-t10
-    same-length
+    (λ c κs. search needs)
+    (λ c. search needs)
+    (λ c. search needs)
     returns
-    grow-requires
-    enum-known-v
-    enum-told
+    (λ c κs. search needs)
+    (λ c. search needs)
+    (λ c. search needs)
     returns-2
     returns-3)

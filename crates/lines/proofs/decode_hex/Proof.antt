@@ -30,9 +30,6 @@ returns c =
 shared-slice-read-digit-of : tie.Need-shared-slice-read-digit-of Inv-loop μ-loop
 shared-slice-read-digit-of c = omega arith
 
-digit-of-requires : tie.Need-digit-of-requires Inv-loop μ-loop
-digit-of-requires c κs = search needs
-
 same-length-2 : tie.Need-same-length-2 Inv-loop μ-loop
 same-length-2 c = c .before .before .before .before .before .loop .inv .same
 
@@ -47,9 +44,6 @@ add-digit-of c = omega arith
 shared-slice-read-digit-of-2 : tie.Need-shared-slice-read-digit-of-2 Inv-loop μ-loop
 shared-slice-read-digit-of-2 c = omega arith
 
-digit-of-requires-2 : tie.Need-digit-of-requires-2 Inv-loop μ-loop
-digit-of-requires-2 c κs = search needs
-
 same-length-3 : tie.Need-same-length-3 Inv-loop μ-loop
 same-length-3 c = c .before .before .before .before .before .before .before .before .loop .inv .same
 
@@ -63,9 +57,6 @@ mul-put-byte c = omega arith
 
 add-put-byte : tie.Need-add-put-byte Inv-loop μ-loop
 add-put-byte c = omega arith
-
-put-byte-requires : tie.Need-put-byte-requires Inv-loop μ-loop
-put-byte-requires c κs = search needs
 
 add-n : tie.Need-add-n Inv-loop μ-loop
 add-n c = omega (arith, c .before .before .before .before .before .before .before .before .before .before .before .before .loop .inv .few)
@@ -111,17 +102,17 @@ decode-hex-spec =
     same-length
     returns
     shared-slice-read-digit-of
-    digit-of-requires
+    (λ c κs. search needs)
     same-length-2
     returns-2
     add-digit-of
     shared-slice-read-digit-of-2
-    digit-of-requires-2
+    (λ c κs. search needs)
     same-length-3
     returns-3
     mul-put-byte
     add-put-byte
-    put-byte-requires
+    (λ c κs. search needs)
     add-n
     add-i
     loop-less

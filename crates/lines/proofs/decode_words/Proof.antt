@@ -23,12 +23,6 @@ shared-slice-read-advance c = omega arith
 advance-requires : tie.Need-advance-requires Inv-loop μ-loop
 advance-requires c κs = omega (arith, c .before .before .before .loop .inv .few)
 
-enum-known-m : tie.Need-enum-known-m Inv-loop μ-loop
-enum-known-m c = search needs
-
-enum-told : tie.Need-enum-told Inv-loop μ-loop
-enum-told c = search needs
-
 same-length : tie.Need-same-length Inv-loop μ-loop
 same-length c =
     let c4 = c .before .before .before .before in
@@ -54,9 +48,6 @@ loop-again c =
     let c8 = c5 .before .before .before in
     let c9 = c8 .before in
     scan-more _ _ _ (c8 .loop-test .taken) (c9 .loop .inv) (sym (c .before .m .given .1) ∙ c5 .advance .ensures .0) (c5 .advance .ensures .1)
-
-put-word-requires : tie.Need-put-word-requires Inv-loop μ-loop
-put-word-requires c κs = search needs
 
 same-length-2 : tie.Need-same-length-2 Inv-loop μ-loop
 same-length-2 c =
@@ -96,14 +87,14 @@ decode-words-spec =
     loop-holds
     shared-slice-read-advance
     advance-requires
-    enum-known-m
-    enum-told
+    (λ c. search needs)
+    (λ c. search needs)
     same-length
     returns
     add-i
     loop-less
     loop-again
-    put-word-requires
+    (λ c κs. search needs)
     same-length-2
     returns-2
     add-t18

@@ -15,9 +15,6 @@ returns-2 c = sym (digit-number _ (omega arith) (omega arith))
 returns-3 : tie.Need-returns-3
 returns-3 c = sym (digit-between _ (omega arith) (omega arith))
 
-sub-result : tie.Need-sub-result
-sub-result c = search needs
-
 returns-4 : tie.Need-returns-4
 returns-4 c = sym (digit-letter _ (omega arith) (omega arith))
 
@@ -25,4 +22,4 @@ returns-5 : tie.Need-returns-5
 returns-5 c = sym (digit-high _ (omega arith))
 
 pub digit-of-spec : {M : Type 1} → statement M
-digit-of-spec = tie.close (tie.spec returns returns-2 returns-3 sub-result returns-4 returns-5)
+digit-of-spec = tie.close (tie.spec returns returns-2 returns-3 (λ c. search needs) returns-4 returns-5)

@@ -6,9 +6,6 @@ use Rattle.lines.proofs.FieldLaws.{front-is}
 use Rattle.lines.proofs.field.Statement.{statement}
 use Rattle.lines.proofs.field.Tie as tie
 
-place-of-requires : tie.Need-place-of-requires
-place-of-requires c κs = search needs
-
 slice-aggregate-result : tie.Need-slice-aggregate-result
 slice-aggregate-result c =
     let c3 = c .before .before .before in
@@ -20,4 +17,4 @@ returns c =
     front-is (c3 .args .s) _ _ (c .before .place-of .ensures .0)
 
 pub field-spec : {M : Type 1} → statement M
-field-spec = tie.close (tie.spec place-of-requires slice-aggregate-result returns)
+field-spec = tie.close (tie.spec (λ c κs. search needs) slice-aggregate-result returns)

@@ -14,31 +14,16 @@ returns c = grown-low _ _ (c .if1 .taken)
 returns-2 : tie.Need-returns-2
 returns-2 c = grown-high _ _ (c .if2 .taken)
 
-wide-requires : tie.Need-wide-requires
-wide-requires c κs = search needs
-
 returns-3 : tie.Need-returns-3
 returns-3 c =
     let c4 = c .before .before .before .before in
     grown-large (c4 .args .n) (c4 .args .b) (omega arith) (omega arith) (omega arith)
-
-mul-if4 : tie.Need-mul-if4
-mul-if4 c = search needs
-
-sub-if4 : tie.Need-sub-if4
-sub-if4 c = search needs
 
 returns-4 : tie.Need-returns-4
 returns-4 c =
     let c2 = c .before .before in
     let c5 = c2 .before .before .before in
     grown-large (c5 .args .n) (c5 .args .b) (omega arith) (omega arith) (omega (arith, c2 .wide .ensures))
-
-mul-t6 : tie.Need-mul-t6
-mul-t6 c = search needs
-
-add-t7 : tie.Need-add-t7
-add-t7 c = search needs
 
 returns-5 : tie.Need-returns-5
 returns-5 c =
@@ -53,11 +38,11 @@ grow-spec =
     (tie.spec
     returns
     returns-2
-    wide-requires
+    (λ c κs. search needs)
     returns-3
-    mul-if4
-    sub-if4
+    (λ c. search needs)
+    (λ c. search needs)
     returns-4
-    mul-t6
-    add-t7
+    (λ c. search needs)
+    (λ c. search needs)
     returns-5)

@@ -5,12 +5,6 @@ use borrow.Author.Needs.{needs}
 use Rattle.lines.proofs.hex_glyph.Statement.{statement}
 use Rattle.lines.proofs.hex_glyph.Tie as tie
 
-add-result : tie.Need-add-result
-add-result c = search needs
-
-add-result-2 : tie.Need-add-result-2
-add-result-2 c = search needs
-
 returns : tie.Need-returns
 returns c = glyph-number _ (omega arith)
 
@@ -18,4 +12,4 @@ returns-2 : tie.Need-returns-2
 returns-2 c = glyph-letter _ (omega arith)
 
 pub hex-glyph-spec : {M : Type 1} → statement M
-hex-glyph-spec = tie.close (tie.spec add-result add-result-2 returns returns-2)
+hex-glyph-spec = tie.close (tie.spec (λ c. search needs) (λ c. search needs) returns returns-2)

@@ -22,9 +22,6 @@ loop-holds c = (to-put _ _ _, refl, omega arith)
 shared-slice-read-put-byte : tie.Need-shared-slice-read-put-byte Inv-loop μ-loop
 shared-slice-read-put-byte c = omega arith
 
-put-byte-requires : tie.Need-put-byte-requires Inv-loop μ-loop
-put-byte-requires c κs = search needs
-
 add-i : tie.Need-add-i Inv-loop μ-loop
 add-i c = omega arith
 
@@ -60,7 +57,7 @@ put-bytes-spec =
     μ-loop
     loop-holds
     shared-slice-read-put-byte
-    put-byte-requires
+    (λ c κs. search needs)
     add-i
     loop-less
     loop-again

@@ -21,9 +21,6 @@ loop-holds c = (to-put _ _ _, refl, omega arith)
 shared-slice-read-put-pair : tie.Need-shared-slice-read-put-pair Inv-loop μ-loop
 shared-slice-read-put-pair c = omega arith
 
-put-pair-requires : tie.Need-put-pair-requires Inv-loop μ-loop
-put-pair-requires c κs = search needs
-
 add-i : tie.Need-add-i Inv-loop μ-loop
 add-i c = omega arith
 
@@ -59,7 +56,7 @@ put-hex-spec =
     μ-loop
     loop-holds
     shared-slice-read-put-pair
-    put-pair-requires
+    (λ c κs. search needs)
     add-i
     loop-less
     loop-again

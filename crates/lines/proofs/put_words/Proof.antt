@@ -23,20 +23,11 @@ returns c = put-same (sym (words-none _ (c .if1 .taken))) (put-none _ _)
 shared-slice-read-put-number : tie.Need-shared-slice-read-put-number Inv-loop μ-loop
 shared-slice-read-put-number c = omega arith
 
-put-number-requires : tie.Need-put-number-requires Inv-loop μ-loop
-put-number-requires c κs = search needs
-
 loop-holds : tie.Need-loop-holds Inv-loop μ-loop
 loop-holds c = (to-put _ _ _, refl, omega arith)
 
-mul-put-marked : tie.Need-mul-put-marked Inv-loop μ-loop
-mul-put-marked c = search needs
-
 shared-slice-read-put-marked : tie.Need-shared-slice-read-put-marked Inv-loop μ-loop
 shared-slice-read-put-marked c = omega arith
-
-put-marked-requires : tie.Need-put-marked-requires Inv-loop μ-loop
-put-marked-requires c κs = search needs
 
 add-i : tie.Need-add-i Inv-loop μ-loop
 add-i c = omega arith
@@ -79,11 +70,11 @@ put-words-spec =
     μ-loop
     returns
     shared-slice-read-put-number
-    put-number-requires
+    (λ c κs. search needs)
     loop-holds
-    mul-put-marked
+    (λ c. search needs)
     shared-slice-read-put-marked
-    put-marked-requires
+    (λ c κs. search needs)
     add-i
     loop-less
     loop-again

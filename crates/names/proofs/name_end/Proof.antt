@@ -21,9 +21,6 @@ Inv-loop text at close i₀ i = Scanned text at close i × ((at ≤ i) × (i ≤
 abbrev μ-loop : tie.MeasureT-loop
 μ-loop text at close i₀ i = length text - i
 
-end-byte-requires : tie.Need-end-byte-requires Inv-loop μ-loop
-end-byte-requires c κs = search needs
-
 loop-holds : tie.Need-loop-holds Inv-loop μ-loop
 loop-holds c =
     let a = c .before .before .args in
@@ -71,7 +68,7 @@ name-end-spec =
     (tie.spec
     Inv-loop
     μ-loop
-    end-byte-requires
+    (λ c κs. search needs)
     loop-holds
     shared-slice-read-b
     returns

@@ -8,25 +8,10 @@ use Rattle.names.proofs.parse_name.Tie as tie
 returns : tie.Need-returns
 returns c = answer-ended _ _ _ (c .if1 .taken)
 
-name-end-requires : tie.Need-name-end-requires
-name-end-requires c κs = search needs
-
 returns-2 : tie.Need-returns-2
 returns-2 c =
     let e = c .before .name-end .ensures in
     answer-refused _ _ _ _ _ (e .within) (e .scanned ∙ name-ends _ _ _ _ (c .if2 .taken))
-
-sub-verify-name : tie.Need-sub-verify-name
-sub-verify-name c = search needs
-
-part-verify-name-start : tie.Need-part-verify-name-start
-part-verify-name-start c = search needs
-
-part-verify-name-end : tie.Need-part-verify-name-end
-part-verify-name-end c = search needs
-
-verify-name-requires : tie.Need-verify-name-requires
-verify-name-requires c κs = search needs
 
 returns-3 : tie.Need-returns-3
 returns-3 c =
@@ -34,12 +19,6 @@ returns-3 c =
     let e = p .before .name-end .ensures in
     let bad = sym (c .before .verify-name .ensures) ∙ not-true _ (c .if3 .taken) in
     answer-refused _ _ _ _ _ (e .within) (e .scanned ∙ bad-name _ _ _ _ e (p .if2 .left) bad)
-
-shared-slice-read-if4 : tie.Need-shared-slice-read-if4
-shared-slice-read-if4 c = search needs
-
-add-t17 : tie.Need-add-t17
-add-t17 c = search needs
 
 returns-4 : tie.Need-returns-4
 returns-4 c =
@@ -58,14 +37,14 @@ parse-name-spec =
     tie.close
     (tie.spec
     returns
-    name-end-requires
+    (λ c κs. search needs)
     returns-2
-    sub-verify-name
-    part-verify-name-start
-    part-verify-name-end
-    verify-name-requires
+    (λ c. search needs)
+    (λ c. search needs)
+    (λ c. search needs)
+    (λ c κs. search needs)
     returns-3
-    shared-slice-read-if4
-    add-t17
+    (λ c. search needs)
+    (λ c. search needs)
     returns-4
     returns-5)

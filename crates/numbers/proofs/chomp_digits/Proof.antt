@@ -22,9 +22,6 @@ loop-holds c = refl
 shared-slice-read-is-digit : tie.Need-shared-slice-read-is-digit Inv-loop μ-loop
 shared-slice-read-is-digit c = omega arith
 
-is-digit-requires : tie.Need-is-digit-requires Inv-loop μ-loop
-is-digit-requires c κs = search needs
-
 returns : tie.Need-returns Inv-loop μ-loop
 returns c =
     let p = c .before .before .before in
@@ -52,7 +49,7 @@ chomp-digits-spec =
     μ-loop
     loop-holds
     shared-slice-read-is-digit
-    is-digit-requires
+    (λ c κs. search needs)
     returns
     add-i
     loop-less

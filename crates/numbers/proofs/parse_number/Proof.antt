@@ -22,12 +22,6 @@ abbrev μ-loop : tie.MeasureT-loop
 returns : tie.Need-returns Inv-loop μ-loop
 returns c = answer-ended _ _ _ (c .if1 .taken)
 
-shared-slice-read-is-digit : tie.Need-shared-slice-read-is-digit Inv-loop μ-loop
-shared-slice-read-is-digit c = search needs
-
-is-digit-requires : tie.Need-is-digit-requires Inv-loop μ-loop
-is-digit-requires c κs = search needs
-
 returns-2 : tie.Need-returns-2 Inv-loop μ-loop
 returns-2 c =
     let h = c .before .before .before .if1 .left in
@@ -37,12 +31,6 @@ loop-holds : tie.Need-loop-holds Inv-loop μ-loop
 loop-holds c =
     let h = c .before .before .before .if1 .left in
     (number-starts-at _ _ _ h (sym (c .before .is-digit .ensures) ∙ not-false _ (c .if2 .left)), omega arith)
-
-shared-slice-read-b : tie.Need-shared-slice-read-b Inv-loop μ-loop
-shared-slice-read-b c = search needs
-
-is-digit-requires-2 : tie.Need-is-digit-requires-2 Inv-loop μ-loop
-is-digit-requires-2 c κs = search needs
 
 returns-3 : tie.Need-returns-3 Inv-loop μ-loop
 returns-3 c =
@@ -54,17 +42,8 @@ returns-3 c =
 sub-wide : tie.Need-sub-wide Inv-loop μ-loop
 sub-wide c = omega (arith, digit-range _ (sym (c .before .is-digit2 .ensures) ∙ not-false _ (c .if3 .left)))
 
-wide-requires : tie.Need-wide-requires Inv-loop μ-loop
-wide-requires c κs = search needs
-
 sub-if4 : tie.Need-sub-if4 Inv-loop μ-loop
 sub-if4 c = omega (arith, digit-range _ (sym (c .before .before .is-digit2 .ensures) ∙ not-false _ (c .before .if3 .left)))
-
-add-chomp-digits : tie.Need-add-chomp-digits Inv-loop μ-loop
-add-chomp-digits c = search needs
-
-chomp-digits-requires : tie.Need-chomp-digits-requires Inv-loop μ-loop
-chomp-digits-requires c κs = search needs
 
 returns-4 : tie.Need-returns-4 Inv-loop μ-loop
 returns-4 c =
@@ -75,15 +54,6 @@ returns-4 c =
     let more = digits-more-at _ _ _ (c .before .before .before .before .before .before .loop-test .taken) digit in
     let end = run-to isDigit _ _ _ (omega arith) (c .chomp-digits .ensures) in
     answer-refused _ _ _ _ (end .within) (l .inv .0 ∙ ap (bounded _) more ∙ too-large _ _ _ (omega arith) ∙ ap (noNumber IntegerTooLarge) (end .left))
-
-mul-acc : tie.Need-mul-acc Inv-loop μ-loop
-mul-acc c = search needs
-
-add-acc : tie.Need-add-acc Inv-loop μ-loop
-add-acc c = search needs
-
-add-i : tie.Need-add-i Inv-loop μ-loop
-add-i c = search needs
 
 loop-less : tie.Need-loop-less Inv-loop μ-loop
 loop-less c = search needs
@@ -108,22 +78,22 @@ parse-number-spec =
     Inv-loop
     μ-loop
     returns
-    shared-slice-read-is-digit
-    is-digit-requires
+    (λ c. search needs)
+    (λ c κs. search needs)
     returns-2
     loop-holds
-    shared-slice-read-b
-    is-digit-requires-2
+    (λ c. search needs)
+    (λ c κs. search needs)
     returns-3
     sub-wide
-    wide-requires
+    (λ c κs. search needs)
     sub-if4
-    add-chomp-digits
-    chomp-digits-requires
+    (λ c. search needs)
+    (λ c κs. search needs)
     returns-4
-    mul-acc
-    add-acc
-    add-i
+    (λ c. search needs)
+    (λ c. search needs)
+    (λ c. search needs)
     loop-less
     loop-again
     returns-5)

@@ -153,14 +153,6 @@ parse-container-put-name-requires t c κs =
     let p = c .before .before .before .before .pre .1 in
     omega (arith, p .at-byte, p .ready .names-room)
 
-parse-container-enum-known-why : (t : ℕ) → parse-container-lts.Need-enum-known-why (parse-container-claims t) (parse-container-at t) parse-container.Post
-    parse-container-Inv-loop parse-container-μ-loop
-parse-container-enum-known-why t c = search needs
-
-parse-container-enum-known-start : (t : ℕ) → parse-container-lts.Need-enum-known-start (parse-container-claims t) (parse-container-at t) parse-container.Post
-    parse-container-Inv-loop parse-container-μ-loop
-parse-container-enum-known-start t c = search needs
-
 parse-container-add-k : (t : ℕ) → parse-container-lts.Need-add-k (parse-container-claims t) (parse-container-at t) parse-container.Post
     parse-container-Inv-loop parse-container-μ-loop
 parse-container-add-k t c = omega (arith, c .before .before .before .before .before .before .before .before .before .before .pre .1 .ready .words-room)
@@ -194,10 +186,6 @@ parse-container-add-k-2 t c =
     let v = c .before .before .before .before .loop .inv in
     omega (arith, v .0 .words-room, c .before .before .put-codes .ensures .room, v .1 .1 .0 .0)
 
-parse-container-closes-fields-requires : (t : ℕ) → parse-container-lts.Need-closes-fields-requires (parse-container-claims t) (parse-container-at t)
-    parse-container.Post parse-container-Inv-loop parse-container-μ-loop
-parse-container-closes-fields-requires t c κs = search needs
-
 parse-container-add-t29 : (t : ℕ) → parse-container-lts.Need-add-t29 (parse-container-claims t) (parse-container-at t) parse-container.Post
     parse-container-Inv-loop parse-container-μ-loop
 parse-container-add-t29 t c =
@@ -228,14 +216,6 @@ parse-container-put-container-requires t c κs =
     let two = room-two (a .text .now) (a .at) (a .n) (a .m) (lists (a .words .now) (a .names .now)) (p .ready) (p .at-byte) (opens-closes _ _ (p .opens)) in
     ((omega (arith, two, x .kept .1 .1 .0, l .inv .1 .1 .0 .0), omega (arith, q .names-is)), after-items _ _ _ _ b b o (f .bound))
 
-parse-container-same-length : (t : ℕ) → parse-container-lts.Need-same-length (parse-container-claims t) (parse-container-at t) parse-container.Post
-    parse-container-Inv-loop parse-container-μ-loop
-parse-container-same-length t c = search needs
-
-parse-container-same-length-2 : (t : ℕ) → parse-container-lts.Need-same-length-2 (parse-container-claims t) (parse-container-at t) parse-container.Post
-    parse-container-Inv-loop parse-container-μ-loop
-parse-container-same-length-2 t c = search needs
-
 parse-container-returns : (t : ℕ) → parse-container-lts.Need-returns (parse-container-claims t) (parse-container-at t) parse-container.Post
     parse-container-Inv-loop parse-container-μ-loop
 parse-container-returns t c =
@@ -262,18 +242,6 @@ parse-container-returns t c =
     rw (d .0, d .1) (reads-contained (a .text .now) (a .at) (a .kind) (a .n) (a .m) (p .at-byte) (p .opens) (lists (a .words .now) (a .names .now))
     (c16 .put-name .last .1 .1 .1 .0) _ _ q b o f)
 
-parse-container-sub-parse-inner : (t : ℕ) → parse-container-lts.Need-sub-parse-inner (parse-container-claims t) (parse-container-at t) parse-container.Post
-    parse-container-Inv-loop parse-container-μ-loop
-parse-container-sub-parse-inner t c = search needs
-
-parse-container-part-parse-inner-start : (t : ℕ) → parse-container-lts.Need-part-parse-inner-start (parse-container-claims t) (parse-container-at t)
-    parse-container.Post parse-container-Inv-loop parse-container-μ-loop
-parse-container-part-parse-inner-start t c = search needs
-
-parse-container-part-parse-inner-end : (t : ℕ) → parse-container-lts.Need-part-parse-inner-end (parse-container-claims t) (parse-container-at t)
-    parse-container.Post parse-container-Inv-loop parse-container-μ-loop
-parse-container-part-parse-inner-end t c = search needs
-
 parse-container-parse-inner-requires : (t : ℕ) → parse-container-lts.Need-parse-inner-requires (parse-container-claims t) (parse-container-at t)
     parse-container.Post parse-container-Inv-loop parse-container-μ-loop
 parse-container-parse-inner-requires t c κs =
@@ -288,10 +256,6 @@ parse-container-parse-inner-requires t c κs =
     let ready = ready-codes (c20 .args .text .now) (l .to) (l .k) (l .l) (x .result) (l .words) (x .last .1 .1 .0) (l .names) (l .inv .0) (x .ensures)
     (x .kept .1 .1 .0) in
     rw (whole (c20 .args .text .now)) (omega (arith, c20 .pre .0, l .inv .1 .0, x .ensures .onward, x .ensures .within, q .onward), ready)
-
-parse-container-enum-known-p : (t : ℕ) → parse-container-lts.Need-enum-known-p (parse-container-claims t) (parse-container-at t) parse-container.Post
-    parse-container-Inv-loop parse-container-μ-loop
-parse-container-enum-known-p t c = search needs
 
 parse-container-loop-less : (t : ℕ) → parse-container-lts.Need-loop-less (parse-container-claims t) (parse-container-at t) parse-container.Post
     parse-container-Inv-loop parse-container-μ-loop
@@ -330,10 +294,6 @@ parse-container-loop-again t c =
       ),
     )
 
-parse-container-end-items-requires : (t : ℕ) → parse-container-lts.Need-end-items-requires (parse-container-claims t) (parse-container-at t)
-    parse-container.Post parse-container-Inv-loop parse-container-μ-loop
-parse-container-end-items-requires t c κs = search needs
-
 parse-container-put-container-requires-2 : (t : ℕ) → parse-container-lts.Need-put-container-requires-2 (parse-container-claims t) (parse-container-at t)
     parse-container.Post parse-container-Inv-loop parse-container-μ-loop
 parse-container-put-container-requires-2 t c κs =
@@ -361,10 +321,6 @@ parse-container-put-container-requires-2 t c κs =
     let p = c28 .pre .1 in
     let two = room-two (a .text .now) (a .at) (a .n) (a .m) (lists (a .words .now) (a .names .now)) (p .ready) (p .at-byte) (opens-closes _ _ (p .opens)) in
     ((omega (arith, two, i .kept .1 .1 .0, x .kept .1 .1 .0, l .inv .1 .1 .0 .0), omega (arith, q .names-is)), after-items _ _ _ _ _ _ o (f .bound))
-
-parse-container-same-length-3 : (t : ℕ) → parse-container-lts.Need-same-length-3 (parse-container-claims t) (parse-container-at t) parse-container.Post
-    parse-container-Inv-loop parse-container-μ-loop
-parse-container-same-length-3 t c = search needs
 
 parse-container-same-length-4 : (t : ℕ) → parse-container-lts.Need-same-length-4 (parse-container-claims t) (parse-container-at t) parse-container.Post
     parse-container-Inv-loop parse-container-μ-loop
@@ -406,10 +362,6 @@ parse-container-returns-2 t c =
     rw (d .0, d .1) (reads-contained (a .text .now) (a .at) (a .kind) (a .n) (a .m) (p .at-byte) (p .opens) (lists (a .words .now) (a .names .now))
     (c26 .put-name .last .1 .1 .1 .0) _ _ q z o f)
 
-parse-container-same-length-5 : (t : ℕ) → parse-container-lts.Need-same-length-5 (parse-container-claims t) (parse-container-at t) parse-container.Post
-    parse-container-Inv-loop parse-container-μ-loop
-parse-container-same-length-5 t c = search needs
-
 parse-container-returns-3 : (t : ℕ) → parse-container-lts.Need-returns-3 (parse-container-claims t) (parse-container-at t) parse-container.Post
     parse-container-Inv-loop parse-container-μ-loop
 parse-container-returns-3 t c =
@@ -420,18 +372,6 @@ parse-container-returns-3 t c =
     let q = rw (c .before .why .given .1) at (c5 .put-name .ensures) in
     reads-no-name (a .text .now) (a .at) (a .kind) (a .n) (a .m) (p .at-byte) (p .opens) (lists (a .words .now) (a .names .now))
     (c5 .put-name .last .1 .1 .1 .0) _ _ q
-
-parse-inner-run-end-requires : (t : ℕ) → parse-inner-lts.Need-run-end-requires (parse-inner-claims t) (parse-inner-at t) parse-inner.Post
-parse-inner-run-end-requires t c κs = search needs
-
-parse-inner-sub-parse-one : (t : ℕ) → parse-inner-lts.Need-sub-parse-one (parse-inner-claims t) (parse-inner-at t) parse-inner.Post
-parse-inner-sub-parse-one t c = search needs
-
-parse-inner-part-parse-one-start : (t : ℕ) → parse-inner-lts.Need-part-parse-one-start (parse-inner-claims t) (parse-inner-at t) parse-inner.Post
-parse-inner-part-parse-one-start t c = search needs
-
-parse-inner-part-parse-one-end : (t : ℕ) → parse-inner-lts.Need-part-parse-one-end (parse-inner-claims t) (parse-inner-at t) parse-inner.Post
-parse-inner-part-parse-one-end t c = search needs
 
 parse-inner-sub-parse-one-2 : (t : ℕ) → parse-inner-lts.Need-sub-parse-one-2 (parse-inner-claims t) (parse-inner-at t) parse-inner.Post
 parse-inner-sub-parse-one-2 t c =
@@ -512,24 +452,6 @@ parse-one-add-length-here t c =
     let c6 = c2 .before .before .before .before in
     omega (arith, c2 .if1 .left, c6 .good .0)
 
-parse-one-length-here-requires : (t : ℕ) → parse-one-lts.Need-length-here-requires (parse-one-claims t) (parse-one-at t) parse-one.Post
-parse-one-length-here-requires t c κs = search needs
-
-parse-one-enum-known-why : (t : ℕ) → parse-one-lts.Need-enum-known-why (parse-one-claims t) (parse-one-at t) parse-one.Post
-parse-one-enum-known-why t c = search needs
-
-parse-one-enum-known-len : (t : ℕ) → parse-one-lts.Need-enum-known-len (parse-one-claims t) (parse-one-at t) parse-one.Post
-parse-one-enum-known-len t c = search needs
-
-parse-one-sub-parse-inner : (t : ℕ) → parse-one-lts.Need-sub-parse-inner (parse-one-claims t) (parse-one-at t) parse-one.Post
-parse-one-sub-parse-inner t c = search needs
-
-parse-one-part-parse-inner-start : (t : ℕ) → parse-one-lts.Need-part-parse-inner-start (parse-one-claims t) (parse-one-at t) parse-one.Post
-parse-one-part-parse-inner-start t c = search needs
-
-parse-one-part-parse-inner-end : (t : ℕ) → parse-one-lts.Need-part-parse-inner-end (parse-one-claims t) (parse-one-at t) parse-one.Post
-parse-one-part-parse-inner-end t c = search needs
-
 parse-one-add-parse-inner : (t : ℕ) → parse-one-lts.Need-add-parse-inner (parse-one-claims t) (parse-one-at t) parse-one.Post
 parse-one-add-parse-inner t c =
     let c8 = c .before .before .before .before .before .before .before .before in
@@ -565,15 +487,6 @@ parse-one-put-array-requires t c κs =
     let two = room-two (a .text .now) (a .at) (a .n) (a .m) (lists (a .words .now) (a .names .now)) (c19 .pre .1 .ready) (c15 .if1 .left) (ap closes st) in
     (omega (arith, two, i .kept .1 .1 .0), after-parsed _ _ _ _ _ _ (i .result) (i .ensures .bound))
 
-parse-one-sub-parse-container : (t : ℕ) → parse-one-lts.Need-sub-parse-container (parse-one-claims t) (parse-one-at t) parse-one.Post
-parse-one-sub-parse-container t c = search needs
-
-parse-one-part-parse-container-start : (t : ℕ) → parse-one-lts.Need-part-parse-container-start (parse-one-claims t) (parse-one-at t) parse-one.Post
-parse-one-part-parse-container-start t c = search needs
-
-parse-one-part-parse-container-end : (t : ℕ) → parse-one-lts.Need-part-parse-container-end (parse-one-claims t) (parse-one-at t) parse-one.Post
-parse-one-part-parse-container-end t c = search needs
-
 parse-one-parse-container-requires : (t : ℕ) → parse-one-lts.Need-parse-container-requires (parse-one-claims t) (parse-one-at t) parse-one.Post
 unfolding start inSingles singles inOthers others closes
 parse-one-parse-container-requires t c κs =
@@ -585,15 +498,6 @@ parse-one-parse-container-requires t c κs =
       omega (arith, c9 .pre .0),
       record { ready = p .ready; at-byte = c5 .if1 .left; opens = starts _ 123 (c3 .match .keys2) refl },
     )
-
-parse-one-sub-parse-container-2 : (t : ℕ) → parse-one-lts.Need-sub-parse-container-2 (parse-one-claims t) (parse-one-at t) parse-one.Post
-parse-one-sub-parse-container-2 t c = search needs
-
-parse-one-part-parse-container-start-2 : (t : ℕ) → parse-one-lts.Need-part-parse-container-start-2 (parse-one-claims t) (parse-one-at t) parse-one.Post
-parse-one-part-parse-container-start-2 t c = search needs
-
-parse-one-part-parse-container-end-2 : (t : ℕ) → parse-one-lts.Need-part-parse-container-end-2 (parse-one-claims t) (parse-one-at t) parse-one.Post
-parse-one-part-parse-container-end-2 t c = search needs
 
 parse-one-parse-container-requires-2 : (t : ℕ) → parse-one-lts.Need-parse-container-requires-2 (parse-one-claims t) (parse-one-at t) parse-one.Post
 unfolding start inSingles singles inOthers others closes
@@ -659,32 +563,17 @@ parse-one-returns-3 t c =
     let d = c2 .put-array .ensures in
     rw (d .0, d .1) (reads-item (a .text .now) _ (a .n) (a .m) _ _ h st (q .0) (q .1 .0) (q .1 .1) b z (i .result) (rw (whole (a .text .now)) at (i .ensures)))
 
-parse-one-same-length-3 : (t : ℕ) → parse-one-lts.Need-same-length-3 (parse-one-claims t) (parse-one-at t) parse-one.Post
-parse-one-same-length-3 t c = search needs
-
-parse-one-same-length-4 : (t : ℕ) → parse-one-lts.Need-same-length-4 (parse-one-claims t) (parse-one-at t) parse-one.Post
-parse-one-same-length-4 t c = search needs
-
 parse-one-returns-4 : (t : ℕ) → parse-one-lts.Need-returns-4 (parse-one-claims t) (parse-one-at t) parse-one.Post
 parse-one-returns-4 t c =
     let c4 = c .before .before .before .before in
     let c14 = c4 .before .before .before .before .before .before .before .before .before .before in
     rw (whole (c14 .args .text .now)) at (c4 .parse-container .ensures)
 
-parse-one-same-length-5 : (t : ℕ) → parse-one-lts.Need-same-length-5 (parse-one-claims t) (parse-one-at t) parse-one.Post
-parse-one-same-length-5 t c = search needs
-
-parse-one-same-length-6 : (t : ℕ) → parse-one-lts.Need-same-length-6 (parse-one-claims t) (parse-one-at t) parse-one.Post
-parse-one-same-length-6 t c = search needs
-
 parse-one-returns-5 : (t : ℕ) → parse-one-lts.Need-returns-5 (parse-one-claims t) (parse-one-at t) parse-one.Post
 parse-one-returns-5 t c =
     let c4 = c .before .before .before .before in
     let c14 = c4 .before .before .before .before .before .before .before .before .before .before in
     rw (whole (c14 .args .text .now)) at (c4 .parse-container2 .ensures)
-
-parse-one-same-length-7 : (t : ℕ) → parse-one-lts.Need-same-length-7 (parse-one-claims t) (parse-one-at t) parse-one.Post
-parse-one-same-length-7 t c = search needs
 
 parse-one-returns-6 : (t : ℕ) → parse-one-lts.Need-returns-6 (parse-one-claims t) (parse-one-at t) parse-one.Post
 parse-one-returns-6 t c =
@@ -699,38 +588,38 @@ pub +parse-container+parse-inner+parse-one-spec : {M : Type 1} → statement M
     parse-container-μ-loop
     (parse-container-add-put-name t)
     (parse-container-put-name-requires t)
-    (parse-container-enum-known-why t)
-    (parse-container-enum-known-start t)
+    (λ c. search needs)
+    (λ c. search needs)
     (parse-container-add-k t)
     (parse-container-loop-holds t)
     (parse-container-put-codes-requires t)
     (parse-container-sub-k t)
     (parse-container-add-k-2 t)
-    (parse-container-closes-fields-requires t)
+    (λ c κs. search needs)
     (parse-container-add-t29 t)
     (parse-container-put-container-requires t)
-    (parse-container-same-length t)
-    (parse-container-same-length-2 t)
+    (λ c. search needs)
+    (λ c. search needs)
     (parse-container-returns t)
-    (parse-container-sub-parse-inner t)
-    (parse-container-part-parse-inner-start t)
-    (parse-container-part-parse-inner-end t)
+    (λ c. search needs)
+    (λ c. search needs)
+    (λ c. search needs)
     (parse-container-parse-inner-requires t)
-    (parse-container-enum-known-p t)
+    (λ c. search needs)
     (parse-container-loop-less t)
     (parse-container-loop-again t)
-    (parse-container-end-items-requires t)
+    (λ c κs. search needs)
     (parse-container-put-container-requires-2 t)
-    (parse-container-same-length-3 t)
+    (λ c. search needs)
     (parse-container-same-length-4 t)
     (parse-container-returns-2 t)
-    (parse-container-same-length-5 t)
+    (λ c. search needs)
     (parse-container-returns-3 t))
     (λ t. parse-inner-lts.spec (parse-inner-claims t) (parse-inner-at t) parse-inner.Post
-    (parse-inner-run-end-requires t)
-    (parse-inner-sub-parse-one t)
-    (parse-inner-part-parse-one-start t)
-    (parse-inner-part-parse-one-end t)
+    (λ c κs. search needs)
+    (λ c. search needs)
+    (λ c. search needs)
+    (λ c. search needs)
     (parse-inner-sub-parse-one-2 t)
     (parse-inner-add-parse-one t)
     (parse-inner-parse-one-requires t)
@@ -742,33 +631,33 @@ pub +parse-container+parse-inner+parse-one-spec : {M : Type 1} → statement M
     (parse-one-returns t)
     (parse-one-shared-slice-read-b t)
     (parse-one-add-length-here t)
-    (parse-one-length-here-requires t)
-    (parse-one-enum-known-why t)
-    (parse-one-enum-known-len t)
-    (parse-one-sub-parse-inner t)
-    (parse-one-part-parse-inner-start t)
-    (parse-one-part-parse-inner-end t)
+    (λ c κs. search needs)
+    (λ c. search needs)
+    (λ c. search needs)
+    (λ c. search needs)
+    (λ c. search needs)
+    (λ c. search needs)
     (parse-one-add-parse-inner t)
     (parse-one-parse-inner-requires t)
     (parse-one-put-array-requires t)
-    (parse-one-sub-parse-container t)
-    (parse-one-part-parse-container-start t)
-    (parse-one-part-parse-container-end t)
+    (λ c. search needs)
+    (λ c. search needs)
+    (λ c. search needs)
     (parse-one-parse-container-requires t)
-    (parse-one-sub-parse-container-2 t)
-    (parse-one-part-parse-container-start-2 t)
-    (parse-one-part-parse-container-end-2 t)
+    (λ c. search needs)
+    (λ c. search needs)
+    (λ c. search needs)
     (parse-one-parse-container-requires-2 t)
     (parse-one-parse-simple-requires t)
     (parse-one-returns-2 t)
     (parse-one-same-length t)
     (parse-one-same-length-2 t)
     (parse-one-returns-3 t)
-    (parse-one-same-length-3 t)
-    (parse-one-same-length-4 t)
+    (λ c. search needs)
+    (λ c. search needs)
     (parse-one-returns-4 t)
-    (parse-one-same-length-5 t)
-    (parse-one-same-length-6 t)
+    (λ c. search needs)
+    (λ c. search needs)
     (parse-one-returns-5 t)
-    (parse-one-same-length-7 t)
+    (λ c. search needs)
     (parse-one-returns-6 t)

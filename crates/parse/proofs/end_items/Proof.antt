@@ -3,27 +3,6 @@ use mathlib.Core.Path.{refl, sym, _∙_}
 use Rattle.parse.proofs.end_items.Statement.{statement}
 use Rattle.parse.proofs.end_items.Tie as tie
 
-enum-told : tie.Need-enum-told
-enum-told c = search needs
-
-enum-told-2 : tie.Need-enum-told-2
-enum-told-2 c = search needs
-
-enum-known-p : tie.Need-enum-known-p
-enum-known-p c = search needs
-
-same-container-requires : tie.Need-same-container-requires
-same-container-requires c κs = search needs
-
-end-byte-requires : tie.Need-end-byte-requires
-end-byte-requires c κs = search needs
-
-enum-known-p-2 : tie.Need-enum-known-p-2
-enum-known-p-2 c = search needs
-
-enum-known-p-3 : tie.Need-enum-known-p-3
-enum-known-p-3 c = search needs
-
 returns : tie.Need-returns
 returns c = rw (c .enum-told .given .1) refl
 
@@ -46,13 +25,13 @@ pub end-items-spec : {M : Type 1} → statement M
 end-items-spec =
     tie.close
     (tie.spec
-    enum-told
-    enum-told-2
-    enum-known-p
-    same-container-requires
-    end-byte-requires
-    enum-known-p-2
-    enum-known-p-3
+    (λ c. search needs)
+    (λ c. search needs)
+    (λ c. search needs)
+    (λ c κs. search needs)
+    (λ c κs. search needs)
+    (λ c. search needs)
+    (λ c. search needs)
     returns
     returns-2
     returns-3

@@ -15,35 +15,11 @@ use Rattle.parse.proofs.parse_encoding_or_none.Tie as tie
 returns : tie.Need-returns
 returns c = (too-long _ _ _ (c .if1 .taken), record { words-kept = refl; names-kept = refl })
 
-add-if2 : tie.Need-add-if2
-add-if2 c = search needs
-
-mul-if2 : tie.Need-mul-if2
-mul-if2 c = search needs
-
-add-if2-2 : tie.Need-add-if2-2
-add-if2-2 c = search needs
-
 returns-2 : tie.Need-returns-2
 returns-2 c = (few-words _ _ _ (c .before .if1 .left) (c .if2 .taken), record { words-kept = refl; names-kept = refl })
 
 returns-3 : tie.Need-returns-3
 returns-3 c = (few-names _ _ _ (c .before .before .if1 .left) (c .if3 .taken), record { words-kept = refl; names-kept = refl })
-
-shared-slice-read-single-kind : tie.Need-shared-slice-read-single-kind
-shared-slice-read-single-kind c = search needs
-
-single-kind-requires : tie.Need-single-kind-requires
-single-kind-requires c κs = search needs
-
-put-code-requires : tie.Need-put-code-requires
-put-code-requires c κs = search needs
-
-same-length : tie.Need-same-length
-same-length c = search needs
-
-same-length-2 : tie.Need-same-length-2
-same-length-2 c = search needs
 
 returns-4 : tie.Need-returns-4
 returns-4 c =
@@ -58,30 +34,6 @@ returns-4 c =
     let code = single-code _ _ (c8 .single-kind .ensures) (omega (arith, c7 .if5 .taken)) in
     let put = c4 .put-code .ensures in
     one-code (a .text .now) (a .words .now) (a .names .now) (c8 .single-kind .result) (c10 .if4 .taken) (c12 .if2 .left) (c11 .if3 .left) code _ _ (put .0) (put .1)
-
-clear-sheet-requires : tie.Need-clear-sheet-requires
-clear-sheet-requires c κs = search needs
-
-strip-leading-qualifiers-requires : tie.Need-strip-leading-qualifiers-requires
-strip-leading-qualifiers-requires c κs = search needs
-
-sub-parse-inner : tie.Need-sub-parse-inner
-sub-parse-inner c = search needs
-
-part-parse-inner-start : tie.Need-part-parse-inner-start
-part-parse-inner-start c = search needs
-
-part-parse-inner-end : tie.Need-part-parse-inner-end
-part-parse-inner-end c = search needs
-
-sub-parse-inner-2 : tie.Need-sub-parse-inner-2
-sub-parse-inner-2 c = search needs
-
-part-parse-inner-start-2 : tie.Need-part-parse-inner-start-2
-part-parse-inner-start-2 c = search needs
-
-part-parse-inner-end-2 : tie.Need-part-parse-inner-end-2
-part-parse-inner-end-2 c = search needs
 
 parse-inner-requires : tie.Need-parse-inner-requires
 parse-inner-requires c κs =
@@ -115,12 +67,6 @@ encoding-or-none-requires c κs =
     joined-fits T (strip .result) (a .words .now) (clear .last .1 .0) (a .names .now) (clear .last .1 .1 .0) _ z (i .result) (c20 .if2 .left) (c19 .if3 .left)
     (strip-place T _ (strip .ensures) .1) (clear .kept .1 .0) (i .kept .1 .1 .0) (clear .kept .1 .1 .0) (i .kept .1 .1 .1 .1 .0) ((rw (whole T) at (i .ensures)) .bound)
 
-same-length-3 : tie.Need-same-length-3
-same-length-3 c = search needs
-
-same-length-4 : tie.Need-same-length-4
-same-length-4 c = search needs
-
 returns-5 : tie.Need-returns-5
 returns-5 c =
     let c4 = c .before .before .before .before in
@@ -146,27 +92,27 @@ parse-encoding-or-none-spec =
     tie.close
     (tie.spec
     returns
-    add-if2
-    mul-if2
-    add-if2-2
+    (λ c. search needs)
+    (λ c. search needs)
+    (λ c. search needs)
     returns-2
     returns-3
-    shared-slice-read-single-kind
-    single-kind-requires
-    put-code-requires
-    same-length
-    same-length-2
+    (λ c. search needs)
+    (λ c κs. search needs)
+    (λ c κs. search needs)
+    (λ c. search needs)
+    (λ c. search needs)
     returns-4
-    clear-sheet-requires
-    strip-leading-qualifiers-requires
-    sub-parse-inner
-    part-parse-inner-start
-    part-parse-inner-end
-    sub-parse-inner-2
-    part-parse-inner-start-2
-    part-parse-inner-end-2
+    (λ c κs. search needs)
+    (λ c κs. search needs)
+    (λ c. search needs)
+    (λ c. search needs)
+    (λ c. search needs)
+    (λ c. search needs)
+    (λ c. search needs)
+    (λ c. search needs)
     parse-inner-requires
     encoding-or-none-requires
-    same-length-3
-    same-length-4
+    (λ c. search needs)
+    (λ c. search needs)
     returns-5)

@@ -4,18 +4,12 @@ use borrow.Author.Needs.{needs}
 use Rattle.parse.proofs.parse_simple.Statement.{statement}
 use Rattle.parse.proofs.parse_simple.Tie as tie
 
-token-here-requires : tie.Need-token-here-requires
-token-here-requires c κs = search needs
-
 put-token-requires : tie.Need-put-token-requires
 put-token-requires c κs =
     let k = c .before in
     let s = k .before .before .before in
     let h = s .pre .at-place in
     token-room _ _ _ 0 (s .args .words .now) h _ (token-is _ _ h _ (s .pre .plain) (k .token-here .ensures)) (s .pre .words-room)
-
-same-length : tie.Need-same-length
-same-length c = search needs
 
 returns : tie.Need-returns
 returns c =
@@ -26,4 +20,4 @@ returns c =
     rw (w .0, w .1) (simple-token _ _ _ _ _ h _ (token-is _ _ h _ (s .pre .plain) (k .token-here .ensures)))
 
 pub parse-simple-spec : {M : Type 1} → statement M
-parse-simple-spec = tie.close (tie.spec token-here-requires put-token-requires same-length returns)
+parse-simple-spec = tie.close (tie.spec (λ c κs. search needs) put-token-requires (λ c. search needs) returns)

@@ -5,23 +5,11 @@ use Rattle.codes.proofs.StepLaws.{closed-in}
 use Rattle.parse.proofs.put_array.Statement.{statement}
 use Rattle.parse.proofs.put_array.Tie as tie
 
-enum-told : tie.Need-enum-told
-enum-told c = search needs
-
-enum-known-p : tie.Need-enum-known-p
-enum-known-p c = search needs
-
-closes-item-requires : tie.Need-closes-item-requires
-closes-item-requires c κs = search needs
-
 sub-put-node : tie.Need-sub-put-node
 sub-put-node c =
     let c4 = c .before .before .before .before in
     let c8 = c4 .before .before .before .before in
     rw (c4 .p .given .1) at (c8 .pre .1)
-
-put-node-requires : tie.Need-put-node-requires
-put-node-requires c κs = search needs
 
 add-t23 : tie.Need-add-t23
 add-t23 c =
@@ -31,29 +19,8 @@ add-t23 c =
     let c11 = c7 .before .before .before .before in
     let h = closed-in (c11 .args .text .now) (c7 .p .given .0 .0) (sym (c5 .closes-item .ensures) ∙ c4 .if1 .taken) in omega (arith, c11 .good .1 .0)
 
-enum-known-p-2 : tie.Need-enum-known-p-2
-enum-known-p-2 c = search needs
-
-end-byte-requires : tie.Need-end-byte-requires
-end-byte-requires c κs = search needs
-
-enum-known-p-3 : tie.Need-enum-known-p-3
-enum-known-p-3 c = search needs
-
-put-none-under-requires : tie.Need-put-none-under-requires
-put-none-under-requires c κs = search needs
-
-add-t31 : tie.Need-add-t31
-add-t31 c = search needs
-
-enum-known-p-4 : tie.Need-enum-known-p-4
-enum-known-p-4 c = search needs
-
 returns : tie.Need-returns
 returns c = rw (c .enum-told .given .1) (refl, refl)
-
-same-length : tie.Need-same-length
-same-length c = search needs
 
 returns-2 : tie.Need-returns-2
 returns-2 c =
@@ -70,9 +37,6 @@ returns-3 c =
 returns-4 : tie.Need-returns-4
 returns-4 c = rw (c .before .before .p2 .given .1, c .end-byte .ensures) (refl, refl)
 
-same-length-2 : tie.Need-same-length-2
-same-length-2 c = search needs
-
 returns-5 : tie.Need-returns-5
 returns-5 c =
     let c5 = c .before .before .before .before .before in
@@ -85,23 +49,23 @@ pub put-array-spec : {M : Type 1} → statement M
 put-array-spec =
     tie.close
     (tie.spec
-    enum-told
-    enum-known-p
-    closes-item-requires
+    (λ c. search needs)
+    (λ c. search needs)
+    (λ c κs. search needs)
     sub-put-node
-    put-node-requires
+    (λ c κs. search needs)
     add-t23
-    enum-known-p-2
-    end-byte-requires
-    enum-known-p-3
-    put-none-under-requires
-    add-t31
-    enum-known-p-4
+    (λ c. search needs)
+    (λ c κs. search needs)
+    (λ c. search needs)
+    (λ c κs. search needs)
+    (λ c. search needs)
+    (λ c. search needs)
     returns
-    same-length
+    (λ c. search needs)
     returns-2
     returns-3
     returns-4
-    same-length-2
+    (λ c. search needs)
     returns-5
     returns-6)

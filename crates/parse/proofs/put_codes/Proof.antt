@@ -22,9 +22,6 @@ loop-holds c = (codes-none _ _ _ _ (c .before .before .pre .0), refl)
 shared-slice-read-single-kind : tie.Need-shared-slice-read-single-kind Inv-loop μ-loop
 shared-slice-read-single-kind c = omega arith
 
-single-kind-requires : tie.Need-single-kind-requires Inv-loop μ-loop
-single-kind-requires c κs = search needs
-
 same-length : tie.Need-same-length Inv-loop μ-loop
 same-length c = c .before .before .before .before .loop .inv .1
 
@@ -73,7 +70,7 @@ put-codes-spec =
     μ-loop
     loop-holds
     shared-slice-read-single-kind
-    single-kind-requires
+    (λ c κs. search needs)
     same-length
     returns
     sub-put-node

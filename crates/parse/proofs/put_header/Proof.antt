@@ -4,14 +4,8 @@ use borrow.Author.Needs.{needs}
 use Rattle.parse.proofs.put_header.Statement.{statement}
 use Rattle.parse.proofs.put_header.Tie as tie
 
-put-header-requires : tie.Need-put-header-requires
-put-header-requires c κs = search needs
-
-same-length : tie.Need-same-length
-same-length c = search needs
-
 returns : tie.Need-returns
 returns c = c .before .before .put-header .ensures ∙ header-put _ _ _ (search needs)
 
 pub put-header-spec : {M : Type 1} → statement M
-put-header-spec = tie.close (tie.spec put-header-requires same-length returns)
+put-header-spec = tie.close (tie.spec (λ c κs. search needs) (λ c. search needs) returns)

@@ -34,9 +34,6 @@ shared-slice-read-indirection-word c =
     let p = c .before .before .before .before .before .pre in
     omega (arith, run-to isIndirection _ _ _ (p .at-place) (p .ends) .within)
 
-indirection-word-requires : tie.Need-indirection-word-requires Inv-loop μ-loop
-indirection-word-requires c κs = search needs
-
 sub-put-indirection : tie.Need-sub-put-indirection Inv-loop μ-loop
 sub-put-indirection c = omega arith
 
@@ -100,7 +97,7 @@ put-indirections-spec =
     loop-holds
     sub-indirection-word
     shared-slice-read-indirection-word
-    indirection-word-requires
+    (λ c κs. search needs)
     sub-put-indirection
     sub-put-indirection-2
     add-put-indirection

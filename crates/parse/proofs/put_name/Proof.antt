@@ -6,15 +6,6 @@ use borrow.Author.Needs.{needs}
 use Rattle.parse.proofs.put_name.Statement.{statement}
 use Rattle.parse.proofs.put_name.Tie as tie
 
-name-here-requires : tie.Need-name-here-requires
-name-here-requires c κs = search needs
-
-enum-known-why : tie.Need-enum-known-why
-enum-known-why c = search needs
-
-enum-known-e : tie.Need-enum-known-e
-enum-known-e c = search needs
-
 sub-copy-name : tie.Need-sub-copy-name
 sub-copy-name c =
     let e = c .before .before in
@@ -68,9 +59,6 @@ returns c =
     let n = c .before .before .before in
     (rw (c .before .why .given .1) at (name-is _ _ _ _ (n .before .before .before .pre .0) (n .name-here .ensures)), refl)
 
-same-length : tie.Need-same-length
-same-length c = search needs
-
 returns-2 : tie.Need-returns-2
 returns-2 c =
     let e = c .before .before .before .before .before .before in
@@ -83,9 +71,9 @@ pub put-name-spec : {M : Type 1} → statement M
 put-name-spec =
     tie.close
     (tie.spec
-    name-here-requires
-    enum-known-why
-    enum-known-e
+    (λ c κs. search needs)
+    (λ c. search needs)
+    (λ c. search needs)
     sub-copy-name
     part-copy-name-start
     part-copy-name-end
@@ -93,5 +81,5 @@ put-name-spec =
     sub-t16
     add-t19
     returns
-    same-length
+    (λ c. search needs)
     returns-2)

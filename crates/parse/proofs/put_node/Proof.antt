@@ -12,30 +12,6 @@ use borrow.Author.Needs.{needs}
 use Rattle.parse.proofs.put_node.Statement.{statement}
 use Rattle.parse.proofs.put_node.Tie as tie
 
-mul-from : tie.Need-mul-from
-mul-from c = search needs
-
-add-put-node : tie.Need-add-put-node
-add-put-node c = search needs
-
-mul-put-node : tie.Need-mul-put-node
-mul-put-node c = search needs
-
-sub-put-node : tie.Need-sub-put-node
-sub-put-node c = search needs
-
-part-put-node-start : tie.Need-part-put-node-start
-part-put-node-start c = search needs
-
-part-put-node-end : tie.Need-part-put-node-end
-part-put-node-end c = search needs
-
-put-node-requires : tie.Need-put-node-requires
-put-node-requires c κs = search needs
-
-same-length : tie.Need-same-length
-same-length c = search needs
-
 returns : tie.Need-returns
 returns c =
     let s = c .before .before .before .before .before in
@@ -51,4 +27,4 @@ returns c =
 pub put-node-spec : {M : Type 1} → statement M
 put-node-spec =
     tie.close
-    (tie.spec mul-from add-put-node mul-put-node sub-put-node part-put-node-start part-put-node-end put-node-requires same-length returns)
+    (tie.spec (λ c. search needs) (λ c. search needs) (λ c. search needs) (λ c. search needs) (λ c. search needs) (λ c. search needs) (λ c κs. search needs) (λ c. search needs) returns)

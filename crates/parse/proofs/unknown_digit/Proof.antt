@@ -24,22 +24,12 @@ not-digit (E.WrongEndContainer k) h = refl
 not-digit (E.InvalidIdentifier k) h = refl
 not-digit E.NotAllConsumed h = refl
 
--- Src/lib.rt:702:28.
-enum-known-why : tie.Need-enum-known-why
-enum-known-why c = search needs
-
--- Src/lib.rt:702:34.
-is-digit-requires : tie.Need-is-digit-requires
-is-digit-requires c κs = search needs
-
--- Src/lib.rt:698:1.
 returns : tie.Need-returns
 unfolding unknownDigit
 returns c = rw (c .before .before .why .given .1) (c .is-digit .ensures)
 
--- Src/lib.rt:698:1.
 returns-2 : tie.Need-returns-2
 returns-2 c = sym (not-digit (c .before .args .why) (c .match .keys2))
 
 pub unknown-digit-spec : {M : Type 1} → statement M
-unknown-digit-spec = tie.close (tie.spec enum-known-why is-digit-requires returns returns-2)
+unknown-digit-spec = tie.close (tie.spec (λ c. search needs) (λ c κs. search needs) returns returns-2)

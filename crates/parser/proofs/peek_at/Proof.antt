@@ -4,9 +4,6 @@ use Rattle.parser.proofs.PlaceLaws.{peek-byte, peek-end}
 use Rattle.parser.proofs.peek_at.Statement.{statement}
 use Rattle.parser.proofs.peek_at.Tie as tie
 
-shared-slice-read-t7 : tie.Need-shared-slice-read-t7
-shared-slice-read-t7 c = search needs
-
 returns : tie.Need-returns
 returns c = sym (peek-byte _ _ (c .before .if1 .taken))
 
@@ -14,4 +11,4 @@ returns-2 : tie.Need-returns-2
 returns-2 c = sym (peek-end _ _ (c .if1 .left))
 
 pub peek-at-spec : {M : Type 1} → statement M
-peek-at-spec = tie.close (tie.spec shared-slice-read-t7 returns returns-2)
+peek-at-spec = tie.close (tie.spec (λ c. search needs) returns returns-2)

@@ -22,9 +22,6 @@ loop-holds c = refl
 shared-slice-read-is-qualifier : tie.Need-shared-slice-read-is-qualifier Inv-loop μ-loop
 shared-slice-read-is-qualifier c = omega arith
 
-is-qualifier-requires : tie.Need-is-qualifier-requires Inv-loop μ-loop
-is-qualifier-requires c κs = search needs
-
 returns : tie.Need-returns Inv-loop μ-loop
 returns c = sym (c .before .before .before .before .loop .inv ∙ strip-at-stop _ _ (strip-stop _ _ (c .before .before .before .loop-test .taken) (sym (c .before .is-qualifier .ensures) ∙ not-true _ (c .if1 .taken))))
 
@@ -48,7 +45,7 @@ strip-at-spec =
     μ-loop
     loop-holds
     shared-slice-read-is-qualifier
-    is-qualifier-requires
+    (λ c κs. search needs)
     returns
     add-i
     loop-less

@@ -21,9 +21,6 @@ shorter s r e = let same : length r ≡ length (stripLeadingQualifiers s) = ap l
 placed : (s r : List ℕ) → r ≡ stripLeadingQualifiers s → length s - length r ≡ length s - length (stripLeadingQualifiers s)
 placed s r e = ap (λ (t : List ℕ). length s - length t) e
 
-skip-qualifiers-requires : tie.Need-skip-qualifiers-requires
-skip-qualifiers-requires c κs = search needs
-
 sub-result : tie.Need-sub-result
 unfolding skipQualifiers endOf
 sub-result c = shorter _ _ (bytes-same _ _ (c .skip-qualifiers .ensures))
@@ -33,4 +30,4 @@ unfolding skipQualifiers endOf
 returns c = placed _ _ (bytes-same _ _ (c .skip-qualifiers .ensures))
 
 pub strip-leading-qualifiers-spec : {M : Type 1} → statement M
-strip-leading-qualifiers-spec = tie.close (tie.spec skip-qualifiers-requires sub-result returns)
+strip-leading-qualifiers-spec = tie.close (tie.spec (λ c κs. search needs) sub-result returns)

@@ -78,15 +78,6 @@ container t b = container-says _ _ _ _ _ (kind t b) (fits t b)
 check-nodes-loop-holds : (t : ℕ) → check-nodes-lts.Need-loop-holds (claims t) (asked t) check-nodes.Post Inv-loop μ-loop
 check-nodes-loop-holds t c = (refl, omega arith, omega arith, refl)
 
-check-nodes-mul-is-container : (t : ℕ) → check-nodes-lts.Need-mul-is-container (claims t) (asked t) check-nodes.Post Inv-loop μ-loop
-check-nodes-mul-is-container t c = search needs
-
-check-nodes-shared-slice-read-is-container : (t : ℕ) → check-nodes-lts.Need-shared-slice-read-is-container (claims t) (asked t) check-nodes.Post Inv-loop μ-loop
-check-nodes-shared-slice-read-is-container t c = search needs
-
-check-nodes-is-container-requires : (t : ℕ) → check-nodes-lts.Need-is-container-requires (claims t) (asked t) check-nodes.Post Inv-loop μ-loop
-check-nodes-is-container-requires t c κs = search needs
-
 check-nodes-plain-ok-requires : (t : ℕ) → check-nodes-lts.Need-plain-ok-requires (claims t) (asked t) check-nodes.Post Inv-loop μ-loop
 check-nodes-plain-ok-requires t c κs = (failed (c .before .is-container .ensures) (c .if1 .taken), omega arith, omega arith)
 
@@ -94,12 +85,6 @@ check-nodes-returns : (t : ℕ) → check-nodes-lts.Need-returns (claims t) (ask
 check-nodes-returns t c = sym (c .before .before .before .before .before .before .loop .inv .3
     ∙ walked-bad _ _ _ _ _ _ _ (c .before .before .before .before .before .loop-test .taken)
     (failed (c .before .plain-ok .ensures _ _) (c .if2 .taken)))
-
-check-nodes-add-at : (t : ℕ) → check-nodes-lts.Need-add-at (claims t) (asked t) check-nodes.Post Inv-loop μ-loop
-check-nodes-add-at t c = search needs
-
-check-nodes-sub-left : (t : ℕ) → check-nodes-lts.Need-sub-left (claims t) (asked t) check-nodes.Post Inv-loop μ-loop
-check-nodes-sub-left t c = search needs
 
 check-nodes-loop-less : (t : ℕ) → check-nodes-lts.Need-loop-less (claims t) (asked t) check-nodes.Post Inv-loop μ-loop
 check-nodes-loop-less t c = search needs
@@ -122,35 +107,11 @@ check-nodes-returns-2 t c = sym (c .before .before .before .before .before .befo
     ∙ walked-bad _ _ _ _ _ _ _ (c .before .before .before .before .before .loop-test .taken)
     (failed (c .before .container-ok .ensures) (c .if3 .taken)))
 
-check-nodes-add-size : (t : ℕ) → check-nodes-lts.Need-add-size (claims t) (asked t) check-nodes.Post Inv-loop μ-loop
-check-nodes-add-size t c = search needs
-
-check-nodes-mul-size : (t : ℕ) → check-nodes-lts.Need-mul-size (claims t) (asked t) check-nodes.Post Inv-loop μ-loop
-check-nodes-mul-size t c = search needs
-
-check-nodes-shared-slice-read-size : (t : ℕ) → check-nodes-lts.Need-shared-slice-read-size (claims t) (asked t) check-nodes.Post Inv-loop μ-loop
-check-nodes-shared-slice-read-size t c = search needs
-
-check-nodes-add-count : (t : ℕ) → check-nodes-lts.Need-add-count (claims t) (asked t) check-nodes.Post Inv-loop μ-loop
-check-nodes-add-count t c = search needs
-
-check-nodes-mul-count : (t : ℕ) → check-nodes-lts.Need-mul-count (claims t) (asked t) check-nodes.Post Inv-loop μ-loop
-check-nodes-mul-count t c = search needs
-
-check-nodes-shared-slice-read-count : (t : ℕ) → check-nodes-lts.Need-shared-slice-read-count (claims t) (asked t) check-nodes.Post Inv-loop μ-loop
-check-nodes-shared-slice-read-count t c = search needs
-
 check-nodes-name-good-requires : (t : ℕ) → check-nodes-lts.Need-name-good-requires (claims t) (asked t) check-nodes.Post Inv-loop μ-loop
 check-nodes-name-good-requires t c κs = let k = container t (c .before .before) in omega arith
 
 check-nodes-add-name : (t : ℕ) → check-nodes-lts.Need-add-name (claims t) (asked t) check-nodes.Post Inv-loop μ-loop
 check-nodes-add-name t c = let k = container t (c .before .before .before) in record { fits = omega arith }
-
-check-nodes-add-at-2 : (t : ℕ) → check-nodes-lts.Need-add-at-2 (claims t) (asked t) check-nodes.Post Inv-loop μ-loop
-check-nodes-add-at-2 t c = search needs
-
-check-nodes-sub-left-2 : (t : ℕ) → check-nodes-lts.Need-sub-left-2 (claims t) (asked t) check-nodes.Post Inv-loop μ-loop
-check-nodes-sub-left-2 t c = search needs
 
 check-nodes-loop-less-2 : (t : ℕ) → check-nodes-lts.Need-loop-less-2 (claims t) (asked t) check-nodes.Post Inv-loop μ-loop
 check-nodes-loop-less-2 t c = search needs
@@ -165,39 +126,12 @@ check-nodes-loop-again-2 t c = let b = c .before .before .before .before in let 
           (fits t b) (kind t b) d _ (c .before .name-good .ensures),
     )
 
-check-nodes-sub-check-nodes : (t : ℕ) → check-nodes-lts.Need-sub-check-nodes (claims t) (asked t) check-nodes.Post Inv-loop μ-loop
-check-nodes-sub-check-nodes t c = search needs
-
-check-nodes-part-check-nodes-start : (t : ℕ) → check-nodes-lts.Need-part-check-nodes-start (claims t) (asked t) check-nodes.Post Inv-loop μ-loop
-check-nodes-part-check-nodes-start t c = search needs
-
-check-nodes-part-check-nodes-end : (t : ℕ) → check-nodes-lts.Need-part-check-nodes-end (claims t) (asked t) check-nodes.Post Inv-loop μ-loop
-check-nodes-part-check-nodes-end t c = search needs
-
-check-nodes-sub-check-nodes-2 : (t : ℕ) → check-nodes-lts.Need-sub-check-nodes-2 (claims t) (asked t) check-nodes.Post Inv-loop μ-loop
-check-nodes-sub-check-nodes-2 t c = search needs
-
-check-nodes-part-check-nodes-start-2 : (t : ℕ) → check-nodes-lts.Need-part-check-nodes-start-2 (claims t) (asked t) check-nodes.Post Inv-loop μ-loop
-check-nodes-part-check-nodes-start-2 t c = search needs
-
-check-nodes-part-check-nodes-end-2 : (t : ℕ) → check-nodes-lts.Need-part-check-nodes-end-2 (claims t) (asked t) check-nodes.Post Inv-loop μ-loop
-check-nodes-part-check-nodes-end-2 t c = search needs
-
-check-nodes-add-check-nodes : (t : ℕ) → check-nodes-lts.Need-add-check-nodes (claims t) (asked t) check-nodes.Post Inv-loop μ-loop
-check-nodes-add-check-nodes t c = search needs
-
 check-nodes-sub-check-nodes-3 : (t : ℕ) → check-nodes-lts.Need-sub-check-nodes-3 (claims t) (asked t) check-nodes.Post Inv-loop μ-loop
 check-nodes-sub-check-nodes-3 t c = let k = container t (c .before .before .before .before .before .before) in omega arith
 
 check-nodes-check-nodes-requires : (t : ℕ) → check-nodes-lts.Need-check-nodes-requires (claims t) (asked t) check-nodes.Post Inv-loop μ-loop
 check-nodes-check-nodes-requires t c κs = let b = c .before .before .before .before .before .before in let k = container t b
     in (omega arith, (rw whole (omega arith), omega arith, rw whole (omega arith)))
-
-check-nodes-enum-known-inner : (t : ℕ) → check-nodes-lts.Need-enum-known-inner (claims t) (asked t) check-nodes.Post Inv-loop μ-loop
-check-nodes-enum-known-inner t c = search needs
-
-check-nodes-enum-told : (t : ℕ) → check-nodes-lts.Need-enum-told (claims t) (asked t) check-nodes.Post Inv-loop μ-loop
-check-nodes-enum-told t c = search needs
 
 check-nodes-returns-3 : (t : ℕ) → check-nodes-lts.Need-returns-3 (claims t) (asked t) check-nodes.Post Inv-loop μ-loop
 check-nodes-returns-3 t c = let b = c .before .before .before .before .before .before .before .before .before in
@@ -238,40 +172,40 @@ pub +check-nodes-spec : {M : Type 1} → statement M
     Inv-loop
     μ-loop
     (check-nodes-loop-holds t)
-    (check-nodes-mul-is-container t)
-    (check-nodes-shared-slice-read-is-container t)
-    (check-nodes-is-container-requires t)
+    (λ c. search needs)
+    (λ c. search needs)
+    (λ c κs. search needs)
     (check-nodes-plain-ok-requires t)
     (check-nodes-returns t)
-    (check-nodes-add-at t)
-    (check-nodes-sub-left t)
+    (λ c. search needs)
+    (λ c. search needs)
     (check-nodes-loop-less t)
     (check-nodes-loop-again t)
     (check-nodes-container-ok-requires t)
     (check-nodes-returns-2 t)
-    (check-nodes-add-size t)
-    (check-nodes-mul-size t)
-    (check-nodes-shared-slice-read-size t)
-    (check-nodes-add-count t)
-    (check-nodes-mul-count t)
-    (check-nodes-shared-slice-read-count t)
+    (λ c. search needs)
+    (λ c. search needs)
+    (λ c. search needs)
+    (λ c. search needs)
+    (λ c. search needs)
+    (λ c. search needs)
     (check-nodes-name-good-requires t)
     (check-nodes-add-name t)
-    (check-nodes-add-at-2 t)
-    (check-nodes-sub-left-2 t)
+    (λ c. search needs)
+    (λ c. search needs)
     (check-nodes-loop-less-2 t)
     (check-nodes-loop-again-2 t)
-    (check-nodes-sub-check-nodes t)
-    (check-nodes-part-check-nodes-start t)
-    (check-nodes-part-check-nodes-end t)
-    (check-nodes-sub-check-nodes-2 t)
-    (check-nodes-part-check-nodes-start-2 t)
-    (check-nodes-part-check-nodes-end-2 t)
-    (check-nodes-add-check-nodes t)
+    (λ c. search needs)
+    (λ c. search needs)
+    (λ c. search needs)
+    (λ c. search needs)
+    (λ c. search needs)
+    (λ c. search needs)
+    (λ c. search needs)
     (check-nodes-sub-check-nodes-3 t)
     (check-nodes-check-nodes-requires t)
-    (check-nodes-enum-known-inner t)
-    (check-nodes-enum-told t)
+    (λ c. search needs)
+    (λ c. search needs)
     (check-nodes-returns-3 t)
     (check-nodes-mul-at t)
     (check-nodes-add-at-3 t)

@@ -4,12 +4,6 @@ use borrow.Author.Needs.{needs}
 use Rattle.sheet.proofs.answer_of.Statement.{statement}
 use Rattle.sheet.proofs.answer_of.Tie as tie
 
-enum-told : tie.Need-enum-told
-enum-told c = search needs
-
-enum-known-pass : tie.Need-enum-known-pass
-enum-known-pass c = search needs
-
 returns : tie.Need-returns
 unfolding answer
 returns c = rw (c .before .before .pass .given .1, ne-eqb _ _ (c .if1 .taken))
@@ -28,4 +22,4 @@ returns-4 c = rw (c .before .before .before .pass .given .1, eq-eqb _ _ (c .befo
 
 pub answer-of-spec : {M : Type 1} → statement M
 answer-of-spec =
-    tie.close (tie.spec enum-told enum-known-pass returns returns-2 returns-3 returns-4)
+    tie.close (tie.spec (λ c. search needs) (λ c. search needs) returns returns-2 returns-3 returns-4)

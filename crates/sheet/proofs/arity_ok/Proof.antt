@@ -10,11 +10,8 @@ returns c = fits-leaf _ _ _ _ (c .before .before .pre .1) (arity-low _ _ _ (c .i
 returns-2 : tie.Need-returns-2
 returns-2 c = fits-leaf _ _ _ _ (c .before .before .before .pre .1) (arity-high _ _ _ (c .if2 .taken) (c .before .before .before .pre .0))
 
-child-ok-requires : tie.Need-child-ok-requires
-child-ok-requires c κs = search needs
-
 returns-3 : tie.Need-returns-3
 returns-3 c = c .child-ok .ensures _ (c .before .before .if1 .left) (c .before .if2 .left)
 
 pub arity-ok-spec : {M : Type 1} → statement M
-arity-ok-spec = tie.close (tie.spec returns returns-2 child-ok-requires returns-3)
+arity-ok-spec = tie.close (tie.spec returns returns-2 (λ c κs. search needs) returns-3)

@@ -2,45 +2,6 @@ use borrow.Author.Needs.{needs}
 use Rattle.sheet.proofs.both_of.Statement.{statement}
 use Rattle.sheet.proofs.both_of.Tie as tie
 
-enum-known-a : tie.Need-enum-known-a
-enum-known-a c = search needs
-
-enum-known-b : tie.Need-enum-known-b
-enum-known-b c = search needs
-
-sooner-of-requires : tie.Need-sooner-of-requires
-sooner-of-requires c κs = search needs
-
-enum-told : tie.Need-enum-told
-enum-told c = search needs
-
-enum-told-2 : tie.Need-enum-told-2
-enum-told-2 c = search needs
-
-enum-known-a-2 : tie.Need-enum-known-a-2
-enum-known-a-2 c = search needs
-
-enum-known-b-2 : tie.Need-enum-known-b-2
-enum-known-b-2 c = search needs
-
-enum-known-b-3 : tie.Need-enum-known-b-3
-enum-known-b-3 c = search needs
-
-enum-known-b-4 : tie.Need-enum-known-b-4
-enum-known-b-4 c = search needs
-
-enum-known-a-3 : tie.Need-enum-known-a-3
-enum-known-a-3 c = search needs
-
-enum-known-b-5 : tie.Need-enum-known-b-5
-enum-known-b-5 c = search needs
-
-enum-told-3 : tie.Need-enum-told-3
-enum-told-3 c = search needs
-
-enum-known-b-6 : tie.Need-enum-known-b-6
-enum-known-b-6 c = search needs
-
 returns : tie.Need-returns
 returns c = rw (c .before .before .before .before .before .a .given .1, c .before .before .b .given .1, c .sooner-of .ensures)
 
@@ -72,19 +33,19 @@ pub both-of-spec : {M : Type 1} → statement M
 both-of-spec =
     tie.close
     (tie.spec
-    enum-known-a
-    enum-known-b
-    sooner-of-requires
-    enum-told
-    enum-told-2
-    enum-known-a-2
-    enum-known-b-2
-    enum-known-b-3
-    enum-known-b-4
-    enum-known-a-3
-    enum-known-b-5
-    enum-told-3
-    enum-known-b-6
+    (λ c. search needs)
+    (λ c. search needs)
+    (λ c κs. search needs)
+    (λ c. search needs)
+    (λ c. search needs)
+    (λ c. search needs)
+    (λ c. search needs)
+    (λ c. search needs)
+    (λ c. search needs)
+    (λ c. search needs)
+    (λ c. search needs)
+    (λ c. search needs)
+    (λ c. search needs)
     returns
     returns-2
     returns-3

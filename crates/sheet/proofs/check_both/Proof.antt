@@ -8,12 +8,6 @@ use borrow.Author.Needs.{needs}
 use Rattle.sheet.proofs.check_both.Statement.{statement}
 use Rattle.sheet.proofs.check_both.Tie as tie
 
-lone-code-requires : tie.Need-lone-code-requires
-lone-code-requires c κs = search needs
-
-lone-code-requires-2 : tie.Need-lone-code-requires-2
-lone-code-requires-2 c κs = search needs
-
 shared-slice-read-t8 : tie.Need-shared-slice-read-t8
 shared-slice-read-t8 c = let r = c .before .before .before .before .lone-code .ensures (c .before .before .before .if1 .taken) .room in omega arith
 
@@ -29,51 +23,6 @@ returns c =
     (good-code _ _ (lone-good _ _ l) (l .kind))
     (good-code _ _ (lone-good _ _ m) (m .kind))
 
-sub-check : tie.Need-sub-check
-sub-check c = search needs
-
-part-check-start : tie.Need-part-check-start
-part-check-start c = search needs
-
-part-check-end : tie.Need-part-check-end
-part-check-end c = search needs
-
-sub-check-2 : tie.Need-sub-check-2
-sub-check-2 c = search needs
-
-part-check-start-2 : tie.Need-part-check-start-2
-part-check-start-2 c = search needs
-
-part-check-end-2 : tie.Need-part-check-end-2
-part-check-end-2 c = search needs
-
-check-requires : tie.Need-check-requires
-check-requires c κs = search needs
-
-sub-check-3 : tie.Need-sub-check-3
-sub-check-3 c = search needs
-
-part-check-start-3 : tie.Need-part-check-start-3
-part-check-start-3 c = search needs
-
-part-check-end-3 : tie.Need-part-check-end-3
-part-check-end-3 c = search needs
-
-sub-check-4 : tie.Need-sub-check-4
-sub-check-4 c = search needs
-
-part-check-start-4 : tie.Need-part-check-start-4
-part-check-start-4 c = search needs
-
-part-check-end-4 : tie.Need-part-check-end-4
-part-check-end-4 c = search needs
-
-check-requires-2 : tie.Need-check-requires-2
-check-requires-2 c κs = search needs
-
-both-of-requires : tie.Need-both-of-requires
-both-of-requires c κs = search needs
-
 returns-2 : tie.Need-returns-2
 returns-2 c =
     let a = c .before .before .before .before .before .before .before .before .before .before .before .before .before .args in
@@ -85,24 +34,24 @@ pub check-both-spec : {M : Type 1} → statement M
 check-both-spec =
     tie.close
     (tie.spec
-    lone-code-requires
-    lone-code-requires-2
+    (λ c κs. search needs)
+    (λ c κs. search needs)
     shared-slice-read-t8
     shared-slice-read-t10
     returns
-    sub-check
-    part-check-start
-    part-check-end
-    sub-check-2
-    part-check-start-2
-    part-check-end-2
-    check-requires
-    sub-check-3
-    part-check-start-3
-    part-check-end-3
-    sub-check-4
-    part-check-start-4
-    part-check-end-4
-    check-requires-2
-    both-of-requires
+    (λ c. search needs)
+    (λ c. search needs)
+    (λ c. search needs)
+    (λ c. search needs)
+    (λ c. search needs)
+    (λ c. search needs)
+    (λ c κs. search needs)
+    (λ c. search needs)
+    (λ c. search needs)
+    (λ c. search needs)
+    (λ c. search needs)
+    (λ c. search needs)
+    (λ c. search needs)
+    (λ c κs. search needs)
+    (λ c κs. search needs)
     returns-2)

@@ -5,18 +5,6 @@ use borrow.Author.Needs.{needs}
 use Rattle.sheet.proofs.check_sheet.Statement.{statement}
 use Rattle.sheet.proofs.check_sheet.Tie as tie
 
-judged-requires : tie.Need-judged-requires
-judged-requires c κs = search needs
-
-enum-told : tie.Need-enum-told
-enum-told c = search needs
-
-enum-told-2 : tie.Need-enum-told-2
-enum-told-2 c = search needs
-
-enum-told-3 : tie.Need-enum-told-3
-enum-told-3 c = search needs
-
 shared-slice-read-kind : tie.Need-shared-slice-read-kind
 shared-slice-read-kind c = let r = good-room _ _ (sym (c .before .before .before .judged .ensures) ∙ c .before .enum-told3 .given .1) in omega arith
 
@@ -39,10 +27,10 @@ pub check-sheet-spec : {M : Type 1} → statement M
 check-sheet-spec =
     tie.close
     (tie.spec
-    judged-requires
-    enum-told
-    enum-told-2
-    enum-told-3
+    (λ c κs. search needs)
+    (λ c. search needs)
+    (λ c. search needs)
+    (λ c. search needs)
     shared-slice-read-kind
     returns
     shared-slice-read-t9

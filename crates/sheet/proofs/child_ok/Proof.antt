@@ -10,21 +10,6 @@ returns c = λ k p q. sym (fits-few _ k _ _ p q (c .if1 .taken))
 returns-2 : tie.Need-returns-2
 returns-2 c = λ k p q. sym (fits-over _ k _ _ p q (c .before .if1 .left) (c .if2 .taken))
 
-add-child : tie.Need-add-child
-add-child c = search needs
-
-add-result : tie.Need-add-result
-add-result c = search needs
-
-mul-result : tie.Need-mul-result
-mul-result c = search needs
-
-shared-slice-read-result : tie.Need-shared-slice-read-result
-shared-slice-read-result c = search needs
-
-sub-result : tie.Need-sub-result
-sub-result c = search needs
-
 returns-3 : tie.Need-returns-3
 returns-3 c = λ k p q. fits-child _ k _ _ p q (c .before .before .if1 .left) (c .before .if2 .left)
 
@@ -34,9 +19,9 @@ child-ok-spec =
     (tie.spec
     returns
     returns-2
-    add-child
-    add-result
-    mul-result
-    shared-slice-read-result
-    sub-result
+    (λ c. search needs)
+    (λ c. search needs)
+    (λ c. search needs)
+    (λ c. search needs)
+    (λ c. search needs)
     returns-3)

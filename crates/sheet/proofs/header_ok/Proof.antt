@@ -8,15 +8,6 @@ returns : tie.Need-returns
 unfolding header
 returns c = rw (lt-leb _ _ (c .if1 .taken))
 
-shared-slice-read-nodes : tie.Need-shared-slice-read-nodes
-shared-slice-read-nodes c = search needs
-
-shared-slice-read-bytes : tie.Need-shared-slice-read-bytes
-shared-slice-read-bytes c = search needs
-
-shared-slice-read-used : tie.Need-shared-slice-read-used
-shared-slice-read-used c = search needs
-
 returns-2 : tie.Need-returns-2
 unfolding header
 returns-2 c = rw (le-leb _ _ (c .before .before .before .before .if1 .left), lt-leb _ _ (c .if2 .taken))
@@ -24,9 +15,6 @@ returns-2 c = rw (le-leb _ _ (c .before .before .before .before .if1 .left), lt-
 returns-3 : tie.Need-returns-3
 unfolding header
 returns-3 c = rw (le-leb _ _ (c .before .before .before .before .before .if1 .left), le-leb _ _ (c .before .if2 .left), lt-leb _ _ (c .if3 .taken))
-
-shared-slice-read-if4 : tie.Need-shared-slice-read-if4
-shared-slice-read-if4 c = search needs
 
 returns-4 : tie.Need-returns-4
 unfolding header
@@ -50,12 +38,6 @@ returns-5 c =
       eq-eqb _ _ (p1 .if4 .left),
       lt-leb _ _ (c .if5 .taken),
     )
-
-mul-if6 : tie.Need-mul-if6
-mul-if6 c = search needs
-
-add-if6 : tie.Need-add-if6
-add-if6 c = search needs
 
 returns-6 : tie.Need-returns-6
 unfolding header
@@ -117,16 +99,16 @@ header-ok-spec =
     tie.close
     (tie.spec
     returns
-    shared-slice-read-nodes
-    shared-slice-read-bytes
-    shared-slice-read-used
+    (λ c. search needs)
+    (λ c. search needs)
+    (λ c. search needs)
     returns-2
     returns-3
-    shared-slice-read-if4
+    (λ c. search needs)
     returns-4
     returns-5
-    mul-if6
-    add-if6
+    (λ c. search needs)
+    (λ c. search needs)
     returns-6
     returns-7
     returns-8)

@@ -8,20 +8,11 @@ use borrow.Author.Needs.{needs}
 use Rattle.sheet.proofs.judged.Statement.{statement}
 use Rattle.sheet.proofs.judged.Tie as tie
 
-header-ok-requires : tie.Need-header-ok-requires
-header-ok-requires c κs = search needs
-
 returns : tie.Need-returns
 returns c = sym (verdict-header _ _ (failed (c .before .header-ok .ensures) (c .if1 .taken)))
 
 shared-slice-read-nodes : tie.Need-shared-slice-read-nodes
 shared-slice-read-nodes c = let h = header-says _ _ (passed (c .before .before .header-ok .ensures) (c .before .if1 .left)) in omega arith
-
-add-if2 : tie.Need-add-if2
-add-if2 c = search needs
-
-mul-if2 : tie.Need-mul-if2
-mul-if2 c = search needs
 
 shared-slice-read-if2 : tie.Need-shared-slice-read-if2
 shared-slice-read-if2 c = let h = header-says _ _ (passed (c .before .before .before .header-ok .ensures) (c .before .before .if1 .left)) in omega arith
@@ -50,18 +41,6 @@ part-check-nodes-start c =
     let p5 = p4 .before in
     let h = header-says _ _ (passed (p5 .header-ok .ensures) (p4 .if1 .left)) in omega arith
 
-part-check-nodes-end : tie.Need-part-check-nodes-end
-part-check-nodes-end c = search needs
-
-sub-check-nodes-2 : tie.Need-sub-check-nodes-2
-sub-check-nodes-2 c = search needs
-
-part-check-nodes-start-2 : tie.Need-part-check-nodes-start-2
-part-check-nodes-start-2 c = search needs
-
-part-check-nodes-end-2 : tie.Need-part-check-nodes-end-2
-part-check-nodes-end-2 c = search needs
-
 check-nodes-requires : tie.Need-check-nodes-requires
 check-nodes-requires c κs =
     let p6 = c .before .before .before .before .before .before in
@@ -71,9 +50,6 @@ check-nodes-requires c κs =
     let p = passed (p7 .header-ok .ensures) (p6 .if1 .left) in
     let h = header-says _ _ p in
     (part-room _ (a .names .now) p _ (part-rest (a .words .now) 4), omega arith, rw whole (h .bytes))
-
-answer-of-requires : tie.Need-answer-of-requires
-answer-of-requires c κs = search needs
 
 returns-3 : tie.Need-returns-3
 returns-3 c =
@@ -91,20 +67,20 @@ pub judged-spec : {M : Type 1} → statement M
 judged-spec =
     tie.close
     (tie.spec
-    header-ok-requires
+    (λ c κs. search needs)
     returns
     shared-slice-read-nodes
-    add-if2
-    mul-if2
+    (λ c. search needs)
+    (λ c. search needs)
     shared-slice-read-if2
     returns-2
     shared-slice-read-end
     sub-check-nodes
     part-check-nodes-start
-    part-check-nodes-end
-    sub-check-nodes-2
-    part-check-nodes-start-2
-    part-check-nodes-end-2
+    (λ c. search needs)
+    (λ c. search needs)
+    (λ c. search needs)
+    (λ c. search needs)
     check-nodes-requires
-    answer-of-requires
+    (λ c κs. search needs)
     returns-3)

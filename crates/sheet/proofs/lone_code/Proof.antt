@@ -6,77 +6,26 @@ use borrow.Author.Needs.{needs}
 use Rattle.sheet.proofs.lone_code.Statement.{statement}
 use Rattle.sheet.proofs.lone_code.Tie as tie
 
-add-if1 : tie.Need-add-if1
-add-if1 c = search needs
-
 returns : tie.Need-returns
 returns c = λ e. absurd (false≢true e)
-
-shared-slice-read-if2 : tie.Need-shared-slice-read-if2
-shared-slice-read-if2 c = search needs
 
 returns-2 : tie.Need-returns-2
 returns-2 c = λ e. absurd (false≢true e)
 
-shared-slice-read-if3 : tie.Need-shared-slice-read-if3
-shared-slice-read-if3 c = search needs
-
 returns-3 : tie.Need-returns-3
 returns-3 c = λ e. absurd (false≢true e)
-
-shared-slice-read-if4 : tie.Need-shared-slice-read-if4
-shared-slice-read-if4 c = search needs
 
 returns-4 : tie.Need-returns-4
 returns-4 c = λ e. absurd (false≢true e)
 
-shared-slice-read-if5 : tie.Need-shared-slice-read-if5
-shared-slice-read-if5 c = search needs
-
-add-if5 : tie.Need-add-if5
-add-if5 c = search needs
-
 returns-5 : tie.Need-returns-5
 returns-5 c = λ e. absurd (false≢true e)
-
-shared-slice-read-if6 : tie.Need-shared-slice-read-if6
-shared-slice-read-if6 c = search needs
 
 returns-6 : tie.Need-returns-6
 returns-6 c = λ e. absurd (false≢true e)
 
-add-no-numbers : tie.Need-add-no-numbers
-add-no-numbers c = search needs
-
-mul-no-numbers : tie.Need-mul-no-numbers
-mul-no-numbers c = search needs
-
-shared-slice-read-no-numbers : tie.Need-shared-slice-read-no-numbers
-shared-slice-read-no-numbers c = search needs
-
-add-no-numbers-2 : tie.Need-add-no-numbers-2
-add-no-numbers-2 c = search needs
-
-mul-no-numbers-2 : tie.Need-mul-no-numbers-2
-mul-no-numbers-2 c = search needs
-
-shared-slice-read-no-numbers-2 : tie.Need-shared-slice-read-no-numbers-2
-shared-slice-read-no-numbers-2 c = search needs
-
-no-numbers-requires : tie.Need-no-numbers-requires
-no-numbers-requires c κs = search needs
-
 returns-7 : tie.Need-returns-7
 returns-7 c = λ e. absurd (false≢true e)
-
-add-result : tie.Need-add-result
-add-result c = search needs
-
-mul-result : tie.Need-mul-result
-mul-result c = search needs
-
-shared-slice-read-result : tie.Need-shared-slice-read-result
-shared-slice-read-result c = search needs
 
 returns-8 : tie.Need-returns-8
 returns-8 c =
@@ -106,28 +55,28 @@ pub lone-code-spec : {M : Type 1} → statement M
 lone-code-spec =
     tie.close
     (tie.spec
-    add-if1
+    (λ c. search needs)
     returns
-    shared-slice-read-if2
+    (λ c. search needs)
     returns-2
-    shared-slice-read-if3
+    (λ c. search needs)
     returns-3
-    shared-slice-read-if4
+    (λ c. search needs)
     returns-4
-    shared-slice-read-if5
-    add-if5
+    (λ c. search needs)
+    (λ c. search needs)
     returns-5
-    shared-slice-read-if6
+    (λ c. search needs)
     returns-6
-    add-no-numbers
-    mul-no-numbers
-    shared-slice-read-no-numbers
-    add-no-numbers-2
-    mul-no-numbers-2
-    shared-slice-read-no-numbers-2
-    no-numbers-requires
+    (λ c. search needs)
+    (λ c. search needs)
+    (λ c. search needs)
+    (λ c. search needs)
+    (λ c. search needs)
+    (λ c. search needs)
+    (λ c κs. search needs)
     returns-7
-    add-result
-    mul-result
-    shared-slice-read-result
+    (λ c. search needs)
+    (λ c. search needs)
+    (λ c. search needs)
     returns-8)

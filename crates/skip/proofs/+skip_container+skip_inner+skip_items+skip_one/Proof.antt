@@ -155,24 +155,6 @@ skip-one-claims t = (
 skip-container-add-parse-name : (t : ℕ) → skip-container-lts.Need-add-parse-name (skip-container-claims t) (skip-container-at t) skip-container.Post
 skip-container-add-parse-name t c = omega (arith, c .before .pre .1 .at-place)
 
-skip-container-parse-name-requires : (t : ℕ) → skip-container-lts.Need-parse-name-requires (skip-container-claims t) (skip-container-at t) skip-container.Post
-skip-container-parse-name-requires t c κs = search needs
-
-skip-container-enum-told : (t : ℕ) → skip-container-lts.Need-enum-told (skip-container-claims t) (skip-container-at t) skip-container.Post
-skip-container-enum-told t c = search needs
-
-skip-container-enum-known-start : (t : ℕ) → skip-container-lts.Need-enum-known-start (skip-container-claims t) (skip-container-at t) skip-container.Post
-skip-container-enum-known-start t c = search needs
-
-skip-container-sub-skip-items : (t : ℕ) → skip-container-lts.Need-sub-skip-items (skip-container-claims t) (skip-container-at t) skip-container.Post
-skip-container-sub-skip-items t c = search needs
-
-skip-container-part-skip-items-start : (t : ℕ) → skip-container-lts.Need-part-skip-items-start (skip-container-claims t) (skip-container-at t) skip-container.Post
-skip-container-part-skip-items-start t c = search needs
-
-skip-container-part-skip-items-end : (t : ℕ) → skip-container-lts.Need-part-skip-items-end (skip-container-claims t) (skip-container-at t) skip-container.Post
-skip-container-part-skip-items-end t c = search needs
-
 skip-container-skip-items-requires : (t : ℕ) → skip-container-lts.Need-skip-items-requires (skip-container-claims t) (skip-container-at t) skip-container.Post
 skip-container-skip-items-requires t c κs =
     let n = c .before .before .before .before in
@@ -180,9 +162,6 @@ skip-container-skip-items-requires t c κs =
     let at = p .pre .1 .at-place in
     let r = rw (c .before .before .start .given .1) at (name-is (p .args .text .now) (p .args .at + 1) _ _ (omega arith) (n .parse-name .ensures)) in
     rw (whole (p .args .text .now)) (omega (arith, p .pre .0, r .some, r .passed, r .within), r .within)
-
-skip-container-skip-contained-requires : (t : ℕ) → skip-container-lts.Need-skip-contained-requires (skip-container-claims t) (skip-container-at t) skip-container.Post
-skip-container-skip-contained-requires t c κs = search needs
 
 skip-container-returns : (t : ℕ) → skip-container-lts.Need-returns (skip-container-claims t) (skip-container-at t) skip-container.Post
 skip-container-returns t c =
@@ -203,27 +182,12 @@ skip-container-returns-2 t c =
     let r = rw (s .start .given .1) at (name-is (a .text .now) (a .at + 1) _ _ (omega arith) (n .parse-name .ensures)) in
     skips-contained _ _ at _ (p .opens) _ _ r _ _ (rw (whole (a .text .now)) at (c .before .skip-items .ensures)) (c .skip-contained .ensures)
 
-skip-inner-indirections-end-requires : (t : ℕ) → skip-inner-lts.Need-indirections-end-requires (skip-inner-claims t) (skip-inner-at t) skip-inner.Post
-skip-inner-indirections-end-requires t c κs = search needs
-
-skip-inner-skip-held-requires : (t : ℕ) → skip-inner-lts.Need-skip-held-requires (skip-inner-claims t) (skip-inner-at t) skip-inner.Post
-skip-inner-skip-held-requires t c κs = search needs
-
 skip-inner-returns : (t : ℕ) → skip-inner-lts.Need-returns (skip-inner-claims t) (skip-inner-at t) skip-inner.Post
 skip-inner-returns t c =
     let e = c .before .before in
     let p = e .before .before in
     let r = run-to isIndirection _ _ _ (p .pre .1) (e .indirections-end .ensures) in
     skips-run _ _ _ (skips-end _ _ (omega (arith, r .within, c .before .if1 .taken))) _ _ r (c .skip-held .ensures)
-
-skip-inner-sub-skip-one : (t : ℕ) → skip-inner-lts.Need-sub-skip-one (skip-inner-claims t) (skip-inner-at t) skip-inner.Post
-skip-inner-sub-skip-one t c = search needs
-
-skip-inner-part-skip-one-start : (t : ℕ) → skip-inner-lts.Need-part-skip-one-start (skip-inner-claims t) (skip-inner-at t) skip-inner.Post
-skip-inner-part-skip-one-start t c = search needs
-
-skip-inner-part-skip-one-end : (t : ℕ) → skip-inner-lts.Need-part-skip-one-end (skip-inner-claims t) (skip-inner-at t) skip-inner.Post
-skip-inner-part-skip-one-end t c = search needs
 
 skip-inner-skip-one-requires : (t : ℕ) → skip-inner-lts.Need-skip-one-requires (skip-inner-claims t) (skip-inner-at t) skip-inner.Post
 skip-inner-skip-one-requires t c κs =
@@ -232,9 +196,6 @@ skip-inner-skip-one-requires t c κs =
     let r = run-to isIndirection _ _ _ (p .pre .1) (e .indirections-end .ensures) in
     let h = c .before .if1 .left in
     rw (whole (p .args .text .now)) (omega (arith, p .pre .0, r .onward), record { at-place = h; direct = r .stopped h })
-
-skip-inner-skip-held-requires-2 : (t : ℕ) → skip-inner-lts.Need-skip-held-requires-2 (skip-inner-claims t) (skip-inner-at t) skip-inner.Post
-skip-inner-skip-held-requires-2 t c κs = search needs
 
 skip-inner-returns-2 : (t : ℕ) → skip-inner-lts.Need-returns-2 (skip-inner-claims t) (skip-inner-at t) skip-inner.Post
 skip-inner-returns-2 t c =
@@ -252,27 +213,12 @@ skip-items-μ-loop text at kind to₀ to = length text - to
 skip-items-loop-holds : (t : ℕ) → skip-items-lts.Need-loop-holds (skip-items-claims t) (skip-items-at t) skip-items.Post skip-items-Inv-loop skip-items-μ-loop
 skip-items-loop-holds t c = (omega arith, (c .before .pre .1, λ i s. s))
 
-skip-items-codes-end-requires : (t : ℕ) → skip-items-lts.Need-codes-end-requires (skip-items-claims t) (skip-items-at t) skip-items.Post skip-items-Inv-loop skip-items-μ-loop
-skip-items-codes-end-requires t c κs = search needs
-
-skip-items-sub-skip-inner : (t : ℕ) → skip-items-lts.Need-sub-skip-inner (skip-items-claims t) (skip-items-at t) skip-items.Post skip-items-Inv-loop skip-items-μ-loop
-skip-items-sub-skip-inner t c = search needs
-
-skip-items-part-skip-inner-start : (t : ℕ) → skip-items-lts.Need-part-skip-inner-start (skip-items-claims t) (skip-items-at t) skip-items.Post skip-items-Inv-loop skip-items-μ-loop
-skip-items-part-skip-inner-start t c = search needs
-
-skip-items-part-skip-inner-end : (t : ℕ) → skip-items-lts.Need-part-skip-inner-end (skip-items-claims t) (skip-items-at t) skip-items.Post skip-items-Inv-loop skip-items-μ-loop
-skip-items-part-skip-inner-end t c = search needs
-
 skip-items-skip-inner-requires : (t : ℕ) → skip-items-lts.Need-skip-inner-requires (skip-items-claims t) (skip-items-at t) skip-items.Post skip-items-Inv-loop skip-items-μ-loop
 skip-items-skip-inner-requires t c κs =
     let l = c .before .before in
     let p = l .before .before in
     let r = run-to isCode _ _ _ (l .loop .inv .1 .0) (c .before .codes-end .ensures) in
     rw (whole (p .args .text .now)) (omega (arith, p .pre .0, l .loop .inv .0, r .onward), r .within)
-
-skip-items-enum-known-s : (t : ℕ) → skip-items-lts.Need-enum-known-s (skip-items-claims t) (skip-items-at t) skip-items.Post skip-items-Inv-loop skip-items-μ-loop
-skip-items-enum-known-s t c = search needs
 
 skip-items-loop-less : (t : ℕ) → skip-items-lts.Need-loop-less (skip-items-claims t) (skip-items-at t) skip-items.Post skip-items-Inv-loop skip-items-μ-loop
 skip-items-loop-less t c =
@@ -291,9 +237,6 @@ skip-items-loop-again t c =
     let r = rw (whole (l .before .before .args .text .now)) at (rw (c .before .s .given .1) at (i .skip-inner .ensures)) in
     (omega (arith, r .bound, x .onward, v .0), (r .bound .1, λ j s. v .1 .1 j (skipped-codes _ _ _ _ (skipped-more _ _ _ _ _ r s) _ x)))
 
-skip-items-end-skipped-requires : (t : ℕ) → skip-items-lts.Need-end-skipped-requires (skip-items-claims t) (skip-items-at t) skip-items.Post skip-items-Inv-loop skip-items-μ-loop
-skip-items-end-skipped-requires t c κs = search needs
-
 skip-items-returns : (t : ℕ) → skip-items-lts.Need-returns (skip-items-claims t) (skip-items-at t) skip-items.Post skip-items-Inv-loop skip-items-μ-loop
 skip-items-returns t c =
     let i = c .before .before in
@@ -310,24 +253,6 @@ skip-one-shared-slice-read-b t c = c .before .before .pre .1 .at-place
 skip-one-add-parse-u64 : (t : ℕ) → skip-one-lts.Need-add-parse-u64 (skip-one-claims t) (skip-one-at t) skip-one.Post
 skip-one-add-parse-u64 t c = omega (arith, c .before .before .before .pre .1 .at-place, c .before .before .before .good .0)
 
-skip-one-parse-u64-requires : (t : ℕ) → skip-one-lts.Need-parse-u64-requires (skip-one-claims t) (skip-one-at t) skip-one.Post
-skip-one-parse-u64-requires t c κs = search needs
-
-skip-one-enum-told : (t : ℕ) → skip-one-lts.Need-enum-told (skip-one-claims t) (skip-one-at t) skip-one.Post
-skip-one-enum-told t c = search needs
-
-skip-one-enum-known-item : (t : ℕ) → skip-one-lts.Need-enum-known-item (skip-one-claims t) (skip-one-at t) skip-one.Post
-skip-one-enum-known-item t c = search needs
-
-skip-one-sub-skip-inner : (t : ℕ) → skip-one-lts.Need-sub-skip-inner (skip-one-claims t) (skip-one-at t) skip-one.Post
-skip-one-sub-skip-inner t c = search needs
-
-skip-one-part-skip-inner-start : (t : ℕ) → skip-one-lts.Need-part-skip-inner-start (skip-one-claims t) (skip-one-at t) skip-one.Post
-skip-one-part-skip-inner-start t c = search needs
-
-skip-one-part-skip-inner-end : (t : ℕ) → skip-one-lts.Need-part-skip-inner-end (skip-one-claims t) (skip-one-at t) skip-one.Post
-skip-one-part-skip-inner-end t c = search needs
-
 skip-one-skip-inner-requires : (t : ℕ) → skip-one-lts.Need-skip-inner-requires (skip-one-claims t) (skip-one-at t) skip-one.Post
 skip-one-skip-inner-requires t c κs =
     let u = c .before .before .before .before in
@@ -336,44 +261,17 @@ skip-one-skip-inner-requires t c κs =
     let n = rw (c .before .before .item .given .1) at (number-is (p .args .text .now) _ (p .args .at + 1) _ (omega arith) (u .parse-u64 .ensures)) in
     rw (whole (p .args .text .now)) (omega (arith, p .pre .0, n .1), n .1 .1)
 
-skip-one-skip-item-requires : (t : ℕ) → skip-one-lts.Need-skip-item-requires (skip-one-claims t) (skip-one-at t) skip-one.Post
-skip-one-skip-item-requires t c κs = search needs
-
-skip-one-sub-skip-container : (t : ℕ) → skip-one-lts.Need-sub-skip-container (skip-one-claims t) (skip-one-at t) skip-one.Post
-skip-one-sub-skip-container t c = search needs
-
-skip-one-part-skip-container-start : (t : ℕ) → skip-one-lts.Need-part-skip-container-start (skip-one-claims t) (skip-one-at t) skip-one.Post
-skip-one-part-skip-container-start t c = search needs
-
-skip-one-part-skip-container-end : (t : ℕ) → skip-one-lts.Need-part-skip-container-end (skip-one-claims t) (skip-one-at t) skip-one.Post
-skip-one-part-skip-container-end t c = search needs
-
 skip-one-skip-container-requires : (t : ℕ) → skip-one-lts.Need-skip-container-requires (skip-one-claims t) (skip-one-at t) skip-one.Post
 unfolding start inSingles singles inOthers others
 skip-one-skip-container-requires t c κs =
     let p = c .before .before .before .before in
     rw (whole (p .args .text .now)) (omega (arith, p .pre .0), record { at-place = p .pre .1 .at-place; opens = starts _ 123 (c .before .match .keys2) refl })
 
-skip-one-sub-skip-container-2 : (t : ℕ) → skip-one-lts.Need-sub-skip-container-2 (skip-one-claims t) (skip-one-at t) skip-one.Post
-skip-one-sub-skip-container-2 t c = search needs
-
-skip-one-part-skip-container-start-2 : (t : ℕ) → skip-one-lts.Need-part-skip-container-start-2 (skip-one-claims t) (skip-one-at t) skip-one.Post
-skip-one-part-skip-container-start-2 t c = search needs
-
-skip-one-part-skip-container-end-2 : (t : ℕ) → skip-one-lts.Need-part-skip-container-end-2 (skip-one-claims t) (skip-one-at t) skip-one.Post
-skip-one-part-skip-container-end-2 t c = search needs
-
 skip-one-skip-container-requires-2 : (t : ℕ) → skip-one-lts.Need-skip-container-requires-2 (skip-one-claims t) (skip-one-at t) skip-one.Post
 unfolding start inSingles singles inOthers others
 skip-one-skip-container-requires-2 t c κs =
     let p = c .before .before .before .before in
     rw (whole (p .args .text .now)) (omega (arith, p .pre .0), record { at-place = p .pre .1 .at-place; opens = starts _ 40 (c .before .match .keys3) refl })
-
-skip-one-token-at-requires : (t : ℕ) → skip-one-lts.Need-token-at-requires (skip-one-claims t) (skip-one-at t) skip-one.Post
-skip-one-token-at-requires t c κs = search needs
-
-skip-one-skip-token-requires : (t : ℕ) → skip-one-lts.Need-skip-token-requires (skip-one-claims t) (skip-one-at t) skip-one.Post
-skip-one-skip-token-requires t c κs = search needs
 
 skip-one-returns : (t : ℕ) → skip-one-lts.Need-returns (skip-one-claims t) (skip-one-at t) skip-one.Post
 unfolding start inSingles singles inOthers others
@@ -413,61 +311,61 @@ pub +skip-container+skip-inner+skip-items+skip-one-spec : {M : Type 1} → state
 +skip-container+skip-inner+skip-items+skip-one-spec =
     close μ-skip-container μ-skip-inner μ-skip-items μ-skip-one (λ t. skip-container-lts.spec (skip-container-claims t) (skip-container-at t) skip-container.Post
     (skip-container-add-parse-name t)
-    (skip-container-parse-name-requires t)
-    (skip-container-enum-told t)
-    (skip-container-enum-known-start t)
-    (skip-container-sub-skip-items t)
-    (skip-container-part-skip-items-start t)
-    (skip-container-part-skip-items-end t)
+    (λ c κs. search needs)
+    (λ c. search needs)
+    (λ c. search needs)
+    (λ c. search needs)
+    (λ c. search needs)
+    (λ c. search needs)
     (skip-container-skip-items-requires t)
-    (skip-container-skip-contained-requires t)
+    (λ c κs. search needs)
     (skip-container-returns t)
     (skip-container-returns-2 t))
     (λ t. skip-inner-lts.spec (skip-inner-claims t) (skip-inner-at t) skip-inner.Post
-    (skip-inner-indirections-end-requires t)
-    (skip-inner-skip-held-requires t)
+    (λ c κs. search needs)
+    (λ c κs. search needs)
     (skip-inner-returns t)
-    (skip-inner-sub-skip-one t)
-    (skip-inner-part-skip-one-start t)
-    (skip-inner-part-skip-one-end t)
+    (λ c. search needs)
+    (λ c. search needs)
+    (λ c. search needs)
     (skip-inner-skip-one-requires t)
-    (skip-inner-skip-held-requires-2 t)
+    (λ c κs. search needs)
     (skip-inner-returns-2 t))
     (λ t. skip-items-lts.spec (skip-items-claims t) (skip-items-at t) skip-items.Post
     skip-items-Inv-loop
     skip-items-μ-loop
     (skip-items-loop-holds t)
-    (skip-items-codes-end-requires t)
-    (skip-items-sub-skip-inner t)
-    (skip-items-part-skip-inner-start t)
-    (skip-items-part-skip-inner-end t)
+    (λ c κs. search needs)
+    (λ c. search needs)
+    (λ c. search needs)
+    (λ c. search needs)
     (skip-items-skip-inner-requires t)
-    (skip-items-enum-known-s t)
+    (λ c. search needs)
     (skip-items-loop-less t)
     (skip-items-loop-again t)
-    (skip-items-end-skipped-requires t)
+    (λ c κs. search needs)
     (skip-items-returns t))
     λ t. skip-one-lts.spec (skip-one-claims t) (skip-one-at t) skip-one.Post
     (skip-one-shared-slice-read-b t)
     (skip-one-add-parse-u64 t)
-    (skip-one-parse-u64-requires t)
-    (skip-one-enum-told t)
-    (skip-one-enum-known-item t)
-    (skip-one-sub-skip-inner t)
-    (skip-one-part-skip-inner-start t)
-    (skip-one-part-skip-inner-end t)
+    (λ c κs. search needs)
+    (λ c. search needs)
+    (λ c. search needs)
+    (λ c. search needs)
+    (λ c. search needs)
+    (λ c. search needs)
     (skip-one-skip-inner-requires t)
-    (skip-one-skip-item-requires t)
-    (skip-one-sub-skip-container t)
-    (skip-one-part-skip-container-start t)
-    (skip-one-part-skip-container-end t)
+    (λ c κs. search needs)
+    (λ c. search needs)
+    (λ c. search needs)
+    (λ c. search needs)
     (skip-one-skip-container-requires t)
-    (skip-one-sub-skip-container-2 t)
-    (skip-one-part-skip-container-start-2 t)
-    (skip-one-part-skip-container-end-2 t)
+    (λ c. search needs)
+    (λ c. search needs)
+    (λ c. search needs)
     (skip-one-skip-container-requires-2 t)
-    (skip-one-token-at-requires t)
-    (skip-one-skip-token-requires t)
+    (λ c κs. search needs)
+    (λ c κs. search needs)
     (skip-one-returns t)
     (skip-one-returns-2 t)
     (skip-one-returns-3 t)

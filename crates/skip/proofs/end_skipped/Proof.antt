@@ -3,24 +3,6 @@ use borrow.Author.Needs.{needs}
 use Rattle.skip.proofs.end_skipped.Statement.{statement}
 use Rattle.skip.proofs.end_skipped.Tie as tie
 
-enum-told : tie.Need-enum-told
-enum-told c = search needs
-
-enum-told-2 : tie.Need-enum-told-2
-enum-told-2 c = search needs
-
-enum-known-s : tie.Need-enum-known-s
-enum-known-s c = search needs
-
-same-container-requires : tie.Need-same-container-requires
-same-container-requires c κs = search needs
-
-enum-told-3 : tie.Need-enum-told-3
-enum-told-3 c = search needs
-
-enum-told-4 : tie.Need-enum-told-4
-enum-told-4 c = search needs
-
 returns : tie.Need-returns
 returns c = search needs
 
@@ -43,12 +25,12 @@ pub end-skipped-spec : {M : Type 1} → statement M
 end-skipped-spec =
     tie.close
     (tie.spec
-    enum-told
-    enum-told-2
-    enum-known-s
-    same-container-requires
-    enum-told-3
-    enum-told-4
+    (λ c. search needs)
+    (λ c. search needs)
+    (λ c. search needs)
+    (λ c κs. search needs)
+    (λ c. search needs)
+    (λ c. search needs)
     returns
     returns-2
     returns-3

@@ -7,18 +7,6 @@ use Rattle.skip.proofs.skip_fields.Tie as tie
 returns : tie.Need-returns
 returns c = answer-ended _ _ _ (c .if1 .taken)
 
-sub-skip-items : tie.Need-sub-skip-items
-sub-skip-items c = search needs
-
-part-skip-items-start : tie.Need-part-skip-items-start
-part-skip-items-start c = search needs
-
-part-skip-items-end : tie.Need-part-skip-items-end
-part-skip-items-end c = search needs
-
-skip-items-requires : tie.Need-skip-items-requires
-skip-items-requires c κs = search needs
-
 returns-2 : tie.Need-returns-2
 returns-2 c = answer-fields _ _ _ _ (rw (whole (c .before .before .before .before .args .text .now)) at (c .skip-items .ensures))
 
@@ -27,8 +15,8 @@ skip-fields-spec =
     tie.close
     (tie.spec
     returns
-    sub-skip-items
-    part-skip-items-start
-    part-skip-items-end
-    skip-items-requires
+    (λ c. search needs)
+    (λ c. search needs)
+    (λ c. search needs)
+    (λ c κs. search needs)
     returns-2)

@@ -5,28 +5,10 @@ use borrow.Author.Needs.{needs}
 use Rattle.skip.proofs.skip_item.Statement.{statement}
 use Rattle.skip.proofs.skip_item.Tie as tie
 
-enum-told : tie.Need-enum-told
-enum-told c = search needs
-
-enum-known-s : tie.Need-enum-known-s
-enum-known-s c = search needs
-
-closes-item-requires : tie.Need-closes-item-requires
-closes-item-requires c κs = search needs
-
 add-t8 : tie.Need-add-t8
 add-t8 c =
     let p = c .before .before .before in
     omega (arith, closed-in (p .before .before .before .args .text .now) (p .s .given .0 .0) (sym (c .before .closes-item .ensures) ∙ c .if1 .taken))
-
-enum-told-2 : tie.Need-enum-told-2
-enum-told-2 c = search needs
-
-enum-known-s-2 : tie.Need-enum-known-s-2
-enum-known-s-2 c = search needs
-
-enum-told-3 : tie.Need-enum-told-3
-enum-told-3 c = search needs
 
 returns : tie.Need-returns
 returns c = search needs
@@ -50,13 +32,13 @@ pub skip-item-spec : {M : Type 1} → statement M
 skip-item-spec =
     tie.close
     (tie.spec
-    enum-told
-    enum-known-s
-    closes-item-requires
+    (λ c. search needs)
+    (λ c. search needs)
+    (λ c κs. search needs)
     add-t8
-    enum-told-2
-    enum-known-s-2
-    enum-told-3
+    (λ c. search needs)
+    (λ c. search needs)
+    (λ c. search needs)
     returns
     returns-2
     returns-3

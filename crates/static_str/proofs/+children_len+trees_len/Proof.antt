@@ -52,46 +52,6 @@ children-len-claims t = (children-reads.Asked, children-reads.Learnt, trees-len-
 abbrev trees-len-claims : ℕ → trees-len-lts.Claims
 trees-len-claims t = (node-len-reads.Asked, node-len-reads.Learnt, keeps-level-reads.Asked, keeps-level-reads.Learnt, children-len-below t, children-len.Post)
 
-children-len-mul-children : (t : ℕ) → children-len-lts.Need-mul-children (children-len-claims t) (children-len-at t) children-len.Post
-children-len-mul-children t c = search needs
-
-children-len-shared-slice-read-children : (t : ℕ) → children-len-lts.Need-shared-slice-read-children (children-len-claims t) (children-len-at t)
-    children-len.Post
-children-len-shared-slice-read-children t c = search needs
-
-children-len-children-requires : (t : ℕ) → children-len-lts.Need-children-requires (children-len-claims t) (children-len-at t) children-len.Post
-children-len-children-requires t c κs = search needs
-
-children-len-enum-told : (t : ℕ) → children-len-lts.Need-enum-told (children-len-claims t) (children-len-at t) children-len.Post
-children-len-enum-told t c = search needs
-
-children-len-enum-known-inner : (t : ℕ) → children-len-lts.Need-enum-known-inner (children-len-claims t) (children-len-at t) children-len.Post
-children-len-enum-known-inner t c = search needs
-
-children-len-add-below : (t : ℕ) → children-len-lts.Need-add-below (children-len-claims t) (children-len-at t) children-len.Post
-children-len-add-below t c = search needs
-
-children-len-mul-below : (t : ℕ) → children-len-lts.Need-mul-below (children-len-claims t) (children-len-at t) children-len.Post
-children-len-mul-below t c = search needs
-
-children-len-shared-slice-read-below : (t : ℕ) → children-len-lts.Need-shared-slice-read-below (children-len-claims t) (children-len-at t) children-len.Post
-children-len-shared-slice-read-below t c = search needs
-
-children-len-sub-below : (t : ℕ) → children-len-lts.Need-sub-below (children-len-claims t) (children-len-at t) children-len.Post
-children-len-sub-below t c = search needs
-
-children-len-sub-trees-len : (t : ℕ) → children-len-lts.Need-sub-trees-len (children-len-claims t) (children-len-at t) children-len.Post
-children-len-sub-trees-len t c = search needs
-
-children-len-part-trees-len-start : (t : ℕ) → children-len-lts.Need-part-trees-len-start (children-len-claims t) (children-len-at t) children-len.Post
-children-len-part-trees-len-start t c = search needs
-
-children-len-part-trees-len-end : (t : ℕ) → children-len-lts.Need-part-trees-len-end (children-len-claims t) (children-len-at t) children-len.Post
-children-len-part-trees-len-end t c = search needs
-
-children-len-add-trees-len : (t : ℕ) → children-len-lts.Need-add-trees-len (children-len-claims t) (children-len-at t) children-len.Post
-children-len-add-trees-len t c = search needs
-
 children-len-trees-len-requires : (t : ℕ) → children-len-lts.Need-trees-len-requires (children-len-claims t) (children-len-at t) children-len.Post
 children-len-trees-len-requires t c κs =
     let c8 = c .before .before .before .before .before .before .before .before in
@@ -189,10 +149,6 @@ trees-len-add-len t c =
     let c5 = c4 .before in
     let c7 = c5 .before .before in
     omega (arith, c5 .loop .inv .bound, c4 .loop-test .taken, c .node-len .ensures .1, c7 .pre .1 .0 .1)
-
-trees-len-keeps-level-requires : (t : ℕ) → trees-len-lts.Need-keeps-level-requires (trees-len-claims t) (trees-len-at t) trees-len.Post trees-len-Inv-loop
-    trees-len-μ-loop
-trees-len-keeps-level-requires t c κs = search needs
 
 trees-len-add-at : (t : ℕ) → trees-len-lts.Need-add-at (trees-len-claims t) (trees-len-at t) trees-len.Post trees-len-Inv-loop trees-len-μ-loop
 trees-len-add-at t c =
@@ -304,19 +260,19 @@ pub +children-len+trees-len-spec : {M : Type 1} → statement M
 +children-len+trees-len-spec = close μ-children-len μ-trees-len (λ t. children-len-lts.spec (children-len-claims t)
     (children-len-at t)
     children-len.Post
-    (children-len-mul-children t)
-    (children-len-shared-slice-read-children t)
-    (children-len-children-requires t)
-    (children-len-enum-told t)
-    (children-len-enum-known-inner t)
-    (children-len-add-below t)
-    (children-len-mul-below t)
-    (children-len-shared-slice-read-below t)
-    (children-len-sub-below t)
-    (children-len-sub-trees-len t)
-    (children-len-part-trees-len-start t)
-    (children-len-part-trees-len-end t)
-    (children-len-add-trees-len t)
+    (λ c. search needs)
+    (λ c. search needs)
+    (λ c κs. search needs)
+    (λ c. search needs)
+    (λ c. search needs)
+    (λ c. search needs)
+    (λ c. search needs)
+    (λ c. search needs)
+    (λ c. search needs)
+    (λ c. search needs)
+    (λ c. search needs)
+    (λ c. search needs)
+    (λ c. search needs)
     (children-len-trees-len-requires t)
     (children-len-returns t)
     (children-len-returns-2 t))
@@ -336,7 +292,7 @@ pub +children-len+trees-len-spec : {M : Type 1} → statement M
     (trees-len-shared-slice-read-node-len-2 t)
     (trees-len-node-len-requires t)
     (trees-len-add-len t)
-    (trees-len-keeps-level-requires t)
+    (λ c κs. search needs)
     (trees-len-add-at t)
     (trees-len-sub-left t)
     (trees-len-loop-less t)

@@ -73,62 +73,9 @@ print-trees-claims t = (
   close-node-reads.Learnt,
 )
 
-print-children-add-count : (t : ℕ) → print-children-lts.Need-add-count (print-children-claims t) (print-children-at t) print-children.Post
-print-children-add-count t c = search needs
-
-print-children-mul-count : (t : ℕ) → print-children-lts.Need-mul-count (print-children-claims t) (print-children-at t) print-children.Post
-print-children-mul-count t c = search needs
-
-print-children-shared-slice-read-count : (t : ℕ) → print-children-lts.Need-shared-slice-read-count (print-children-claims t) (print-children-at t)
-    print-children.Post
-print-children-shared-slice-read-count t c = search needs
-
 print-children-returns : (t : ℕ) → print-children-lts.Need-returns (print-children-claims t) (print-children-at t) print-children.Post
 print-children-returns t c = let a = c .before .before .before .before .before .args
     in wrote-same (sym (no-children (a .names .now) (a .nodes .now) (a .level) (a .at) (omega arith))) (wrote-none (a .out .now) (a .to))
-
-print-children-mul-children : (t : ℕ) → print-children-lts.Need-mul-children (print-children-claims t) (print-children-at t) print-children.Post
-print-children-mul-children t c = search needs
-
-print-children-shared-slice-read-children : (t : ℕ) → print-children-lts.Need-shared-slice-read-children (print-children-claims t) (print-children-at t)
-    print-children.Post
-print-children-shared-slice-read-children t c = search needs
-
-print-children-children-requires : (t : ℕ) → print-children-lts.Need-children-requires (print-children-claims t) (print-children-at t) print-children.Post
-print-children-children-requires t c κs = search needs
-
-print-children-enum-told : (t : ℕ) → print-children-lts.Need-enum-told (print-children-claims t) (print-children-at t) print-children.Post
-print-children-enum-told t c = search needs
-
-print-children-enum-known-inner : (t : ℕ) → print-children-lts.Need-enum-known-inner (print-children-claims t) (print-children-at t) print-children.Post
-print-children-enum-known-inner t c = search needs
-
-print-children-sub-print-trees : (t : ℕ) → print-children-lts.Need-sub-print-trees (print-children-claims t) (print-children-at t) print-children.Post
-print-children-sub-print-trees t c = search needs
-
-print-children-part-print-trees-start : (t : ℕ) → print-children-lts.Need-part-print-trees-start (print-children-claims t) (print-children-at t)
-    print-children.Post
-print-children-part-print-trees-start t c = search needs
-
-print-children-part-print-trees-end : (t : ℕ) → print-children-lts.Need-part-print-trees-end (print-children-claims t) (print-children-at t) print-children.Post
-print-children-part-print-trees-end t c = search needs
-
-print-children-sub-print-trees-2 : (t : ℕ) → print-children-lts.Need-sub-print-trees-2 (print-children-claims t) (print-children-at t) print-children.Post
-print-children-sub-print-trees-2 t c = search needs
-
-print-children-part-print-trees-start-2 : (t : ℕ) → print-children-lts.Need-part-print-trees-start-2 (print-children-claims t) (print-children-at t)
-    print-children.Post
-print-children-part-print-trees-start-2 t c = search needs
-
-print-children-part-print-trees-end-2 : (t : ℕ) → print-children-lts.Need-part-print-trees-end-2 (print-children-claims t) (print-children-at t)
-    print-children.Post
-print-children-part-print-trees-end-2 t c = search needs
-
-print-children-add-print-trees : (t : ℕ) → print-children-lts.Need-add-print-trees (print-children-claims t) (print-children-at t) print-children.Post
-print-children-add-print-trees t c = search needs
-
-print-children-sub-print-trees-3 : (t : ℕ) → print-children-lts.Need-sub-print-trees-3 (print-children-claims t) (print-children-at t) print-children.Post
-print-children-sub-print-trees-3 t c = search needs
 
 print-children-print-trees-requires : (t : ℕ) → print-children-lts.Need-print-trees-requires (print-children-claims t) (print-children-at t) print-children.Post
 print-children-print-trees-requires t c κs =
@@ -153,9 +100,6 @@ print-children-returns-2 t c =
     let c9 = c2 .before .before .before .before .before .before .before in
     let a = c9 .args in wrote-same (sym (dropped-text (a .names .now) (a .nodes .now) (a .level) (a .at)
     (sym (c2 .children .ensures) ∙ c .enum-told .given .1))) (wrote-none (a .out .now) (a .to))
-
-print-children-same-length : (t : ℕ) → print-children-lts.Need-same-length (print-children-claims t) (print-children-at t) print-children.Post
-print-children-same-length t c = search needs
 
 print-children-returns-3 : (t : ℕ) → print-children-lts.Need-returns-3 (print-children-claims t) (print-children-at t) print-children.Post
 print-children-returns-3 t c =
@@ -256,14 +200,6 @@ print-trees-open-node-requires t c κs =
     let c5 = c .before .before .before .before .before in
     let c6 = c5 .before in
     (here (c6 .loop .inv .nodes) (c5 .loop-test .taken) .name, room-to-open (c6 .loop .inv) (c5 .loop-test .taken))
-
-print-trees-walked-on-requires : (t : ℕ) → print-trees-lts.Need-walked-on-requires (print-trees-claims t) (print-trees-at t) print-trees.Post
-    print-trees-Inv-loop print-trees-μ-loop
-print-trees-walked-on-requires t c κs = search needs
-
-print-trees-inside-requires : (t : ℕ) → print-trees-lts.Need-inside-requires (print-trees-claims t) (print-trees-at t) print-trees.Post print-trees-Inv-loop
-    print-trees-μ-loop
-print-trees-inside-requires t c κs = search needs
 
 print-trees-add-at : (t : ℕ) → print-trees-lts.Need-add-at (print-trees-claims t) (print-trees-at t) print-trees.Post print-trees-Inv-loop print-trees-μ-loop
 print-trees-add-at t c =
@@ -370,26 +306,26 @@ pub +print-children+print-trees-spec : {M : Type 1} → statement M
     close μ-print-children μ-print-trees (λ t. print-children-lts.spec (print-children-claims t)
     (print-children-at t)
     print-children.Post
-    (print-children-add-count t)
-    (print-children-mul-count t)
-    (print-children-shared-slice-read-count t)
+    (λ c. search needs)
+    (λ c. search needs)
+    (λ c. search needs)
     (print-children-returns t)
-    (print-children-mul-children t)
-    (print-children-shared-slice-read-children t)
-    (print-children-children-requires t)
-    (print-children-enum-told t)
-    (print-children-enum-known-inner t)
-    (print-children-sub-print-trees t)
-    (print-children-part-print-trees-start t)
-    (print-children-part-print-trees-end t)
-    (print-children-sub-print-trees-2 t)
-    (print-children-part-print-trees-start-2 t)
-    (print-children-part-print-trees-end-2 t)
-    (print-children-add-print-trees t)
-    (print-children-sub-print-trees-3 t)
+    (λ c. search needs)
+    (λ c. search needs)
+    (λ c κs. search needs)
+    (λ c. search needs)
+    (λ c. search needs)
+    (λ c. search needs)
+    (λ c. search needs)
+    (λ c. search needs)
+    (λ c. search needs)
+    (λ c. search needs)
+    (λ c. search needs)
+    (λ c. search needs)
+    (λ c. search needs)
     (print-children-print-trees-requires t)
     (print-children-returns-2 t)
-    (print-children-same-length t)
+    (λ c. search needs)
     (print-children-returns-3 t))
     λ t. print-trees-lts.spec (print-trees-claims t)
     (print-trees-at t)
@@ -409,8 +345,8 @@ pub +print-children+print-trees-spec : {M : Type 1} → statement M
     (print-trees-mul-open-node t)
     (print-trees-shared-slice-read-open-node t)
     (print-trees-open-node-requires t)
-    (print-trees-walked-on-requires t)
-    (print-trees-inside-requires t)
+    (λ c κs. search needs)
+    (λ c κs. search needs)
     (print-trees-add-at t)
     (print-trees-sub-left t)
     (print-trees-loop-less t)

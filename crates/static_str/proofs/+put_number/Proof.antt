@@ -31,19 +31,10 @@ put-number-below t =
 abbrev put-number-claims : ℕ → put-number-lts.Claims
 put-number-claims t = (put-reads.Asked, put-reads.Learnt, put-number-below t, put-number.Post)
 
-put-number-cast-put : (t : ℕ) → put-number-lts.Need-cast-put (put-number-claims t) (put-number-at t) put-number.Post
-put-number-cast-put t c = search needs
-
-put-number-add-put : (t : ℕ) → put-number-lts.Need-add-put (put-number-claims t) (put-number-at t) put-number.Post
-put-number-add-put t c = search needs
-
 put-number-put-requires : (t : ℕ) → put-number-lts.Need-put-requires (put-number-claims t) (put-number-at t) put-number.Post
 put-number-put-requires t c κs =
     let c3 = c .before .before .before in
     omega (arith, decimal-one (c3 .args .n) (c .before .if1 .taken), c3 .pre .1)
-
-put-number-same-length : (t : ℕ) → put-number-lts.Need-same-length (put-number-claims t) (put-number-at t) put-number.Post
-put-number-same-length t c = search needs
 
 put-number-returns : (t : ℕ) → put-number-lts.Need-returns (put-number-claims t) (put-number-at t) put-number.Post
 put-number-returns t c =
@@ -56,12 +47,6 @@ put-number-put-number-requires : (t : ℕ) → put-number-lts.Need-put-number-re
 put-number-put-number-requires t c κs =
     let c3 = c .before .before .before in
     let l = decimal-more (c3 .args .n) (c .before .if1 .left) in let h = c3 .pre .1 in (omega arith, omega arith)
-
-put-number-cast-digit : (t : ℕ) → put-number-lts.Need-cast-digit (put-number-claims t) (put-number-at t) put-number.Post
-put-number-cast-digit t c = search needs
-
-put-number-add-put-2 : (t : ℕ) → put-number-lts.Need-add-put-2 (put-number-claims t) (put-number-at t) put-number.Post
-put-number-add-put-2 t c = search needs
 
 put-number-put-requires-2 : (t : ℕ) → put-number-lts.Need-put-requires-2 (put-number-claims t) (put-number-at t) put-number.Post
 put-number-put-requires-2 t c κs =
@@ -90,14 +75,14 @@ pub +put-number-spec : {M : Type 1} → statement M
 +put-number-spec = close μ-put-number λ t. put-number-lts.spec (put-number-claims t)
     (put-number-at t)
     put-number.Post
-    (put-number-cast-put t)
-    (put-number-add-put t)
+    (λ c. search needs)
+    (λ c. search needs)
     (put-number-put-requires t)
-    (put-number-same-length t)
+    (λ c. search needs)
     (put-number-returns t)
     (put-number-put-number-requires t)
-    (put-number-cast-digit t)
-    (put-number-add-put-2 t)
+    (λ c. search needs)
+    (λ c. search needs)
     (put-number-put-requires-2 t)
     (put-number-same-length-2 t)
     (put-number-returns-2 t)

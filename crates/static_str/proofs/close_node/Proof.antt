@@ -16,9 +16,6 @@ put-number-requires c κs =
     let c3 = c .before .before .before in
     omega (arith, ap length (closing-typed (c3 .args .kind) (c3 .args .second) (c .before .if1 .taken)), c3 .pre)
 
-same-length : tie.Need-same-length
-same-length c = search needs
-
 returns : tie.Need-returns
 returns c =
     let c2 = c .before .before in
@@ -31,24 +28,12 @@ put-requires c κs =
     let c4 = c .before .before .before .before in
     omega (arith, ap length (closing-array (c4 .args .kind) (c4 .args .second) (c .before .if2 .taken)), c4 .pre)
 
-same-length-2 : tie.Need-same-length-2
-same-length-2 c = search needs
-
 returns-2 : tie.Need-returns-2
 returns-2 c =
     let c2 = c .before .before in
     let c4 = c2 .before .before in
     let c7 = c4 .before .before .before in
     wrote-same (sym (closing-array (c7 .args .kind) (c7 .args .second) (c4 .if2 .taken))) (c2 .put .ensures)
-
-is-container-requires : tie.Need-is-container-requires
-is-container-requires c κs = search needs
-
-container-of-requires : tie.Need-container-of-requires
-container-of-requires c κs = search needs
-
-end-byte-requires : tie.Need-end-byte-requires
-end-byte-requires c κs = search needs
 
 put-requires-2 : tie.Need-put-requires-2
 put-requires-2 c κs =
@@ -63,9 +48,6 @@ put-requires-2 c κs =
           (sym (c4 .is-container .ensures) ∙ c3 .if3 .taken)),
       c8 .pre,
     )
-
-same-length-3 : tie.Need-same-length-3
-same-length-3 c = search needs
 
 returns-3 : tie.Need-returns-3
 returns-3 c =
@@ -94,15 +76,15 @@ close-node-spec =
     tie.close
     (tie.spec
     put-number-requires
-    same-length
+    (λ c. search needs)
     returns
     put-requires
-    same-length-2
+    (λ c. search needs)
     returns-2
-    is-container-requires
-    container-of-requires
-    end-byte-requires
+    (λ c κs. search needs)
+    (λ c κs. search needs)
+    (λ c κs. search needs)
     put-requires-2
-    same-length-3
+    (λ c. search needs)
     returns-3
     returns-4)

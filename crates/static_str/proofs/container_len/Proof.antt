@@ -7,21 +7,6 @@ use Rattle.static_str.proofs.PartLaws.{fields-shown, fields-hidden}
 use Rattle.static_str.proofs.container_len.Statement.{statement}
 use Rattle.static_str.proofs.container_len.Tie as tie
 
-add-len : tie.Need-add-len
-add-len c = search needs
-
-container-include-fields-requires : tie.Need-container-include-fields-requires
-container-include-fields-requires c κs = search needs
-
-enum-told : tie.Need-enum-told
-enum-told c = search needs
-
-add-result : tie.Need-add-result
-add-result c = search needs
-
-enum-told-2 : tie.Need-enum-told-2
-enum-told-2 c = search needs
-
 returns : tie.Need-returns
 returns c =
     let c2 = c .before .before in
@@ -38,10 +23,10 @@ pub container-len-spec : {M : Type 1} → statement M
 container-len-spec =
     tie.close
     (tie.spec
-    add-len
-    container-include-fields-requires
-    enum-told
-    add-result
-    enum-told-2
+    (λ c. search needs)
+    (λ c κs. search needs)
+    (λ c. search needs)
+    (λ c. search needs)
+    (λ c. search needs)
     returns
     returns-2)

@@ -8,26 +8,8 @@ returns : tie.Need-returns
 returns c =
     λ e. inside-low (c .before .args .kind) (c .before .args .level) (c .if1 .taken)
 
-is-container-requires : tie.Need-is-container-requires
-is-container-requires c κs = search needs
-
-inside-requires : tie.Need-inside-requires
-inside-requires c κs = search needs
-
-same-level-requires : tie.Need-same-level-requires
-same-level-requires c κs = search needs
-
 returns-2 : tie.Need-returns-2
 returns-2 c = λ e. sym (c .before .inside .ensures) ∙ c .same-level .ensures e
-
-is-indirection-requires : tie.Need-is-indirection-requires
-is-indirection-requires c κs = search needs
-
-inside-requires-2 : tie.Need-inside-requires-2
-inside-requires-2 c κs = search needs
-
-same-level-requires-2 : tie.Need-same-level-requires-2
-same-level-requires-2 c κs = search needs
 
 returns-3 : tie.Need-returns-3
 returns-3 c = λ e. sym (c .before .inside2 .ensures) ∙ c .same-level2 .ensures e
@@ -45,12 +27,12 @@ keeps-level-spec =
     tie.close
     (tie.spec
     returns
-    is-container-requires
-    inside-requires
-    same-level-requires
+    (λ c κs. search needs)
+    (λ c κs. search needs)
+    (λ c κs. search needs)
     returns-2
-    is-indirection-requires
-    inside-requires-2
-    same-level-requires-2
+    (λ c κs. search needs)
+    (λ c κs. search needs)
+    (λ c κs. search needs)
     returns-3
     returns-4)

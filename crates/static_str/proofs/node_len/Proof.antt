@@ -9,18 +9,12 @@ use Rattle.static_str.proofs.PartLaws.{own-primitive, own-container, ow
 use Rattle.static_str.proofs.node_len.Statement.{statement}
 use Rattle.static_str.proofs.node_len.Tie as tie
 
-code-len-requires : tie.Need-code-len-requires
-code-len-requires c κs = search needs
-
 returns : tie.Need-returns
 returns c =
     let c2 = c .before .before in (
       λ s h. c .code-len .ensures .0 ∙ own-primitive s (c2 .args .kind) (c2 .args .first) (c2 .args .second) (c2 .args .level) (c .before .if1 .taken),
       omega arith,
     )
-
-is-container-requires : tie.Need-is-container-requires
-is-container-requires c κs = search needs
 
 container-len-requires : tie.Need-container-len-requires
 container-len-requires c κs =
@@ -38,17 +32,11 @@ returns-2 c =
       c .container-len .ensures .1,
     )
 
-is-indirection-requires : tie.Need-is-indirection-requires
-is-indirection-requires c κs = search needs
-
 returns-3 : tie.Need-returns-3
 returns-3 c =
     let c5 = c .before .before .before .before .before in
     let a = c5 .args in
     (λ s h. own-indirection s (a .kind) (a .first) (a .second) (a .level) (sym (c .before .is-indirection .ensures) ∙ c .if3 .taken), omega arith)
-
-static-int-str-len-requires : tie.Need-static-int-str-len-requires
-static-int-str-len-requires c κs = search needs
 
 add-result : tie.Need-add-result
 add-result c = omega (arith, decimal-fits (c .before .before .before .before .before .before .before .args .second) (omega arith))
@@ -61,14 +49,8 @@ returns-4 c =
       omega (arith, decimal-fits (a .second) (omega arith)),
     )
 
-static-int-str-len-requires-2 : tie.Need-static-int-str-len-requires-2
-static-int-str-len-requires-2 c κs = search needs
-
 add-result-2 : tie.Need-add-result-2
 add-result-2 c = omega (arith, decimal-fits (c .before .before .before .before .before .before .before .before .args .first) (omega arith))
-
-static-int-str-len-requires-3 : tie.Need-static-int-str-len-requires-3
-static-int-str-len-requires-3 c κs = search needs
 
 add-result-3 : tie.Need-add-result-3
 add-result-3 c =
@@ -84,9 +66,6 @@ returns-5 c =
           ∙ own-typed s (a .kind) (a .first) (a .second) (a .level) (c2 .if5 .taken),
       omega (arith, decimal-fits (a .first) (omega arith), decimal-fits (a .second) (omega arith)),
     )
-
-static-int-str-len-requires-4 : tie.Need-static-int-str-len-requires-4
-static-int-str-len-requires-4 c κs = search needs
 
 add-result-4 : tie.Need-add-result-4
 add-result-4 c = omega (arith, decimal-fits (c .before .before .before .before .before .before .before .before .before .args .first) (omega arith))
@@ -120,22 +99,22 @@ pub node-len-spec : {M : Type 1} → statement M
 node-len-spec =
     tie.close
     (tie.spec
-    code-len-requires
+    (λ c κs. search needs)
     returns
-    is-container-requires
+    (λ c κs. search needs)
     container-len-requires
     returns-2
-    is-indirection-requires
+    (λ c κs. search needs)
     returns-3
-    static-int-str-len-requires
+    (λ c κs. search needs)
     add-result
     returns-4
-    static-int-str-len-requires-2
+    (λ c κs. search needs)
     add-result-2
-    static-int-str-len-requires-3
+    (λ c κs. search needs)
     add-result-3
     returns-5
-    static-int-str-len-requires-4
+    (λ c κs. search needs)
     add-result-4
     returns-6
     returns-7)

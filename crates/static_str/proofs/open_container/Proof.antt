@@ -9,12 +9,6 @@ use Rattle.kinds.specs.Print.{fields}
 use Rattle.static_str.proofs.open_container.Statement.{statement}
 use Rattle.static_str.proofs.open_container.Tie as tie
 
-start-byte-requires : tie.Need-start-byte-requires
-start-byte-requires c κs = search needs
-
-put-requires : tie.Need-put-requires
-put-requires c κs = search needs
-
 put-bytes-requires : tie.Need-put-bytes-requires
 put-bytes-requires c κs =
     let c3 = c .before .before .before in
@@ -32,9 +26,6 @@ put-equals-requires c κs =
     let a = c12 .args in three-third (startByte (a .kind) ∷ []) (a .name .now) (fields (a .level) []) (c12 .pre)
     (wrote-same (ap (λ (x : ℕ). x ∷ []) (c8 .start-byte .ensures)) (c7 .put .ensures)) (c3 .put-bytes .ensures)
 
-same-length : tie.Need-same-length
-same-length c = search needs
-
 returns : tie.Need-returns
 returns c =
     let c2 = c .before .before in
@@ -49,9 +40,9 @@ pub open-container-spec : {M : Type 1} → statement M
 open-container-spec =
     tie.close
     (tie.spec
-    start-byte-requires
-    put-requires
+    (λ c κs. search needs)
+    (λ c κs. search needs)
     put-bytes-requires
     put-equals-requires
-    same-length
+    (λ c. search needs)
     returns)

@@ -19,9 +19,6 @@ put-code-requires c κs =
       c4 .pre .1,
     )
 
-same-length : tie.Need-same-length
-same-length c = search needs
-
 returns : tie.Need-returns
 returns c =
     let c2 = c .before .before in
@@ -30,22 +27,10 @@ returns c =
     let a = c7 .args in wrote-same (sym (opening-primitive (a .names .now) (a .kind) (a .first) (a .second) (a .level) (c4 .if1 .taken)))
     (c2 .put-code .ensures)
 
-is-container-requires : tie.Need-is-container-requires
-is-container-requires c κs = search needs
-
 add-to : tie.Need-add-to
 add-to c =
     let c5 = c .before .before .before .before .before in
     omega (arith, c5 .pre .0 (sym (c .before .is-container .ensures) ∙ c .if2 .taken))
-
-container-of-requires : tie.Need-container-of-requires
-container-of-requires c κs = search needs
-
-sub-open-container : tie.Need-sub-open-container
-sub-open-container c = search needs
-
-part-open-container-start : tie.Need-part-open-container-start
-part-open-container-start c = search needs
 
 part-open-container-end : tie.Need-part-open-container-end
 part-open-container-end c =
@@ -67,9 +52,6 @@ open-container-requires c κs =
       c8 .pre .1,
     )
 
-same-length-2 : tie.Need-same-length-2
-same-length-2 c = search needs
-
 returns-2 : tie.Need-returns-2
 returns-2 c =
     let c2 = c .before .before in
@@ -86,9 +68,6 @@ put-tagged-requires c κs =
     let c7 = c .before .before .before .before .before .before .before in
     let a = c7 .args in omega (arith, ap length (opening-bits (a .names .now) (a .kind) (a .first) (a .second) (a .level) (c .before .if3 .taken)), c7 .pre .1)
 
-same-length-3 : tie.Need-same-length-3
-same-length-3 c = search needs
-
 returns-3 : tie.Need-returns-3
 returns-3 c =
     let c2 = c .before .before in
@@ -101,9 +80,6 @@ put-tagged-requires-2 c κs =
     let c8 = c .before .before .before .before .before .before .before .before in
     let a = c8 .args in omega (arith, ap length (opening-typed (a .names .now) (a .kind) (a .first) (a .second) (a .level) (c .before .if4 .taken)), c8 .pre .1)
 
-same-length-4 : tie.Need-same-length-4
-same-length-4 c = search needs
-
 returns-4 : tie.Need-returns-4
 returns-4 c =
     let c2 = c .before .before in
@@ -112,17 +88,11 @@ returns-4 c =
     let a = c11 .args in wrote-same (sym (opening-typed (a .names .now) (a .kind) (a .first) (a .second) (a .level) (c4 .if4 .taken)))
     (c2 .put-tagged2 .ensures)
 
-prefix-byte-requires : tie.Need-prefix-byte-requires
-prefix-byte-requires c κs = search needs
-
 put-requires : tie.Need-put-requires
 put-requires c κs =
     let c2 = c .before .before in
     let c10 = c2 .before .before .before .before .before .before .before .before in
     let a = c10 .args in omega (arith, ap length (opening-pointer (a .names .now) (a .kind) (a .first) (a .second) (a .level) (c2 .if5 .taken)), c10 .pre .1)
-
-same-length-5 : tie.Need-same-length-5
-same-length-5 c = search needs
 
 returns-5 : tie.Need-returns-5
 returns-5 c =
@@ -133,17 +103,11 @@ returns-5 c =
     let a = c13 .args in wrote-same (sym (opening-pointer (a .names .now) (a .kind) (a .first) (a .second) (a .level) (c5 .if5 .taken)))
     (wrote-same (ap (λ (x : ℕ). x ∷ []) (c3 .prefix-byte .ensures)) (c2 .put .ensures))
 
-prefix-byte-requires-2 : tie.Need-prefix-byte-requires-2
-prefix-byte-requires-2 c κs = search needs
-
 put-requires-2 : tie.Need-put-requires-2
 put-requires-2 c κs =
     let c2 = c .before .before in
     let c11 = c2 .before .before .before .before .before .before .before .before .before in
     let a = c11 .args in omega (arith, ap length (opening-atomic (a .names .now) (a .kind) (a .first) (a .second) (a .level) (c2 .if6 .taken)), c11 .pre .1)
-
-same-length-6 : tie.Need-same-length-6
-same-length-6 c = search needs
 
 returns-6 : tie.Need-returns-6
 returns-6 c =
@@ -162,9 +126,6 @@ put-tagged-requires-3 c κs =
       ap length (opening-array (a .names .now) (a .kind) (a .first) (a .second) (a .level) (c .before .if7 .taken)),
       c11 .pre .1,
     )
-
-same-length-7 : tie.Need-same-length-7
-same-length-7 c = search needs
 
 returns-7 : tie.Need-returns-7
 returns-7 c =
@@ -192,32 +153,32 @@ open-node-spec =
     tie.close
     (tie.spec
     put-code-requires
-    same-length
+    (λ c. search needs)
     returns
-    is-container-requires
+    (λ c κs. search needs)
     add-to
-    container-of-requires
-    sub-open-container
-    part-open-container-start
+    (λ c κs. search needs)
+    (λ c. search needs)
+    (λ c. search needs)
     part-open-container-end
     open-container-requires
-    same-length-2
+    (λ c. search needs)
     returns-2
     put-tagged-requires
-    same-length-3
+    (λ c. search needs)
     returns-3
     put-tagged-requires-2
-    same-length-4
+    (λ c. search needs)
     returns-4
-    prefix-byte-requires
+    (λ c κs. search needs)
     put-requires
-    same-length-5
+    (λ c. search needs)
     returns-5
-    prefix-byte-requires-2
+    (λ c κs. search needs)
     put-requires-2
-    same-length-6
+    (λ c. search needs)
     returns-6
     put-tagged-requires-3
-    same-length-7
+    (λ c. search needs)
     returns-7
     returns-8)

@@ -4,19 +4,10 @@ use borrow.Author.Needs.{needs}
 use Rattle.static_str.proofs.print_code.Statement.{statement}
 use Rattle.static_str.proofs.print_code.Tie as tie
 
-code-len-requires : tie.Need-code-len-requires
-code-len-requires c κs = search needs
-
 returns : tie.Need-returns
 returns c =
     let c3 = c .before .before .before in
     text-short (code (c3 .args .kind)) (c3 .args .out .now) (c .before .code-len .ensures .0) (c .if1 .taken)
-
-put-code-requires : tie.Need-put-code-requires
-put-code-requires c κs = search needs
-
-same-length : tie.Need-same-length
-same-length c = search needs
 
 returns-2 : tie.Need-returns-2
 returns-2 c =
@@ -28,4 +19,4 @@ returns-2 c =
 
 pub print-code-spec : {M : Type 1} → statement M
 print-code-spec =
-    tie.close (tie.spec code-len-requires returns put-code-requires same-length returns-2)
+    tie.close (tie.spec (λ c κs. search needs) returns (λ c κs. search needs) (λ c. search needs) returns-2)

@@ -8,18 +8,6 @@ use borrow.Author.Needs.{needs}
 use Rattle.static_str.proofs.print_tree.Statement.{statement}
 use Rattle.static_str.proofs.print_tree.Tie as tie
 
-sub-trees-len : tie.Need-sub-trees-len
-sub-trees-len c = search needs
-
-part-trees-len-start : tie.Need-part-trees-len-start
-part-trees-len-start c = search needs
-
-part-trees-len-end : tie.Need-part-trees-len-end
-part-trees-len-end c = search needs
-
-new-requires : tie.Need-new-requires
-new-requires c κs = search needs
-
 trees-len-requires : tie.Need-trees-len-requires
 trees-len-requires c κs =
     let c5 = c .before .before .before .before .before in
@@ -33,27 +21,6 @@ returns c =
     (tree-len (c7 .args .names .now) (c7 .args .nodes .now) (c7 .args .n) (c7 .pre .1 .1) (c2 .new .ensures)
     (rw whole at (c .before .trees-len .ensures .0))) (c .if1 .taken)
 
-sub-print-trees : tie.Need-sub-print-trees
-sub-print-trees c = search needs
-
-part-print-trees-start : tie.Need-part-print-trees-start
-part-print-trees-start c = search needs
-
-part-print-trees-end : tie.Need-part-print-trees-end
-part-print-trees-end c = search needs
-
-sub-print-trees-2 : tie.Need-sub-print-trees-2
-sub-print-trees-2 c = search needs
-
-part-print-trees-start-2 : tie.Need-part-print-trees-start-2
-part-print-trees-start-2 c = search needs
-
-part-print-trees-end-2 : tie.Need-part-print-trees-end-2
-part-print-trees-end-2 c = search needs
-
-new-requires-2 : tie.Need-new-requires-2
-new-requires-2 c κs = search needs
-
 print-trees-requires : tie.Need-print-trees-requires
 print-trees-requires c κs =
     let c4 = c .before .before .before .before in
@@ -63,9 +30,6 @@ print-trees-requires c κs =
     let e = tree-len (c11 .args .names .now) (c11 .args .nodes .now) (c11 .args .n) (c11 .pre .1 .1) (c6 .new .ensures)
     (rw whole at (c5 .trees-len .ensures .0)) in
     rw (whole, whole, c .before .new2 .ensures) ((c11 .pre .0 .0, c11 .pre .1 .1), omega (arith, e, c4 .if1 .left))
-
-same-length : tie.Need-same-length
-same-length c = search needs
 
 returns-2 : tie.Need-returns-2
 returns-2 c =
@@ -84,19 +48,19 @@ pub print-tree-spec : {M : Type 1} → statement M
 print-tree-spec =
     tie.close
     (tie.spec
-    sub-trees-len
-    part-trees-len-start
-    part-trees-len-end
-    new-requires
+    (λ c. search needs)
+    (λ c. search needs)
+    (λ c. search needs)
+    (λ c κs. search needs)
     trees-len-requires
     returns
-    sub-print-trees
-    part-print-trees-start
-    part-print-trees-end
-    sub-print-trees-2
-    part-print-trees-start-2
-    part-print-trees-end-2
-    new-requires-2
+    (λ c. search needs)
+    (λ c. search needs)
+    (λ c. search needs)
+    (λ c. search needs)
+    (λ c. search needs)
+    (λ c. search needs)
+    (λ c κs. search needs)
     print-trees-requires
-    same-length
+    (λ c. search needs)
     returns-2)

@@ -9,23 +9,11 @@ use Rattle.static_str.proofs.OutputLaws.{wrote-same, wrote-none, wrote-
 use Rattle.static_str.proofs.put_code.Statement.{statement}
 use Rattle.static_str.proofs.put_code.Tie as tie
 
-primitive-code-requires : tie.Need-primitive-code-requires
-primitive-code-requires c κs = search needs
-
-enum-told : tie.Need-enum-told
-enum-told c = search needs
-
-enum-known-b : tie.Need-enum-known-b
-enum-known-b c = search needs
-
 put-requires : tie.Need-put-requires
 put-requires c κs =
     let c2 = c .before .before in
     let c4 = c2 .before .before in
     omega (arith, ap length (ap codeBytes (sym (c2 .b .given .1)) ∙ c4 .primitive-code .ensures))
-
-enum-known-b-2 : tie.Need-enum-known-b-2
-enum-known-b-2 c = search needs
 
 put-requires-2 : tie.Need-put-requires-2
 put-requires-2 c κs =
@@ -46,18 +34,12 @@ returns c =
     let c4 = c2 .before .before in
     wrote-same (ap codeBytes (sym (c .enum-told .given .1)) ∙ c2 .primitive-code .ensures) (wrote-none (c4 .args .out .now) (c4 .args .at))
 
-same-length : tie.Need-same-length
-same-length c = search needs
-
 returns-2 : tie.Need-returns-2
 returns-2 c =
     let c2 = c .before .before in
     let c5 = c2 .before .before .before in
     let c7 = c5 .before .before in
     wrote-same (ap codeBytes (sym (c5 .b .given .1)) ∙ c7 .primitive-code .ensures) (c2 .put .ensures)
-
-same-length-2 : tie.Need-same-length-2
-same-length-2 c = search needs
 
 returns-3 : tie.Need-returns-3
 returns-3 c =
@@ -73,15 +55,15 @@ pub put-code-spec : {M : Type 1} → statement M
 put-code-spec =
     tie.close
     (tie.spec
-    primitive-code-requires
-    enum-told
-    enum-known-b
+    (λ c κs. search needs)
+    (λ c. search needs)
+    (λ c. search needs)
     put-requires
-    enum-known-b-2
+    (λ c. search needs)
     put-requires-2
     put-requires-3
     returns
-    same-length
+    (λ c. search needs)
     returns-2
-    same-length-2
+    (λ c. search needs)
     returns-3)

@@ -8,23 +8,11 @@ use Rattle.static_str.proofs.OutputLaws.{wrote-same, wrote-none}
 use Rattle.static_str.proofs.put_equals.Statement.{statement}
 use Rattle.static_str.proofs.put_equals.Tie as tie
 
-container-include-fields-requires : tie.Need-container-include-fields-requires
-container-include-fields-requires c κs = search needs
-
-enum-told : tie.Need-enum-told
-enum-told c = search needs
-
 put-requires : tie.Need-put-requires
 put-requires c κs =
     let c3 = c .before .before .before in
     let c5 = c3 .before .before in
     omega (arith, ap length (fields-shown (c5 .args .level) _ (sym (c3 .container-include-fields .ensures) ∙ c .before .enum-told .given .1)))
-
-enum-told-2 : tie.Need-enum-told-2
-enum-told-2 c = search needs
-
-same-length : tie.Need-same-length
-same-length c = search needs
 
 returns : tie.Need-returns
 returns c =
@@ -45,10 +33,10 @@ pub put-equals-spec : {M : Type 1} → statement M
 put-equals-spec =
     tie.close
     (tie.spec
-    container-include-fields-requires
-    enum-told
+    (λ c κs. search needs)
+    (λ c. search needs)
     put-requires
-    enum-told-2
-    same-length
+    (λ c. search needs)
+    (λ c. search needs)
     returns
     returns-2)

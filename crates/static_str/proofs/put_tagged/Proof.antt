@@ -6,15 +6,6 @@ use Rattle.static_str.proofs.OutputLaws.{wrote-append}
 use Rattle.static_str.proofs.put_tagged.Statement.{statement}
 use Rattle.static_str.proofs.put_tagged.Tie as tie
 
-put-requires : tie.Need-put-requires
-put-requires c κs = search needs
-
-put-number-requires : tie.Need-put-number-requires
-put-number-requires c κs = search needs
-
-same-length : tie.Need-same-length
-same-length c = search needs
-
 returns : tie.Need-returns
 returns c =
     let c2 = c .before .before in
@@ -23,4 +14,4 @@ returns c =
     wrote-append (c9 .args .b ∷ []) (decimal (c9 .args .n)) (c9 .pre) (c6 .put .ensures) (c2 .put-number .ensures)
 
 pub put-tagged-spec : {M : Type 1} → statement M
-put-tagged-spec = tie.close (tie.spec put-requires put-number-requires same-length returns)
+put-tagged-spec = tie.close (tie.spec (λ c κs. search needs) (λ c κs. search needs) (λ c. search needs) returns)

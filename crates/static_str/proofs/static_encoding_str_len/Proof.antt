@@ -6,40 +6,10 @@ use borrow.Author.Needs.{needs}
 use Rattle.static_str.proofs.static_encoding_str_len.Statement.{statement}
 use Rattle.static_str.proofs.static_encoding_str_len.Tie as tie
 
-sub-check : tie.Need-sub-check
-sub-check c = search needs
-
-part-check-start : tie.Need-part-check-start
-part-check-start c = search needs
-
-part-check-end : tie.Need-part-check-end
-part-check-end c = search needs
-
-sub-check-2 : tie.Need-sub-check-2
-sub-check-2 c = search needs
-
-part-check-start-2 : tie.Need-part-check-start-2
-part-check-start-2 c = search needs
-
-part-check-end-2 : tie.Need-part-check-end-2
-part-check-end-2 c = search needs
-
-check-requires : tie.Need-check-requires
-check-requires c κs = search needs
-
-enum-known-why : tie.Need-enum-known-why
-enum-known-why c = search needs
-
-enum-known-kind : tie.Need-enum-known-kind
-enum-known-kind c = search needs
-
 code-len-requires : tie.Need-code-len-requires
 code-len-requires c κs =
     let c3 = c .before .before .before in
     (given-code _ _ (rw (whole, whole) at (c3 .check .ensures .1)) (c .before .kind .given .1)) .code
-
-enum-known-first : tie.Need-enum-known-first
-enum-known-first c = search needs
 
 mul-trees-len : tie.Need-mul-trees-len
 mul-trees-len c =
@@ -55,12 +25,6 @@ part-trees-len-start : tie.Need-part-trees-len-start
 part-trees-len-start c =
     let c3 = c .before .before .before in
     let h = (given-nodes _ _ (rw (whole, whole) at (c3 .check .ensures .1)) (c .before .first .given .1)) in omega (arith, h .starts)
-
-part-trees-len-end : tie.Need-part-trees-len-end
-part-trees-len-end c = search needs
-
-new-requires : tie.Need-new-requires
-new-requires c κs = search needs
 
 trees-len-requires : tie.Need-trees-len-requires
 trees-len-requires c κs =
@@ -94,22 +58,22 @@ pub static-encoding-str-len-spec : {M : Type 1} → statement M
 static-encoding-str-len-spec =
     tie.close
     (tie.spec
-    sub-check
-    part-check-start
-    part-check-end
-    sub-check-2
-    part-check-start-2
-    part-check-end-2
-    check-requires
-    enum-known-why
-    enum-known-kind
+    (λ c. search needs)
+    (λ c. search needs)
+    (λ c. search needs)
+    (λ c. search needs)
+    (λ c. search needs)
+    (λ c. search needs)
+    (λ c κs. search needs)
+    (λ c. search needs)
+    (λ c. search needs)
     code-len-requires
-    enum-known-first
+    (λ c. search needs)
     mul-trees-len
     sub-trees-len
     part-trees-len-start
-    part-trees-len-end
-    new-requires
+    (λ c. search needs)
+    (λ c κs. search needs)
     trees-len-requires
     returns
     returns-2

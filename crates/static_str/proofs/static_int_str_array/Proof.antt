@@ -5,19 +5,10 @@ use borrow.Author.Needs.{needs}
 use Rattle.static_str.proofs.static_int_str_array.Statement.{statement}
 use Rattle.static_str.proofs.static_int_str_array.Tie as tie
 
-static-int-str-len-requires : tie.Need-static-int-str-len-requires
-static-int-str-len-requires c κs = search needs
-
 returns : tie.Need-returns
 returns c =
     let c3 = c .before .before .before in
     text-short (decimal (c3 .args .n)) (c3 .args .out .now) (c .before .static-int-str-len .ensures) (c .if1 .taken)
-
-put-number-requires : tie.Need-put-number-requires
-put-number-requires c κs = search needs
-
-same-length : tie.Need-same-length
-same-length c = search needs
 
 returns-2 : tie.Need-returns-2
 returns-2 c =
@@ -31,4 +22,4 @@ returns-2 c =
 pub static-int-str-array-spec : {M : Type 1} → statement M
 static-int-str-array-spec =
     tie.close
-    (tie.spec static-int-str-len-requires returns put-number-requires same-length returns-2)
+    (tie.spec (λ c κs. search needs) returns (λ c κs. search needs) (λ c. search needs) returns-2)

@@ -9,9 +9,6 @@ use Rattle.static_str.proofs.walked_on.Tie as tie
 returns : tie.Need-returns
 returns c = search needs
 
-is-indirection-requires : tie.Need-is-indirection-requires
-is-indirection-requires c κs = search needs
-
 returns-2 : tie.Need-returns-2
 returns-2 c = λ e h. absurd (false≢true e)
 
@@ -21,4 +18,4 @@ returns-3 c =
     λ e h. let k = indirection-range (c3 .args .kind) (sym (c .before .is-indirection .ensures) ∙ not-false _ (c .if2 .left)) in (k .0, k .1, eqb-true _ _ e)
 
 pub walked-on-spec : {M : Type 1} → statement M
-walked-on-spec = tie.close (tie.spec returns is-indirection-requires returns-2 returns-3)
+walked-on-spec = tie.close (tie.spec returns (λ c κs. search needs) returns-2 returns-3)

@@ -8,20 +8,11 @@ use Rattle.helper.specs.Measure.{holdingMeasured, largerMeasured}
 use Rattle.helper.specs.declared.Measured.the-variants.{Bytes}
 use Rattle.helper.proofs.SizeLaws.{bits-fit}
 
-bit-bytes-requires : tie.Need-bit-bytes-requires
-bit-bytes-requires c κs = search needs
-
-larger-requires : tie.Need-larger-requires
-larger-requires c κs = search needs
-
 returns : tie.Need-returns
 unfolding holdingMeasured
 returns c =
     let a = c .before .before .before .args in
     rw (eq-eqb _ _ (c .before .before .if1 .taken)) (c .larger .ensures ∙ ap (λ x. largerMeasured x (a .self)) (ap Bytes (c .before .bit-bytes .ensures) ∙ sym (bits-fit (a .second) (omega arith))))
-
-times-requires : tie.Need-times-requires
-times-requires c κs = search needs
 
 returns-2 : tie.Need-returns-2
 unfolding holdingMeasured
@@ -34,4 +25,4 @@ returns-3 c = rw (ne-eqb _ _ (c .before .if1 .left), ne-eqb _ _ (c .if2 .left))
 pub held-by-spec : {M : Type 1} → statement M
 held-by-spec =
     tie.close
-    (tie.spec bit-bytes-requires larger-requires returns times-requires returns-2 returns-3)
+    (tie.spec (λ c κs. search needs) (λ c κs. search needs) returns (λ c κs. search needs) returns-2 returns-3)

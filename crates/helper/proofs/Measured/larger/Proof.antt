@@ -6,24 +6,6 @@ use native.Mathlib.Omega.{arith}
 use Rattle.helper.specs.Measure.{largerMeasured}
 use Rattle.helper.specs.declared.Measured.the-variants.{Bytes}
 
-enum-told : tie.Need-enum-told
-enum-told c = search needs
-
-enum-told-2 : tie.Need-enum-told-2
-enum-told-2 c = search needs
-
-enum-known-self : tie.Need-enum-known-self
-enum-known-self c = search needs
-
-enum-told-3 : tie.Need-enum-told-3
-enum-told-3 c = search needs
-
-enum-told-4 : tie.Need-enum-told-4
-enum-told-4 c = search needs
-
-enum-known-other : tie.Need-enum-known-other
-enum-known-other c = search needs
-
 returns : tie.Need-returns
 unfolding largerMeasured
 returns c = rw ((c .enum-told .given) .1)
@@ -52,12 +34,12 @@ pub larger-spec : {M : Type 1} → statement M
 larger-spec =
     tie.close
     (tie.spec
-    enum-told
-    enum-told-2
-    enum-known-self
-    enum-told-3
-    enum-told-4
-    enum-known-other
+    (λ c. search needs)
+    (λ c. search needs)
+    (λ c. search needs)
+    (λ c. search needs)
+    (λ c. search needs)
+    (λ c. search needs)
     returns
     returns-2
     returns-3

@@ -7,15 +7,6 @@ use Rattle.kinds.specs.Primitive.{sizeOf}
 use Rattle.helper.specs.Measure.{clip}
 use Rattle.helper.proofs.SizeLaws.{fit-le}
 
-primitive-size-requires : tie.Need-primitive-size-requires
-primitive-size-requires c κs = search needs
-
-enum-told : tie.Need-enum-told
-enum-told c = search needs
-
-enum-known-n : tie.Need-enum-known-n
-enum-known-n c = search needs
-
 returns : tie.Need-returns
 unfolding clip
 returns c = ap clip (ap sizeOf (sym (c .enum-told .given .1)) ∙ c .before .before .primitive-size .ensures)
@@ -26,4 +17,4 @@ returns-2 c = sym (fit-le _ (omega arith)) ∙ ap clip (ap sizeOf (sym (c .befor
 
 pub of-primitive-spec : {M : Type 1} → statement M
 of-primitive-spec =
-    tie.close (tie.spec primitive-size-requires enum-told enum-known-n returns returns-2)
+    tie.close (tie.spec (λ c κs. search needs) (λ c. search needs) (λ c. search needs) returns returns-2)

@@ -8,21 +8,9 @@ use native.Mathlib.Nat.{zero-mul}
 use Rattle.helper.specs.Measure.{timesMeasured, fit}
 use Rattle.helper.proofs.SizeLaws.{fit-le, fit-gt, product-fits, product-over}
 
-enum-told : tie.Need-enum-told
-enum-told c = search needs
-
-enum-told-2 : tie.Need-enum-told-2
-enum-told-2 c = search needs
-
-enum-known-self : tie.Need-enum-known-self
-enum-known-self c = search needs
-
 returns : tie.Need-returns
 unfolding timesMeasured
 returns c = rw ((c .before .before .self .given) .1, (c .if2 .taken)) (sym (ap fit (zero-mul _) ∙ fit-le 0 (omega arith)))
-
-div-if3 : tie.Need-div-if3
-div-if3 c = search needs
 
 mul-t10 : tie.Need-mul-t10
 mul-t10 c = let h = product-fits _ _ (c .before .if2 .left) (c .if3 .taken) in omega arith
@@ -51,11 +39,11 @@ pub times-spec : {M : Type 1} → statement M
 times-spec =
     tie.close
     (tie.spec
-    enum-told
-    enum-told-2
-    enum-known-self
+    (λ c. search needs)
+    (λ c. search needs)
+    (λ c. search needs)
     returns
-    div-if3
+    (λ c. search needs)
     mul-t10
     returns-2
     returns-3

@@ -5,18 +5,9 @@ use borrow.Author.Needs.{needs}
 use Rattle.kinds.proofs.NestingLevel.children.Statement.{statement}
 use Rattle.kinds.proofs.NestingLevel.children.Tie as tie
 
-is-container-requires : tie.Need-is-container-requires
-is-container-requires c κs = search needs
-
-container-include-fields-requires : tie.Need-container-include-fields-requires
-container-include-fields-requires c κs = search needs
-
 returns : tie.Need-returns
 unfolding childrenLevel
 returns c = rw (sym (c .before .before .is-container .ensures) ∙ c .before .if1 .taken) (c .container-include-fields .ensures)
-
-inside-requires : tie.Need-inside-requires
-inside-requires c κs = search needs
 
 returns-2 : tie.Need-returns-2
 unfolding childrenLevel
@@ -26,8 +17,8 @@ pub children-spec : {M : Type 1} → statement M
 children-spec =
     tie.close
     (tie.spec
-    is-container-requires
-    container-include-fields-requires
+    (λ c κs. search needs)
+    (λ c κs. search needs)
     returns
-    inside-requires
+    (λ c κs. search needs)
     returns-2)

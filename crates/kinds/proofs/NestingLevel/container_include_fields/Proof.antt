@@ -2,15 +2,6 @@ use borrow.Author.Needs.{needs}
 use Rattle.kinds.proofs.NestingLevel.container_include_fields.Statement.{statement}
 use Rattle.kinds.proofs.NestingLevel.container_include_fields.Tie as tie
 
-enum-told : tie.Need-enum-told
-enum-told c = search needs
-
-enum-told-2 : tie.Need-enum-told-2
-enum-told-2 c = search needs
-
-enum-told-3 : tie.Need-enum-told-3
-enum-told-3 c = search needs
-
 returns : tie.Need-returns
 returns c = rw (c .enum-told .given .1)
 
@@ -22,4 +13,4 @@ returns-3 c = search needs
 
 pub container-include-fields-spec : {M : Type 1} → statement M
 container-include-fields-spec =
-    tie.close (tie.spec enum-told enum-told-2 enum-told-3 returns returns-2 returns-3)
+    tie.close (tie.spec (λ c. search needs) (λ c. search needs) (λ c. search needs) returns returns-2 returns-3)

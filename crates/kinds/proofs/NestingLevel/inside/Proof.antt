@@ -5,22 +5,13 @@ use borrow.Author.Needs.{needs}
 use Rattle.kinds.proofs.NestingLevel.inside.Statement.{statement}
 use Rattle.kinds.proofs.NestingLevel.inside.Tie as tie
 
-indirection-requires : tie.Need-indirection-requires
-indirection-requires c κs = search needs
-
 returns : tie.Need-returns
 unfolding insideKind
 returns c = rw (c .before .if1 .taken) (c .indirection .ensures)
 
-indirection-requires-2 : tie.Need-indirection-requires-2
-indirection-requires-2 c κs = search needs
-
 returns-2 : tie.Need-returns-2
 unfolding insideKind
 returns-2 c = rw (c .before .if2 .taken) (c .indirection2 .ensures)
-
-is-container-requires : tie.Need-is-container-requires
-is-container-requires c κs = search needs
 
 returns-3 : tie.Need-returns-3
 unfolding insideKind
@@ -36,10 +27,10 @@ pub inside-spec : {M : Type 1} → statement M
 inside-spec =
     tie.close
     (tie.spec
-    indirection-requires
+    (λ c κs. search needs)
     returns
-    indirection-requires-2
+    (λ c κs. search needs)
     returns-2
-    is-container-requires
+    (λ c κs. search needs)
     returns-3
     returns-4)

@@ -4,14 +4,8 @@ use borrow.Author.Needs.{needs}
 use Rattle.kinds.proofs.Primitive.size.Statement.{statement}
 use Rattle.kinds.proofs.Primitive.size.Tie as tie
 
-kind-requires : tie.Need-kind-requires
-kind-requires c κs = search needs
-
-primitive-size-requires : tie.Need-primitive-size-requires
-primitive-size-requires c κs = search needs
-
 returns : tie.Need-returns
 returns c = c .primitive-size .ensures ∙ ap primitiveSize (c .before .kind .ensures)
 
 pub size-spec : {M : Type 1} → statement M
-size-spec = tie.close (tie.spec kind-requires primitive-size-requires returns)
+size-spec = tie.close (tie.spec (λ c κs. search needs) (λ c κs. search needs) returns)

@@ -4,14 +4,8 @@ use borrow.Author.Needs.{needs}
 use Rattle.kinds.proofs.Primitive.to_str.Statement.{statement}
 use Rattle.kinds.proofs.Primitive.to_str.Tie as tie
 
-kind-requires : tie.Need-kind-requires
-kind-requires c κs = search needs
-
-primitive-code-requires : tie.Need-primitive-code-requires
-primitive-code-requires c κs = search needs
-
 returns : tie.Need-returns
 returns c = c .primitive-code .ensures ∙ ap code (c .before .kind .ensures)
 
 pub to-str-spec : {M : Type 1} → statement M
-to-str-spec = tie.close (tie.spec kind-requires primitive-code-requires returns)
+to-str-spec = tie.close (tie.spec (λ c κs. search needs) (λ c κs. search needs) returns)

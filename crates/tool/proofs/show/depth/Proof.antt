@@ -28,9 +28,6 @@ mul-word-at c = omega arith
 add-word-at : tie.Need-add-word-at Inv-loop μ-loop
 add-word-at c = omega arith
 
-word-at-requires : tie.Need-word-at-requires Inv-loop μ-loop
-word-at-requires c κs = search needs
-
 sub-if1 : tie.Need-sub-if1 Inv-loop μ-loop
 sub-if1 c = omega arith
 
@@ -82,7 +79,7 @@ depth-spec =
     cast-word-at
     mul-word-at
     add-word-at
-    word-at-requires
+    (λ c κs. search needs)
     sub-if1
     cast-if1
     add-n

@@ -19,9 +19,6 @@ abbrev μ-loop : tie.MeasureT-loop
 loop-holds : tie.Need-loop-holds Inv-loop μ-loop
 loop-holds c = refl
 
-rest-requires : tie.Need-rest-requires Inv-loop μ-loop
-rest-requires c κs = search needs
-
 sub-left : tie.Need-sub-left Inv-loop μ-loop
 sub-left c = omega arith
 
@@ -33,9 +30,6 @@ loop-again c =
     let c2 = c .before .before in
     ap (lineOf (c2 .loop .left - 1)) (remains-bytes _ _ (c .rest .ensures)) ∙ line-more (c2 .loop .left) (c2 .loop .unread .now) (c .before .loop-test .taken)
     ∙ c2 .loop .inv
-
-field-requires : tie.Need-field-requires Inv-loop μ-loop
-field-requires c κs = search needs
 
 returns : tie.Need-returns Inv-loop μ-loop
 returns c =
@@ -49,9 +43,9 @@ line-of-spec =
     Inv-loop
     μ-loop
     loop-holds
-    rest-requires
+    (λ c κs. search needs)
     sub-left
     loop-less
     loop-again
-    field-requires
+    (λ c κs. search needs)
     returns)

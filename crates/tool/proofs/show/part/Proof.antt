@@ -8,25 +8,10 @@ use Rattle.lines.proofs.FieldLaws.{front-bytes}
 use Rattle.tool.proofs.show.part.Statement.{statement}
 use Rattle.tool.proofs.show.part.Tie as tie
 
-sub-front : tie.Need-sub-front
-sub-front c = search needs
-
-part-front-start : tie.Need-part-front-start
-part-front-start c = search needs
-
-part-front-end : tie.Need-part-front-end
-part-front-end c = search needs
-
-front-requires : tie.Need-front-requires
-front-requires c κs = search needs
-
 returns : tie.Need-returns
 returns c =
     let c4 = c .before .before .before .before in
     front-bytes _ _ (c .front .ensures) ∙ ap (take (c4 .args .n)) (part-rest (c4 .args .s .now) (c4 .args .from))
-
-front-requires-2 : tie.Need-front-requires-2
-front-requires-2 c κs = search needs
 
 returns-2 : tie.Need-returns-2
 returns-2 c =
@@ -37,10 +22,10 @@ pub part-spec : {M : Type 1} → statement M
 part-spec =
     tie.close
     (tie.spec
-    sub-front
-    part-front-start
-    part-front-end
-    front-requires
+    (λ c. search needs)
+    (λ c. search needs)
+    (λ c. search needs)
+    (λ c κs. search needs)
     returns
-    front-requires-2
+    (λ c κs. search needs)
     returns-2)

@@ -6,23 +6,11 @@ use borrow.Author.Needs.{needs}
 use Rattle.tool.proofs.show.put_named.Statement.{statement}
 use Rattle.tool.proofs.show.put_named.Tie as tie
 
-put-byte-requires : tie.Need-put-byte-requires
-put-byte-requires c κs = search needs
-
-put-container-requires : tie.Need-put-container-requires
-put-container-requires c κs = search needs
-
-same-length : tie.Need-same-length
-same-length c = search needs
-
 returns : tie.Need-returns
 returns c =
     let c2 = c .before .before in
     let c7 = c2 .before .before .before .before .before in
     put-same (named-byte (c7 .args .number) (c7 .args .byte) (c7 .args .container) (omega arith) (omega arith)) (c2 .put-byte .ensures)
-
-same-length-2 : tie.Need-same-length-2
-same-length-2 c = search needs
 
 returns-2 : tie.Need-returns-2
 returns-2 c =
@@ -52,11 +40,11 @@ pub put-named-spec : {M : Type 1} → statement M
 put-named-spec =
     tie.close
     (tie.spec
-    put-byte-requires
-    put-container-requires
-    same-length
+    (λ c κs. search needs)
+    (λ c κs. search needs)
+    (λ c. search needs)
     returns
-    same-length-2
+    (λ c. search needs)
     returns-2
     returns-3
     returns-4

@@ -6,54 +6,6 @@ use borrow.Author.Needs.{needs}
 use Rattle.tool.proofs.show.put_refused.Statement.{statement}
 use Rattle.tool.proofs.show.put_refused.Tie as tie
 
-put-text-requires : tie.Need-put-text-requires
-put-text-requires c κs = search needs
-
-element-copy-out-put-mark : tie.Need-element-copy-out-put-mark
-element-copy-out-put-mark c = search needs
-
-element-copy-out-put-mark-2 : tie.Need-element-copy-out-put-mark-2
-element-copy-out-put-mark-2 c = search needs
-
-put-mark-requires : tie.Need-put-mark-requires
-put-mark-requires c κs = search needs
-
-slice-aggregate-put-bytes : tie.Need-slice-aggregate-put-bytes
-slice-aggregate-put-bytes c = search needs
-
-put-bytes-requires : tie.Need-put-bytes-requires
-put-bytes-requires c κs = search needs
-
-element-copy-out-put-number : tie.Need-element-copy-out-put-number
-element-copy-out-put-number c = search needs
-
-put-number-requires : tie.Need-put-number-requires
-put-number-requires c κs = search needs
-
-slice-aggregate-put-bytes-2 : tie.Need-slice-aggregate-put-bytes-2
-slice-aggregate-put-bytes-2 c = search needs
-
-put-bytes-requires-2 : tie.Need-put-bytes-requires-2
-put-bytes-requires-2 c κs = search needs
-
-element-copy-out-put-reason : tie.Need-element-copy-out-put-reason
-element-copy-out-put-reason c = search needs
-
-put-reason-requires : tie.Need-put-reason-requires
-put-reason-requires c κs = search needs
-
-element-copy-out-put-named : tie.Need-element-copy-out-put-named
-element-copy-out-put-named c = search needs
-
-element-copy-out-put-named-2 : tie.Need-element-copy-out-put-named-2
-element-copy-out-put-named-2 c = search needs
-
-element-copy-out-put-named-3 : tie.Need-element-copy-out-put-named-3
-element-copy-out-put-named-3 c = search needs
-
-put-named-requires : tie.Need-put-named-requires
-put-named-requires c κs = search needs
-
 same-length : tie.Need-same-length
 same-length c =
     let c2 = c .before .before in
@@ -85,21 +37,21 @@ pub put-refused-spec : {M : Type 1} → statement M
 put-refused-spec =
     tie.close
     (tie.spec
-    put-text-requires
-    element-copy-out-put-mark
-    element-copy-out-put-mark-2
-    put-mark-requires
-    slice-aggregate-put-bytes
-    put-bytes-requires
-    element-copy-out-put-number
-    put-number-requires
-    slice-aggregate-put-bytes-2
-    put-bytes-requires-2
-    element-copy-out-put-reason
-    put-reason-requires
-    element-copy-out-put-named
-    element-copy-out-put-named-2
-    element-copy-out-put-named-3
-    put-named-requires
+    (λ c κs. search needs)
+    (λ c. search needs)
+    (λ c. search needs)
+    (λ c κs. search needs)
+    (λ c. search needs)
+    (λ c κs. search needs)
+    (λ c. search needs)
+    (λ c κs. search needs)
+    (λ c. search needs)
+    (λ c κs. search needs)
+    (λ c. search needs)
+    (λ c κs. search needs)
+    (λ c. search needs)
+    (λ c. search needs)
+    (λ c. search needs)
+    (λ c κs. search needs)
     same-length
     returns)

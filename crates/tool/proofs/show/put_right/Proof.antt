@@ -5,27 +5,6 @@ use borrow.Author.Needs.{needs}
 use Rattle.tool.proofs.show.put_right.Statement.{statement}
 use Rattle.tool.proofs.show.put_right.Tie as tie
 
-static-int-str-len-requires : tie.Need-static-int-str-len-requires
-static-int-str-len-requires c κs = search needs
-
-static-int-str-len-requires-2 : tie.Need-static-int-str-len-requires-2
-static-int-str-len-requires-2 c κs = search needs
-
-slice-aggregate-put-times : tie.Need-slice-aggregate-put-times
-slice-aggregate-put-times c = search needs
-
-sub-put-times : tie.Need-sub-put-times
-sub-put-times c = search needs
-
-put-times-requires : tie.Need-put-times-requires
-put-times-requires c κs = search needs
-
-put-number-requires : tie.Need-put-number-requires
-put-number-requires c κs = search needs
-
-same-length : tie.Need-same-length
-same-length c = search needs
-
 returns : tie.Need-returns
 returns c =
     let c2 = c .before .before in
@@ -35,12 +14,6 @@ returns c =
     let c13 = c11 .before .before in
     put-same (right-short (c13 .args .n) (c13 .args .widest) (c10 .static-int-str-len2 .result) (c11 .static-int-str-len .result)
     (c10 .static-int-str-len2 .ensures) (c11 .static-int-str-len .ensures)) (put-append _ _ (c6 .put-times .ensures) (c2 .put-number .ensures))
-
-put-number-requires-2 : tie.Need-put-number-requires-2
-put-number-requires-2 c κs = search needs
-
-same-length-2 : tie.Need-same-length-2
-same-length-2 c = search needs
 
 returns-2 : tie.Need-returns-2
 returns-2 c =
@@ -56,14 +29,14 @@ pub put-right-spec : {M : Type 1} → statement M
 put-right-spec =
     tie.close
     (tie.spec
-    static-int-str-len-requires
-    static-int-str-len-requires-2
-    slice-aggregate-put-times
-    sub-put-times
-    put-times-requires
-    put-number-requires
-    same-length
+    (λ c κs. search needs)
+    (λ c κs. search needs)
+    (λ c. search needs)
+    (λ c. search needs)
+    (λ c κs. search needs)
+    (λ c κs. search needs)
+    (λ c. search needs)
     returns
-    put-number-requires-2
-    same-length-2
+    (λ c κs. search needs)
+    (λ c. search needs)
     returns-2)

@@ -6,33 +6,12 @@ use Rattle.lines.proofs.FieldLaws.{front-bytes}
 use Rattle.tool.proofs.show.put_text.Statement.{statement}
 use Rattle.tool.proofs.show.put_text.Tie as tie
 
-put-shown-requires : tie.Need-put-shown-requires
-put-shown-requires c κs = search needs
-
-same-length : tie.Need-same-length
-same-length c = search needs
-
 returns : tie.Need-returns
 returns c =
     let c2 = c .before .before in
     let c4 = c2 .before .before in
     let c7 = c4 .before .before .before in
     put-same (text-whole (c7 .args .text .now) (c4 .if1 .taken)) (c2 .put-shown .ensures)
-
-front-requires : tie.Need-front-requires
-front-requires c κs = search needs
-
-put-shown-requires-2 : tie.Need-put-shown-requires-2
-put-shown-requires-2 c κs = search needs
-
-slice-aggregate-put-bytes : tie.Need-slice-aggregate-put-bytes
-slice-aggregate-put-bytes c = search needs
-
-put-bytes-requires : tie.Need-put-bytes-requires
-put-bytes-requires c κs = search needs
-
-same-length-2 : tie.Need-same-length-2
-same-length-2 c = search needs
 
 returns-2 : tie.Need-returns-2
 returns-2 c =
@@ -48,12 +27,12 @@ pub put-text-spec : {M : Type 1} → statement M
 put-text-spec =
     tie.close
     (tie.spec
-    put-shown-requires
-    same-length
+    (λ c κs. search needs)
+    (λ c. search needs)
     returns
-    front-requires
-    put-shown-requires-2
-    slice-aggregate-put-bytes
-    put-bytes-requires
-    same-length-2
+    (λ c κs. search needs)
+    (λ c κs. search needs)
+    (λ c. search needs)
+    (λ c κs. search needs)
+    (λ c. search needs)
     returns-2)

@@ -19,9 +19,6 @@ abbrev μ-loop : tie.MeasureT-loop
 loop-holds : tie.Need-loop-holds Inv-loop μ-loop
 loop-holds c = (to-put _ _ _, refl)
 
-put-bytes-requires : tie.Need-put-bytes-requires Inv-loop μ-loop
-put-bytes-requires c κs = search needs
-
 sub-left : tie.Need-sub-left Inv-loop μ-loop
 sub-left c = omega arith
 
@@ -54,7 +51,7 @@ put-times-spec =
     Inv-loop
     μ-loop
     loop-holds
-    put-bytes-requires
+    (λ c κs. search needs)
     sub-left
     loop-less
     loop-again
