@@ -12,12 +12,9 @@ use Rattle.kinds.specs.Primitive.{codes, code, isObject, equivalent}
 use Rattle.kinds.specs.Print.{fields, printNode, print}
 use Rattle.kinds.specs.Size.{bitBytes, sum, largest, only, nodeSize, sizes, size}
 use Rattle.kinds.specs.Tree.{isEnd, isOne, kind, name, isContainer, keep}
+use Rattle.agreement.proofs.ByteLaws.{_also_}
 use Rattle.agreement.specs.MarkedCases.{refusalOf, AllHold, markedCases}
 use Rattle.agreement.specs.ReadTree.{trees, readTree}
-
-infixr 4 _and_
-abbrev _and_ : {A B : Type 0} → A → B → A × B
-a and b = (a, b)
 
 pub all-hold : AllHold markedCases
 unfolding markedCases refusalOf trees readTree among sameBytes isDigit lengthOrOffset bits compareLabels compareChildren compareEncodings equivalentTo _then_ orElse
@@ -27,9 +24,9 @@ unfolding markedCases refusalOf trees readTree among sameBytes isDigit lengthOrO
     stripLeadingQualifiers encodingOrNone parseEncodingOrNone whole fromStr unknownDigit fromStart fromStartOfStr codes code isObject equivalent fields printNode print
     bitBytes sum largest only nodeSize sizes size isEnd isOne kind name isContainer keep
 all-hold =
-    refl and refl and refl and refl and refl and refl
-    and (refl, refl) and (refl, refl) and (refl, refl)
-    and (refl, refl) and (refl, refl) and (refl, refl, refl) and (refl, refl)
-    and (refl, refl)
-    and refl
-    and tt
+    refl also refl also refl also refl also refl also refl
+    also (refl, refl) also (refl, refl) also (refl, refl)
+    also (refl, refl) also (refl, refl) also (refl, refl, refl) also (refl, refl)
+    also (refl, refl)
+    also refl
+    also tt
