@@ -109,22 +109,6 @@ expect-encoding-shared-slice-read-kind t c =
     let g = c6 .good .0 in
     omega arith
 
-expect-encoding-own-byte-requires : (t : ℕ) → expect-encoding-lts.Need-own-byte-requires (expect-encoding-claims t) (expect-encoding-at t) expect-encoding.Post
-    expect-encoding-Inv-loop expect-encoding-μ-loop
-expect-encoding-own-byte-requires t c κs = search needs
-
-expect-encoding-expect-byte-requires : (t : ℕ) → expect-encoding-lts.Need-expect-byte-requires (expect-encoding-claims t) (expect-encoding-at t)
-    expect-encoding.Post expect-encoding-Inv-loop expect-encoding-μ-loop
-expect-encoding-expect-byte-requires t c κs = search needs
-
-expect-encoding-enum-known-to : (t : ℕ) → expect-encoding-lts.Need-enum-known-to (expect-encoding-claims t) (expect-encoding-at t) expect-encoding.Post
-    expect-encoding-Inv-loop expect-encoding-μ-loop
-expect-encoding-enum-known-to t c = search needs
-
-expect-encoding-enum-told : (t : ℕ) → expect-encoding-lts.Need-enum-told (expect-encoding-claims t) (expect-encoding-at t) expect-encoding.Post
-    expect-encoding-Inv-loop expect-encoding-μ-loop
-expect-encoding-enum-told t c = search needs
-
 expect-encoding-returns : (t : ℕ) → expect-encoding-lts.Need-returns (expect-encoding-claims t) (expect-encoding-at t) expect-encoding.Post
     expect-encoding-Inv-loop expect-encoding-μ-loop
 expect-encoding-returns t c =
@@ -155,10 +139,6 @@ expect-encoding-sub-left t c =
     let b = left-bounds (c8 .loop .inv .1) (c7 .loop-test .taken) in
     let g = c12 .good .0 in
     omega arith
-
-expect-encoding-level-after-requires : (t : ℕ) → expect-encoding-lts.Need-level-after-requires (expect-encoding-claims t) (expect-encoding-at t)
-    expect-encoding.Post expect-encoding-Inv-loop expect-encoding-μ-loop
-expect-encoding-level-after-requires t c κs = search needs
 
 expect-encoding-loop-less : (t : ℕ) → expect-encoding-lts.Need-loop-less (expect-encoding-claims t) (expect-encoding-at t) expect-encoding.Post
     expect-encoding-Inv-loop expect-encoding-μ-loop
@@ -231,14 +211,6 @@ expect-encoding-expect-node-requires t c κs =
       ),
     )
 
-expect-encoding-enum-known-next : (t : ℕ) → expect-encoding-lts.Need-enum-known-next (expect-encoding-claims t) (expect-encoding-at t) expect-encoding.Post
-    expect-encoding-Inv-loop expect-encoding-μ-loop
-expect-encoding-enum-known-next t c = search needs
-
-expect-encoding-enum-told-2 : (t : ℕ) → expect-encoding-lts.Need-enum-told-2 (expect-encoding-claims t) (expect-encoding-at t) expect-encoding.Post
-    expect-encoding-Inv-loop expect-encoding-μ-loop
-expect-encoding-enum-told-2 t c = search needs
-
 expect-encoding-returns-2 : (t : ℕ) → expect-encoding-lts.Need-returns-2 (expect-encoding-claims t) (expect-encoding-at t) expect-encoding.Post
     expect-encoding-Inv-loop expect-encoding-μ-loop
 expect-encoding-returns-2 t c =
@@ -308,15 +280,6 @@ expect-node-open-node-requires t c κs =
     let s = p .0 .some-node in
     ((p .0, walk-here _ _ _ _ (p .1) (omega arith), p .2), c3 .pre .1 .1)
 
-expect-node-enum-told : (t : ℕ) → expect-node-lts.Need-enum-told (expect-node-claims t) (expect-node-at t) expect-node.Post
-expect-node-enum-told t c = search needs
-
-expect-node-enum-known-to : (t : ℕ) → expect-node-lts.Need-enum-known-to (expect-node-claims t) (expect-node-at t) expect-node.Post
-expect-node-enum-known-to t c = search needs
-
-expect-node-enum-known-to-2 : (t : ℕ) → expect-node-lts.Need-enum-known-to-2 (expect-node-claims t) (expect-node-at t) expect-node.Post
-expect-node-enum-known-to-2 t c = search needs
-
 expect-node-add-m : (t : ℕ) → expect-node-lts.Need-add-m (expect-node-claims t) (expect-node-at t) expect-node.Post
 expect-node-add-m t c =
     let h = c .before .before .before .before .before .before .before .pre .1 .0 .0 in
@@ -337,39 +300,10 @@ expect-node-sub-m t c =
     let h = c .before .before .before .before .before .before .before .before .pre .1 .0 .0 in
     omega arith
 
-expect-node-sub-expect-encoding : (t : ℕ) → expect-node-lts.Need-sub-expect-encoding (expect-node-claims t) (expect-node-at t) expect-node.Post
-expect-node-sub-expect-encoding t c = search needs
-
-expect-node-part-expect-encoding-start : (t : ℕ) → expect-node-lts.Need-part-expect-encoding-start (expect-node-claims t) (expect-node-at t) expect-node.Post
-expect-node-part-expect-encoding-start t c = search needs
-
-expect-node-part-expect-encoding-end : (t : ℕ) → expect-node-lts.Need-part-expect-encoding-end (expect-node-claims t) (expect-node-at t) expect-node.Post
-expect-node-part-expect-encoding-end t c = search needs
-
-expect-node-sub-expect-encoding-2 : (t : ℕ) → expect-node-lts.Need-sub-expect-encoding-2 (expect-node-claims t) (expect-node-at t) expect-node.Post
-expect-node-sub-expect-encoding-2 t c = search needs
-
-expect-node-part-expect-encoding-start-2 : (t : ℕ) → expect-node-lts.Need-part-expect-encoding-start-2 (expect-node-claims t) (expect-node-at t)
-    expect-node.Post
-expect-node-part-expect-encoding-start-2 t c = search needs
-
-expect-node-part-expect-encoding-end-2 : (t : ℕ) → expect-node-lts.Need-part-expect-encoding-end-2 (expect-node-claims t) (expect-node-at t) expect-node.Post
-expect-node-part-expect-encoding-end-2 t c = search needs
-
 expect-node-add-expect-encoding : (t : ℕ) → expect-node-lts.Need-add-expect-encoding (expect-node-claims t) (expect-node-at t) expect-node.Post
 expect-node-add-expect-encoding t c =
     let h = c .before .before .before .before .before .before .before .before .before .before .pre .1 .0 .0 in
     omega arith
-
-expect-node-sub-expect-encoding-3 : (t : ℕ) → expect-node-lts.Need-sub-expect-encoding-3 (expect-node-claims t) (expect-node-at t) expect-node.Post
-expect-node-sub-expect-encoding-3 t c = search needs
-
-expect-node-part-expect-encoding-start-3 : (t : ℕ) → expect-node-lts.Need-part-expect-encoding-start-3 (expect-node-claims t) (expect-node-at t)
-    expect-node.Post
-expect-node-part-expect-encoding-start-3 t c = search needs
-
-expect-node-part-expect-encoding-end-3 : (t : ℕ) → expect-node-lts.Need-part-expect-encoding-end-3 (expect-node-claims t) (expect-node-at t) expect-node.Post
-expect-node-part-expect-encoding-end-3 t c = search needs
 
 expect-node-expect-encoding-requires : (t : ℕ) → expect-node-lts.Need-expect-encoding-requires (expect-node-claims t) (expect-node-at t) expect-node.Post
 expect-node-expect-encoding-requires t c κs =
@@ -454,22 +388,22 @@ pub +expect-encoding+expect-node-spec : {M : Type 1} → statement M
     (expect-encoding-loop-holds t)
     (expect-encoding-mul-kind t)
     (expect-encoding-shared-slice-read-kind t)
-    (expect-encoding-own-byte-requires t)
-    (expect-encoding-expect-byte-requires t)
-    (expect-encoding-enum-known-to t)
-    (expect-encoding-enum-told t)
+    (λ c κs. search needs)
+    (λ c κs. search needs)
+    (λ c. search needs)
+    (λ c. search needs)
     (expect-encoding-returns t)
     (expect-encoding-add-at t)
     (expect-encoding-sub-left t)
-    (expect-encoding-level-after-requires t)
+    (λ c κs. search needs)
     (expect-encoding-loop-less t)
     (expect-encoding-loop-again t)
     (expect-encoding-add-count t)
     (expect-encoding-mul-count t)
     (expect-encoding-shared-slice-read-count t)
     (expect-encoding-expect-node-requires t)
-    (expect-encoding-enum-known-next t)
-    (expect-encoding-enum-told-2 t)
+    (λ c. search needs)
+    (λ c. search needs)
     (expect-encoding-returns-2 t)
     (expect-encoding-mul-at t)
     (expect-encoding-add-at-2 t)
@@ -481,23 +415,23 @@ pub +expect-encoding+expect-node-spec : {M : Type 1} → statement M
     (expect-node-at t)
     expect-node.Post
     (expect-node-open-node-requires t)
-    (expect-node-enum-told t)
-    (expect-node-enum-known-to t)
-    (expect-node-enum-known-to-2 t)
+    (λ c. search needs)
+    (λ c. search needs)
+    (λ c. search needs)
     (expect-node-add-m t)
     (expect-node-mul-m t)
     (expect-node-shared-slice-read-m t)
     (expect-node-sub-m t)
-    (expect-node-sub-expect-encoding t)
-    (expect-node-part-expect-encoding-start t)
-    (expect-node-part-expect-encoding-end t)
-    (expect-node-sub-expect-encoding-2 t)
-    (expect-node-part-expect-encoding-start-2 t)
-    (expect-node-part-expect-encoding-end-2 t)
+    (λ c. search needs)
+    (λ c. search needs)
+    (λ c. search needs)
+    (λ c. search needs)
+    (λ c. search needs)
+    (λ c. search needs)
     (expect-node-add-expect-encoding t)
-    (expect-node-sub-expect-encoding-3 t)
-    (expect-node-part-expect-encoding-start-3 t)
-    (expect-node-part-expect-encoding-end-3 t)
+    (λ c. search needs)
+    (λ c. search needs)
+    (λ c. search needs)
     (expect-node-expect-encoding-requires t)
     (expect-node-mul-close-node t)
     (expect-node-shared-slice-read-close-node t)

@@ -3,12 +3,6 @@ use Rattle.expect.proofs.TextLaws.{same-outcome, then-mismatch, then-re
 use Rattle.expect.proofs.close_node.Statement.{statement}
 use Rattle.expect.proofs.close_node.Tie as tie
 
-enum-told : tie.Need-enum-told
-enum-told c = search needs
-
-enum-known-after : tie.Need-enum-known-after
-enum-known-after c = search needs
-
 expect-closing-requires : tie.Need-expect-closing-requires
 expect-closing-requires c κs =
     let c4 = c .before .before .before .before in
@@ -23,4 +17,4 @@ returns-2 c = λ q h. let n = rw (c .before .before .after .given .1) at h in sa
 
 pub close-node-spec : {M : Type 1} → statement M
 close-node-spec =
-    tie.close (tie.spec enum-told enum-known-after expect-closing-requires returns returns-2)
+    tie.close (tie.spec (λ c. search needs) (λ c. search needs) expect-closing-requires returns returns-2)

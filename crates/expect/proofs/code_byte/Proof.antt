@@ -8,12 +8,9 @@ use Rattle.expect.proofs.code_byte.Tie as tie
 returns : tie.Need-returns
 returns c = sym (code-beyond _ (c .if1 .taken))
 
-array-read-result : tie.Need-array-read-result
-array-read-result c = search needs
-
 returns-2 : tie.Need-returns-2
 unfolding codeByte
 returns-2 c = refl
 
 pub code-byte-spec : {M : Type 1} → statement M
-code-byte-spec = tie.close (tie.spec returns array-read-result returns-2)
+code-byte-spec = tie.close (tie.spec returns (λ c. search needs) returns-2)

@@ -12,18 +12,6 @@ use borrow.Author.Needs.{needs}
 use Rattle.expect.proofs.code_matches.Statement.{statement}
 use Rattle.expect.proofs.code_matches.Tie as tie
 
-strip-leading-qualifiers-requires : tie.Need-strip-leading-qualifiers-requires
-strip-leading-qualifiers-requires c κs = search needs
-
-code-byte-requires : tie.Need-code-byte-requires
-code-byte-requires c κs = search needs
-
-expect-byte-requires : tie.Need-expect-byte-requires
-expect-byte-requires c κs = search needs
-
-decide-requires : tie.Need-decide-requires
-decide-requires c κs = search needs
-
 returns : tie.Need-returns
 returns c =
     let c2 = c .before .before in
@@ -41,21 +29,6 @@ returns c =
     (code-walk text k (drop start text) r (same-outcome text r _ _ e (c .before .expect-byte .ensures)))
     (c .decide .ensures)
 
-sub-expect-primitive : tie.Need-sub-expect-primitive
-sub-expect-primitive c = search needs
-
-part-expect-primitive-start : tie.Need-part-expect-primitive-start
-part-expect-primitive-start c = search needs
-
-part-expect-primitive-end : tie.Need-part-expect-primitive-end
-part-expect-primitive-end c = search needs
-
-expect-primitive-requires : tie.Need-expect-primitive-requires
-expect-primitive-requires c κs = search needs
-
-decide-requires-2 : tie.Need-decide-requires-2
-decide-requires-2 c κs = search needs
-
 returns-2 : tie.Need-returns-2
 returns-2 c =
     let c5 = c .before .before .before .before .before in
@@ -72,14 +45,14 @@ pub code-matches-spec : {M : Type 1} → statement M
 code-matches-spec =
     tie.close
     (tie.spec
-    strip-leading-qualifiers-requires
-    code-byte-requires
-    expect-byte-requires
-    decide-requires
+    (λ c κs. search needs)
+    (λ c κs. search needs)
+    (λ c κs. search needs)
+    (λ c κs. search needs)
     returns
-    sub-expect-primitive
-    part-expect-primitive-start
-    part-expect-primitive-end
-    expect-primitive-requires
-    decide-requires-2
+    (λ c. search needs)
+    (λ c. search needs)
+    (λ c. search needs)
+    (λ c κs. search needs)
+    (λ c κs. search needs)
     returns-2)

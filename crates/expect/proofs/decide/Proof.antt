@@ -5,12 +5,6 @@ use Rattle.expect.proofs.WalkLaws.{empty-off, empty-end}
 use Rattle.expect.proofs.decide.Statement.{statement}
 use Rattle.expect.proofs.decide.Tie as tie
 
-enum-told : tie.Need-enum-told
-enum-told c = search needs
-
-enum-known-walked : tie.Need-enum-known-walked
-enum-known-walked c = search needs
-
 returns : tie.Need-returns
 returns c = λ q h. sym (ap isEmpty (rw (c .enum-told .given .1) at h) ∙ empty-off)
 
@@ -20,4 +14,4 @@ returns-2 c =
     λ q h. let n = rw (c .before .walked .given .1) at h in sym (ap isEmpty (n .0) ∙ empty-end (c3 .args .text .now) _ (n .1))
 
 pub decide-spec : {M : Type 1} → statement M
-decide-spec = tie.close (tie.spec enum-told enum-known-walked returns returns-2)
+decide-spec = tie.close (tie.spec (λ c. search needs) (λ c. search needs) returns returns-2)

@@ -11,48 +11,6 @@ returns c =
     let c4 = c .before .before .before .before in
     too-long (c4 .args .words .now) (c4 .args .names .now) (c4 .args .text .now) (c .if1 .taken)
 
-sub-check : tie.Need-sub-check
-sub-check c = search needs
-
-part-check-start : tie.Need-part-check-start
-part-check-start c = search needs
-
-part-check-end : tie.Need-part-check-end
-part-check-end c = search needs
-
-sub-check-2 : tie.Need-sub-check-2
-sub-check-2 c = search needs
-
-part-check-start-2 : tie.Need-part-check-start-2
-part-check-start-2 c = search needs
-
-part-check-end-2 : tie.Need-part-check-end-2
-part-check-end-2 c = search needs
-
-check-requires : tie.Need-check-requires
-check-requires c κs = search needs
-
-enum-known-why : tie.Need-enum-known-why
-enum-known-why c = search needs
-
-enum-known-kind : tie.Need-enum-known-kind
-enum-known-kind c = search needs
-
-sub-code-matches : tie.Need-sub-code-matches
-sub-code-matches c = search needs
-
-part-code-matches-start : tie.Need-part-code-matches-start
-part-code-matches-start c = search needs
-
-part-code-matches-end : tie.Need-part-code-matches-end
-part-code-matches-end c = search needs
-
-code-matches-requires : tie.Need-code-matches-requires
-code-matches-requires c κs = search needs
-
-enum-known-first : tie.Need-enum-known-first
-enum-known-first c = search needs
-
 mul-tree-matches : tie.Need-mul-tree-matches
 mul-tree-matches c =
     let c3 = c .before .before .before in
@@ -67,27 +25,6 @@ part-tree-matches-start : tie.Need-part-tree-matches-start
 part-tree-matches-start c =
     let c3 = c .before .before .before in
     let h = (given-nodes _ _ (rw (whole, whole) at (c3 .check .ensures .1)) (c .before .first .given .1)) in omega (arith, h .starts)
-
-part-tree-matches-end : tie.Need-part-tree-matches-end
-part-tree-matches-end c = search needs
-
-sub-tree-matches-2 : tie.Need-sub-tree-matches-2
-sub-tree-matches-2 c = search needs
-
-part-tree-matches-start-2 : tie.Need-part-tree-matches-start-2
-part-tree-matches-start-2 c = search needs
-
-part-tree-matches-end-2 : tie.Need-part-tree-matches-end-2
-part-tree-matches-end-2 c = search needs
-
-sub-tree-matches-3 : tie.Need-sub-tree-matches-3
-sub-tree-matches-3 c = search needs
-
-part-tree-matches-start-3 : tie.Need-part-tree-matches-start-3
-part-tree-matches-start-3 c = search needs
-
-part-tree-matches-end-3 : tie.Need-part-tree-matches-end-3
-part-tree-matches-end-3 c = search needs
 
 tree-matches-requires : tie.Need-tree-matches-requires
 tree-matches-requires c κs =
@@ -126,30 +63,30 @@ equivalent-to-str-spec =
     tie.close
     (tie.spec
     returns
-    sub-check
-    part-check-start
-    part-check-end
-    sub-check-2
-    part-check-start-2
-    part-check-end-2
-    check-requires
-    enum-known-why
-    enum-known-kind
-    sub-code-matches
-    part-code-matches-start
-    part-code-matches-end
-    code-matches-requires
-    enum-known-first
+    (λ c. search needs)
+    (λ c. search needs)
+    (λ c. search needs)
+    (λ c. search needs)
+    (λ c. search needs)
+    (λ c. search needs)
+    (λ c κs. search needs)
+    (λ c. search needs)
+    (λ c. search needs)
+    (λ c. search needs)
+    (λ c. search needs)
+    (λ c. search needs)
+    (λ c κs. search needs)
+    (λ c. search needs)
     mul-tree-matches
     sub-tree-matches
     part-tree-matches-start
-    part-tree-matches-end
-    sub-tree-matches-2
-    part-tree-matches-start-2
-    part-tree-matches-end-2
-    sub-tree-matches-3
-    part-tree-matches-start-3
-    part-tree-matches-end-3
+    (λ c. search needs)
+    (λ c. search needs)
+    (λ c. search needs)
+    (λ c. search needs)
+    (λ c. search needs)
+    (λ c. search needs)
+    (λ c. search needs)
     tree-matches-requires
     returns-2
     returns-3

@@ -24,12 +24,6 @@ returns c =
     c2 .loop .inv .0 ∙ bytes-off _ _ (c3 .args .text .now) (c2 .loop .to) (c .before .loop-test .taken)
     (byte-end _ (c3 .args .text .now) (c2 .loop .to) (c .if1 .taken))
 
-shared-slice-read-if2 : tie.Need-shared-slice-read-if2 Inv-loop μ-loop
-shared-slice-read-if2 c = search needs
-
-shared-slice-read-if2-2 : tie.Need-shared-slice-read-if2-2 Inv-loop μ-loop
-shared-slice-read-if2-2 c = search needs
-
 returns-2 : tie.Need-returns-2 Inv-loop μ-loop
 returns-2 c =
     let c3 = c .before .before .before in
@@ -38,12 +32,6 @@ returns-2 c =
     let c6 = c5 .before in
     c5 .loop .inv .0 ∙ bytes-off _ _ (c6 .args .text .now) (c5 .loop .to) (c4 .loop-test .taken)
     (byte-other _ (c6 .args .text .now) (c5 .loop .to) (c3 .if1 .left) (c .if2 .taken))
-
-add-i : tie.Need-add-i Inv-loop μ-loop
-add-i c = search needs
-
-add-to : tie.Need-add-to Inv-loop μ-loop
-add-to c = search needs
 
 loop-less : tie.Need-loop-less Inv-loop μ-loop
 loop-less c = search needs
@@ -69,11 +57,11 @@ expect-bytes-spec =
     μ-loop
     loop-holds
     returns
-    shared-slice-read-if2
-    shared-slice-read-if2-2
+    (λ c. search needs)
+    (λ c. search needs)
     returns-2
-    add-i
-    add-to
+    (λ c. search needs)
+    (λ c. search needs)
     loop-less
     loop-again
     returns-3)

@@ -8,30 +8,6 @@ use Rattle.expect.proofs.TextLaws.{code-none, same-outcome, code-one, c
 use Rattle.expect.proofs.expect_code.Statement.{statement}
 use Rattle.expect.proofs.expect_code.Tie as tie
 
-enum-told : tie.Need-enum-told
-enum-told c = search needs
-
-enum-known-code : tie.Need-enum-known-code
-enum-known-code c = search needs
-
-expect-byte-requires : tie.Need-expect-byte-requires
-expect-byte-requires c κs = search needs
-
-enum-known-code-2 : tie.Need-enum-known-code-2
-enum-known-code-2 c = search needs
-
-expect-byte-requires-2 : tie.Need-expect-byte-requires-2
-expect-byte-requires-2 c κs = search needs
-
-enum-told-2 : tie.Need-enum-told-2
-enum-told-2 c = search needs
-
-enum-known-to : tie.Need-enum-known-to
-enum-known-to c = search needs
-
-expect-byte-requires-3 : tie.Need-expect-byte-requires-3
-expect-byte-requires-3 c κs = search needs
-
 returns : tie.Need-returns
 returns c =
     let c3 = c .before .before .before in
@@ -66,14 +42,14 @@ pub expect-code-spec : {M : Type 1} → statement M
 expect-code-spec =
     tie.close
     (tie.spec
-    enum-told
-    enum-known-code
-    expect-byte-requires
-    enum-known-code-2
-    expect-byte-requires-2
-    enum-told-2
-    enum-known-to
-    expect-byte-requires-3
+    (λ c. search needs)
+    (λ c. search needs)
+    (λ c κs. search needs)
+    (λ c. search needs)
+    (λ c κs. search needs)
+    (λ c. search needs)
+    (λ c. search needs)
+    (λ c κs. search needs)
     returns
     returns-2
     returns-3

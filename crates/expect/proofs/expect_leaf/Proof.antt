@@ -5,22 +5,10 @@ use Rattle.expect.proofs.TextLaws.{same-outcome, then-mismatch, then-re
 use Rattle.expect.proofs.expect_leaf.Statement.{statement}
 use Rattle.expect.proofs.expect_leaf.Tie as tie
 
-expect-primitive-requires : tie.Need-expect-primitive-requires
-expect-primitive-requires c κs = search needs
-
 returns : tie.Need-returns
 returns c =
     let c3 = c .before .before .before in
     same-outcome _ (c .expect-primitive .result) _ _ (rw (le-leb (c3 .args .kind) 23 (omega (arith, c .before .if1 .taken)))) (c .expect-primitive .ensures)
-
-expect-byte-requires : tie.Need-expect-byte-requires
-expect-byte-requires c κs = search needs
-
-enum-known-to : tie.Need-enum-known-to
-enum-known-to c = search needs
-
-enum-told : tie.Need-enum-told
-enum-told c = search needs
 
 returns-2 : tie.Need-returns-2
 returns-2 c =
@@ -47,11 +35,11 @@ pub expect-leaf-spec : {M : Type 1} → statement M
 expect-leaf-spec =
     tie.close
     (tie.spec
-    expect-primitive-requires
+    (λ c κs. search needs)
     returns
-    expect-byte-requires
-    enum-known-to
-    enum-told
+    (λ c κs. search needs)
+    (λ c. search needs)
+    (λ c. search needs)
     returns-2
     expect-u8-requires
     returns-3)

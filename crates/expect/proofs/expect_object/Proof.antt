@@ -7,12 +7,6 @@ use Rattle.expect.proofs.expect_object.Tie as tie
 returns : tie.Need-returns
 returns c = object-end _ _ (c .if1 .taken)
 
-shared-slice-read-b : tie.Need-shared-slice-read-b
-shared-slice-read-b c = search needs
-
-add-t9 : tie.Need-add-t9
-add-t9 c = search needs
-
 returns-2 : tie.Need-returns-2
 returns-2 c = (object-class _ _ (c .before .before .if1 .left) (c .if2 .taken), omega arith)
 
@@ -21,19 +15,10 @@ returns-3 c =
     let c3 = c .before .before .before in
     object-other _ _ (c3 .if1 .left) (c .before .if2 .left) (c .if3 .taken)
 
-add-next : tie.Need-add-next
-add-next c = search needs
-
 returns-4 : tie.Need-returns-4
 returns-4 c =
     let c4 = c .before .before .before .before in
     (object-last _ _ (c4 .if1 .left) (omega (arith, c .before .if3 .left)) (c .if4 .taken), omega arith)
-
-shared-slice-read-if5 : tie.Need-shared-slice-read-if5
-shared-slice-read-if5 c = search needs
-
-add-t11 : tie.Need-add-t11
-add-t11 c = search needs
 
 returns-5 : tie.Need-returns-5
 returns-5 c =
@@ -54,13 +39,13 @@ expect-object-spec =
     tie.close
     (tie.spec
     returns
-    shared-slice-read-b
-    add-t9
+    (λ c. search needs)
+    (λ c. search needs)
     returns-2
     returns-3
-    add-next
+    (λ c. search needs)
     returns-4
-    shared-slice-read-if5
-    add-t11
+    (λ c. search needs)
+    (λ c. search needs)
     returns-5
     returns-6)

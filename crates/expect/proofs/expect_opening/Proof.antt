@@ -3,18 +3,6 @@ use Rattle.expect.proofs.TextLaws.{same-outcome, opening-off, opening-m
 use Rattle.expect.proofs.expect_opening.Statement.{statement}
 use Rattle.expect.proofs.expect_opening.Tie as tie
 
-opening-byte-requires : tie.Need-opening-byte-requires
-opening-byte-requires c κs = search needs
-
-expect-byte-requires : tie.Need-expect-byte-requires
-expect-byte-requires c κs = search needs
-
-enum-known-to : tie.Need-enum-known-to
-enum-known-to c = search needs
-
-enum-told : tie.Need-enum-told
-enum-told c = search needs
-
 returns : tie.Need-returns
 returns c =
     let c2 = c .before .before in
@@ -38,10 +26,10 @@ pub expect-opening-spec : {M : Type 1} → statement M
 expect-opening-spec =
     tie.close
     (tie.spec
-    opening-byte-requires
-    expect-byte-requires
-    enum-known-to
-    enum-told
+    (λ c κs. search needs)
+    (λ c κs. search needs)
+    (λ c. search needs)
+    (λ c. search needs)
     returns
     expect-u64-requires
     returns-2)

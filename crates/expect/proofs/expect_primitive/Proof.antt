@@ -9,15 +9,6 @@ use Rattle.expect.proofs.TextLaws.{same-outcome, primitive-alone, primi
 use Rattle.expect.proofs.expect_primitive.Statement.{statement}
 use Rattle.expect.proofs.expect_primitive.Tie as tie
 
-is-object-requires : tie.Need-is-object-requires
-is-object-requires c κs = search needs
-
-primitive-code-requires : tie.Need-primitive-code-requires
-primitive-code-requires c κs = search needs
-
-expect-code-requires : tie.Need-expect-code-requires
-expect-code-requires c κs = search needs
-
 returns : tie.Need-returns
 returns c =
     let c2 = c .before .before in
@@ -25,15 +16,6 @@ returns c =
     let c5 = c3 .before .before in
     same-outcome _ (c .expect-code .result) _ _ (primitive-alone _ _ (sym (c3 .is-object .ensures) ∙ not-true _ (c2 .if1 .taken))
     ∙ ap (λ (b : List ℕ). expectBytes b (drop (c5 .args .at) (c5 .args .text .now))) (sym (c .before .primitive-code .ensures))) (c .expect-code .ensures)
-
-expect-object-requires : tie.Need-expect-object-requires
-expect-object-requires c κs = search needs
-
-enum-known-to : tie.Need-enum-known-to
-enum-known-to c = search needs
-
-enum-told : tie.Need-enum-told
-enum-told c = search needs
 
 returns-2 : tie.Need-returns-2
 returns-2 c =
@@ -70,13 +52,13 @@ pub expect-primitive-spec : {M : Type 1} → statement M
 expect-primitive-spec =
     tie.close
     (tie.spec
-    is-object-requires
-    primitive-code-requires
-    expect-code-requires
+    (λ c κs. search needs)
+    (λ c κs. search needs)
+    (λ c κs. search needs)
     returns
-    expect-object-requires
-    enum-known-to
-    enum-told
+    (λ c κs. search needs)
+    (λ c. search needs)
+    (λ c. search needs)
     returns-2
     class-name-requires
     returns-3

@@ -5,15 +5,6 @@ use Rattle.expect.proofs.TextLaws.{number-none, number-other, number-is
 use Rattle.expect.proofs.expect_u8.Statement.{statement}
 use Rattle.expect.proofs.expect_u8.Tie as tie
 
-parse-u8-requires : tie.Need-parse-u8-requires
-parse-u8-requires c κs = search needs
-
-enum-told : tie.Need-enum-told
-enum-told c = search needs
-
-enum-known-m : tie.Need-enum-known-m
-enum-known-m c = search needs
-
 returns : tie.Need-returns
 returns c =
     let c2 = c .before .before in
@@ -37,4 +28,4 @@ returns-3 c =
     number-other _ _ _ _ _ (n .0) (c .if1 .left)
 
 pub expect-u8-spec : {M : Type 1} → statement M
-expect-u8-spec = tie.close (tie.spec parse-u8-requires enum-told enum-known-m returns returns-2 returns-3)
+expect-u8-spec = tie.close (tie.spec (λ c κs. search needs) (λ c. search needs) (λ c. search needs) returns returns-2 returns-3)

@@ -10,26 +10,8 @@ use Rattle.expect.proofs.WalkLaws.{by-byte, fields-skipped, fields-clos
 use Rattle.expect.proofs.open_fields.Statement.{statement}
 use Rattle.expect.proofs.open_fields.Tie as tie
 
-expect-byte-requires : tie.Need-expect-byte-requires
-expect-byte-requires c κs = search needs
-
-enum-known-next : tie.Need-enum-known-next
-enum-known-next c = search needs
-
-enum-told : tie.Need-enum-told
-enum-told c = search needs
-
 returns : tie.Need-returns
 returns c = λ i. then-mismatch _ _ (rw (c .enum-told .given .1) at (c .before .before .expect-byte .ensures))
-
-skip-fields-requires : tie.Need-skip-fields-requires
-skip-fields-requires c κs = search needs
-
-enum-told-2 : tie.Need-enum-told-2
-enum-told-2 c = search needs
-
-enum-known-to : tie.Need-enum-known-to
-enum-known-to c = search needs
 
 returns-2 : tie.Need-returns-2
 returns-2 c =
@@ -53,18 +35,6 @@ returns-3 c =
     let n = rw (e .next .given .1) at (e .before .before .expect-byte .ensures) in
     let m = rw (c .before .to .given .1) at (skipped-is T to _ _ (n .1) (k .skip-fields .ensures)) in
     (λ i. fields-skipped (a .kind) _ i (drop (a .at) T) (eq-eqb (a .count) 0 (k .before .if1 .taken)) (drop to T) (n .0) ∙ m .0, m .1)
-
-end-byte-requires : tie.Need-end-byte-requires
-end-byte-requires c κs = search needs
-
-expect-byte-requires-2 : tie.Need-expect-byte-requires-2
-expect-byte-requires-2 c κs = search needs
-
-enum-known-to-2 : tie.Need-enum-known-to-2
-enum-known-to-2 c = search needs
-
-enum-told-3 : tie.Need-enum-told-3
-enum-told-3 c = search needs
 
 returns-4 : tie.Need-returns-4
 returns-4 c =
@@ -99,18 +69,18 @@ pub open-fields-spec : {M : Type 1} → statement M
 open-fields-spec =
     tie.close
     (tie.spec
-    expect-byte-requires
-    enum-known-next
-    enum-told
+    (λ c κs. search needs)
+    (λ c. search needs)
+    (λ c. search needs)
     returns
-    skip-fields-requires
-    enum-told-2
-    enum-known-to
+    (λ c κs. search needs)
+    (λ c. search needs)
+    (λ c. search needs)
     returns-2
     returns-3
-    end-byte-requires
-    expect-byte-requires-2
-    enum-known-to-2
-    enum-told-3
+    (λ c κs. search needs)
+    (λ c κs. search needs)
+    (λ c. search needs)
+    (λ c. search needs)
     returns-4
     returns-5)

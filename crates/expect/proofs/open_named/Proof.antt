@@ -6,18 +6,6 @@ use Rattle.expect.proofs.WalkLaws.{by-byte, same-opened, shown-within, 
 use Rattle.expect.proofs.open_named.Statement.{statement}
 use Rattle.expect.proofs.open_named.Tie as tie
 
-start-byte-requires : tie.Need-start-byte-requires
-start-byte-requires c κs = search needs
-
-expect-byte-requires : tie.Need-expect-byte-requires
-expect-byte-requires c κs = search needs
-
-enum-known-start : tie.Need-enum-known-start
-enum-known-start c = search needs
-
-enum-told : tie.Need-enum-told
-enum-told c = search needs
-
 returns : tie.Need-returns
 returns c =
     let c2 = c .before .before in
@@ -31,12 +19,6 @@ expect-bytes-requires c κs =
     let c3 = c .before .before .before in
     let n = (rw (c .before .start .given .1) at (c3 .expect-byte .ensures)) in n .1
 
-enum-known-next : tie.Need-enum-known-next
-enum-known-next c = search needs
-
-enum-told-2 : tie.Need-enum-told-2
-enum-told-2 c = search needs
-
 returns-2 : tie.Need-returns-2
 returns-2 c =
     let c2 = c .before .before in
@@ -47,30 +29,6 @@ returns-2 c =
     let n = (rw (c4 .start .given .1) at (c6 .expect-byte .ensures)) in λ i. container-misnamed (c10 .args .kind) (c10 .args .name .now) (c10 .args .level)
     (eqb (c10 .args .count) 0) i (drop (c10 .args .at) (c10 .args .text .now)) (drop (c4 .start .given .0 .0) (c10 .args .text .now))
     (by-byte _ _ (drop (c10 .args .at) (c10 .args .text .now)) _ (c7 .start-byte .ensures) (n .0)) (rw (c .enum-told2 .given .1) at (c2 .expect-bytes .ensures))
-
-container-include-fields-requires : tie.Need-container-include-fields-requires
-container-include-fields-requires c κs = search needs
-
-enum-known-inner : tie.Need-enum-known-inner
-enum-known-inner c = search needs
-
-open-fields-requires : tie.Need-open-fields-requires
-open-fields-requires c κs = search needs
-
-enum-told-3 : tie.Need-enum-told-3
-enum-told-3 c = search needs
-
-end-byte-requires : tie.Need-end-byte-requires
-end-byte-requires c κs = search needs
-
-expect-byte-requires-2 : tie.Need-expect-byte-requires-2
-expect-byte-requires-2 c κs = search needs
-
-enum-known-to : tie.Need-enum-known-to
-enum-known-to c = search needs
-
-enum-told-4 : tie.Need-enum-told-4
-enum-told-4 c = search needs
 
 returns-3 : tie.Need-returns-3
 returns-3 c =
@@ -135,23 +93,23 @@ pub open-named-spec : {M : Type 1} → statement M
 open-named-spec =
     tie.close
     (tie.spec
-    start-byte-requires
-    expect-byte-requires
-    enum-known-start
-    enum-told
+    (λ c κs. search needs)
+    (λ c κs. search needs)
+    (λ c. search needs)
+    (λ c. search needs)
     returns
     expect-bytes-requires
-    enum-known-next
-    enum-told-2
+    (λ c. search needs)
+    (λ c. search needs)
     returns-2
-    container-include-fields-requires
-    enum-known-inner
-    open-fields-requires
-    enum-told-3
-    end-byte-requires
-    expect-byte-requires-2
-    enum-known-to
-    enum-told-4
+    (λ c κs. search needs)
+    (λ c. search needs)
+    (λ c κs. search needs)
+    (λ c. search needs)
+    (λ c κs. search needs)
+    (λ c κs. search needs)
+    (λ c. search needs)
+    (λ c. search needs)
     returns-3
     returns-4
     returns-5)

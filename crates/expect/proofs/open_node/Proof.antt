@@ -8,39 +8,6 @@ use Rattle.expect.proofs.WalkLaws.{leaf-is, none-is, around-off, around
 use Rattle.expect.proofs.open_node.Statement.{statement}
 use Rattle.expect.proofs.open_node.Tie as tie
 
-mul-kind : tie.Need-mul-kind
-mul-kind c = search needs
-
-shared-slice-read-kind : tie.Need-shared-slice-read-kind
-shared-slice-read-kind c = search needs
-
-add-expect-leaf : tie.Need-add-expect-leaf
-add-expect-leaf c = search needs
-
-mul-expect-leaf : tie.Need-mul-expect-leaf
-mul-expect-leaf c = search needs
-
-shared-slice-read-expect-leaf : tie.Need-shared-slice-read-expect-leaf
-shared-slice-read-expect-leaf c = search needs
-
-sub-expect-leaf : tie.Need-sub-expect-leaf
-sub-expect-leaf c = search needs
-
-part-expect-leaf-start : tie.Need-part-expect-leaf-start
-part-expect-leaf-start c = search needs
-
-part-expect-leaf-end : tie.Need-part-expect-leaf-end
-part-expect-leaf-end c = search needs
-
-expect-leaf-requires : tie.Need-expect-leaf-requires
-expect-leaf-requires c κs = search needs
-
-enum-told : tie.Need-enum-told
-enum-told c = search needs
-
-enum-known-to : tie.Need-enum-known-to
-enum-known-to c = search needs
-
 returns : tie.Need-returns
 returns c =
     let c2 = c .before .before in
@@ -66,24 +33,6 @@ returns-3 c =
     let c6 = c .before .before .before .before .before .before in
     let a = c6 .args in
     (none-is (a .names .now) (a .nodes .now) (a .at) (a .level) _ (c .if2 .taken), c6 .pre .0 .2)
-
-add-expect-opening : tie.Need-add-expect-opening
-add-expect-opening c = search needs
-
-mul-expect-opening : tie.Need-mul-expect-opening
-mul-expect-opening c = search needs
-
-shared-slice-read-expect-opening : tie.Need-shared-slice-read-expect-opening
-shared-slice-read-expect-opening c = search needs
-
-expect-opening-requires : tie.Need-expect-opening-requires
-expect-opening-requires c κs = search needs
-
-enum-told-2 : tie.Need-enum-told-2
-enum-told-2 c = search needs
-
-enum-known-to-2 : tie.Need-enum-known-to-2
-enum-known-to-2 c = search needs
 
 returns-4 : tie.Need-returns-4
 returns-4 c =
@@ -126,26 +75,26 @@ pub open-node-spec : {M : Type 1} → statement M
 open-node-spec =
     tie.close
     (tie.spec
-    mul-kind
-    shared-slice-read-kind
-    add-expect-leaf
-    mul-expect-leaf
-    shared-slice-read-expect-leaf
-    sub-expect-leaf
-    part-expect-leaf-start
-    part-expect-leaf-end
-    expect-leaf-requires
-    enum-told
-    enum-known-to
+    (λ c. search needs)
+    (λ c. search needs)
+    (λ c. search needs)
+    (λ c. search needs)
+    (λ c. search needs)
+    (λ c. search needs)
+    (λ c. search needs)
+    (λ c. search needs)
+    (λ c κs. search needs)
+    (λ c. search needs)
+    (λ c. search needs)
     returns
     returns-2
     returns-3
-    add-expect-opening
-    mul-expect-opening
-    shared-slice-read-expect-opening
-    expect-opening-requires
-    enum-told-2
-    enum-known-to-2
+    (λ c. search needs)
+    (λ c. search needs)
+    (λ c. search needs)
+    (λ c κs. search needs)
+    (λ c. search needs)
+    (λ c. search needs)
     returns-4
     returns-5
     open-container-requires

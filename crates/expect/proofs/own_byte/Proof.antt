@@ -4,17 +4,11 @@ use Rattle.expect.specs.Agree.{ownByte}
 use Rattle.expect.proofs.own_byte.Statement.{statement}
 use Rattle.expect.proofs.own_byte.Tie as tie
 
-prefix-byte-requires : tie.Need-prefix-byte-requires
-prefix-byte-requires c κs = search needs
-
 returns : tie.Need-returns
 unfolding ownByte
 returns c =
     let c2 = c .before .before in
     rw (eq-eqb (c2 .args .kind) 26 (c .before .if1 .taken)) (c .prefix-byte .ensures)
-
-prefix-byte-requires-2 : tie.Need-prefix-byte-requires-2
-prefix-byte-requires-2 c κs = search needs
 
 returns-2 : tie.Need-returns-2
 unfolding ownByte
@@ -22,9 +16,6 @@ returns-2 c =
     let c2 = c .before .before in
     let c3 = c2 .before in
     rw (ne-eqb (c3 .args .kind) 26 (c2 .if1 .left), eq-eqb (c3 .args .kind) 27 (c .before .if2 .taken)) (c .prefix-byte2 .ensures)
-
-code-byte-requires : tie.Need-code-byte-requires
-code-byte-requires c κs = search needs
 
 returns-3 : tie.Need-returns-3
 unfolding ownByte
@@ -37,9 +28,9 @@ pub own-byte-spec : {M : Type 1} → statement M
 own-byte-spec =
     tie.close
     (tie.spec
-    prefix-byte-requires
+    (λ c κs. search needs)
     returns
-    prefix-byte-requires-2
+    (λ c κs. search needs)
     returns-2
-    code-byte-requires
+    (λ c κs. search needs)
     returns-3)
