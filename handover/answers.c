@@ -116,8 +116,10 @@ static void pair_question(const char *question) {
         printf("%s\n", yes_or_no(berzhotun_eq(LENT(second), LENT(first), values)));
     } else if (strcmp(question, "equivalent") == 0) {
         printf("%s\n", yes_or_no(berzhotun_equivalent_to(LENT(first), LENT(second), values)));
-    } else {
+    } else if (strcmp(question, "equivalent-box") == 0) {
         printf("%s\n", yes_or_no(berzhotun_equivalent_to_box(LENT(first), LENT(second), values)));
+    } else {
+        bad("no such question");
     }
 }
 
