@@ -245,10 +245,6 @@ WellItems s (itemsRefused e t) = Unit {0}
 
 -- ---- Leaves.
 
-none-ok : (valid (node none end end) ≡ true) × (goodNames (node none end end) ≡ true) × (namesOf (node none end end) ≡ []) × (count (node none end end) ≡ 1)
-unfolding valid validLabel validCount isEnd goodNames goodName namesOf name count
-none-ok = (refl, refl, refl, refl)
-
 -- A byte with which something begins, the text after it, and what is left after a type that began with it.
 module _ (b : ℕ) (s : List ℕ) (o : opens (b ∷ s) ≡ 1) where
   leaf-found : (l : Label) (t : List ℕ) → validLabel l ≡ true → validCount l end ≡ true → goodName l ≡ true → length (name l) ≡ 0 → length t ≤ length s → Found (b ∷ s) l end t

@@ -1,6 +1,6 @@
 -- The answers as numbers: 0 where the input is accepted, else 01's number of the refusal; and what stands in the lent answer, 0 throughout on a refusal.
 use Prim.Native.Nat.{ℕ, _-_}
-use mathlib.Core.Bool.{Bool, true, false}
+use mathlib.Core.Bool.{true, false}
 use mathlib.Core.List.{List, [], _∷_}
 use lib.ListN.{length}
 use Rattle.kinds.specs.Refusal.{number, values}
@@ -8,7 +8,7 @@ use Rattle.kinds.specs.declared.Compared.{Compared}
 use Rattle.kinds.specs.declared.Compared.the-variants as C
 use Rattle.helper.specs.declared.Sized.{Sized}
 use Rattle.helper.specs.declared.Sized.the-variants as S
-use Rattle.parse.specs.Answer.{fromStartAnswer, fromStartRest}
+use Rattle.parse.specs.Answer.{fromStartRest}
 use Rattle.parse.specs.declared.Reading.{Reading}
 use Rattle.parse.specs.declared.Reading.the-variants as G
 use Rattle.static_str.specs.declared.Printed.{Printed}

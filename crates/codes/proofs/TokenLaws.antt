@@ -1,5 +1,5 @@
 -- Laws of the tokens at a place of a text, and what an answer says of the text.
-use Prim.Native.Nat.{ℕ, suc, _+_, _-_, _≤_, _<_}
+use Prim.Native.Nat.{ℕ, _+_, _≤_, _<_}
 use mathlib.Core.Path.{_≡_, refl, sym, ap, _∙_}
 use mathlib.Core.List.{List, [], _∷_}
 use mathlib.Core.Bool.{Bool, true, false, cond, _&&_}
@@ -12,7 +12,7 @@ use Rattle.kinds.specs.Byte.{isDigit}
 use Rattle.kinds.specs.Parse as R
 use Rattle.kinds.specs.Parse.{value, noNumber, parseNumber, parseComplex, parseQuoted, parseObject, leaf, integral, parseBits, parseBitField, untyped, typed, singleKind, maxU64, maxU8}
 use Rattle.kinds.specs.Parse.{Parsed, encoding, refused, containerEnd, arrayEnd, start, begin, single}
-use Rattle.kinds.specs.Tree.{Trees, end, node, kind, primitive, bitField, typedBitField}
+use Rattle.kinds.specs.Tree.{end, node, kind, primitive, bitField, typedBitField}
 use Rattle.kinds.specs.declared.ContainerKind.{ContainerKind}
 use Rattle.kinds.specs.declared.ErrorKind.{ErrorKind}
 use Rattle.kinds.specs.declared.ErrorKind.the-variants.{UnexpectedEnd, IntegerTooLarge, UnknownAfterComplex, Unknown}

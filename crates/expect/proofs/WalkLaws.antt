@@ -45,10 +45,6 @@ module _ (names w : List ℕ) (v : NestingLevel) (s : List ℕ) where
   unfolding expectEncoding expectAt
   expect-trees n at p q = ap (λ (x : Trees). expectEncoding v x s) (trees-step names w n at p q)
 
-  pub expect-no-trees : (n at : ℕ) → n ≤ 0 → expectEncoding v (trees names w n at) s ≡ remaining s
-  unfolding expectEncoding
-  expect-no-trees n at p = ap (λ (x : Trees). expectEncoding v x s) (no-trees names w n at p)
-
 -- The only child of a node.
 only-child : (names w : List ℕ) (at : ℕ) (v : NestingLevel) (s : List ℕ) → NodeAt w at → 25 ≤ kindAt w at → kindAt w at ≤ 28
     → expectEncoding v (trees names w (countAt w at - 1) (at + 4)) s ≡ expectAt names w (at + 4) v s

@@ -3,4 +3,3 @@ pub mod SizeLaws
 pub mod NodeSizeLaws
 pub mod CompareLaws
 pub mod AnswerLaws
-pub mod AlikeLaws

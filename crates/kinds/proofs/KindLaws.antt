@@ -2,14 +2,14 @@
 use Prim.Native.Nat.{ℕ, _≤_, _<_}
 use native.Mathlib.Omega.{arith}
 use mathlib.Core.Path.{_≡_, refl, ap, sym, _∙_, subst}
-use mathlib.Core.Bool.{Bool, true, false, cond, _||_, false≢true}
+use mathlib.Core.Bool.{Bool, true, false, _||_, false≢true}
 use mathlib.Core.List.{List}
 use borrow.Author.Tests.{leb-true, leb-false, ne-eqb, eqb-true, eqb-false}
 use lib.Dec.{leb, eqb}
 use Rattle.kinds.specs.Kind.{isIndirection, insideKind, childrenLevel}
 use Rattle.kinds.specs.Level.{showsFields, containerIncludeFields}
 use Rattle.kinds.specs.Sheet.{label, isContainerKind}
-use Rattle.kinds.specs.Tree.{inside, shows}
+use Rattle.kinds.specs.Tree.{inside}
 use Rattle.kinds.specs.declared.Fields.the-variants.{Included, Dropped}
 use Rattle.kinds.specs.declared.NestingLevel.{NestingLevel}
 use Rattle.kinds.specs.declared.NestingLevel.the-variants.{Top, Within, Bottom}
@@ -33,10 +33,6 @@ module _ (k : ℕ) (v : NestingLevel) (a : k ≡ 26 → ⊥) (b : k ≡ 27 → �
   unfolding insideKind
   plain-inside = rw (ne-eqb k 26 a, ne-eqb k 27 b, ne-eqb k 29 c, ne-eqb k 30 d)
 
-  plain-children : Included v ≡ childrenLevel k v
-  unfolding insideKind childrenLevel
-  plain-children = rw (ne-eqb k 26 a, ne-eqb k 27 b, ne-eqb k 29 c, ne-eqb k 30 d)
-
 -- The level of the children of a node of kind `k`.
 pub inside-kind : (s : List ℕ) (k a b : ℕ) (v : NestingLevel) → inside (label s k a b) v ≡ insideKind k v
 unfolding label insideKind
@@ -47,22 +43,6 @@ inside-kind s k a b v = every-kind (λ (j : ℕ). inside (label s j a b) v ≡ i
 
     high : (j : ℕ) → 31 < j → inside (label s j a b) v ≡ insideKind j v
     high j p = rw (label-none s j a b (omega arith)) (plain-inside j v (λ e. omega arith) (λ e. omega arith) (λ e. omega arith) (λ e. omega arith))
-
--- The same, or that they are not shown.
-pub children-kind : (s : List ℕ) (k a b : ℕ) (v : NestingLevel) → cond (shows (label s k a b) v) (Included (inside (label s k a b) v)) Dropped ≡ childrenLevel k v
-unfolding label insideKind childrenLevel
-children-kind s k a b v = every-kind (λ (j : ℕ). cond (shows (label s j a b) v) (Included (inside (label s j a b) v)) Dropped ≡ childrenLevel j v) low refl refl refl refl refl (fields v) (fields v) refl high k
-  where
-    fields : (u : NestingLevel) → cond (showsFields u) (Included Within) Dropped ≡ containerIncludeFields u
-    fields Top = refl
-    fields Within = refl
-    fields Bottom = refl
-
-    low : (j : ℕ) → j < 24 → cond (shows (label s j a b) v) (Included (inside (label s j a b) v)) Dropped ≡ childrenLevel j v
-    low j p = rw (label-primitive s j a b p) (plain-children j v (λ e. omega arith) (λ e. omega arith) (λ e. omega arith) (λ e. omega arith))
-
-    high : (j : ℕ) → 31 < j → cond (shows (label s j a b) v) (Included (inside (label s j a b) v)) Dropped ≡ childrenLevel j v
-    high j p = rw (label-none s j a b (omega arith)) (plain-children j v (λ e. omega arith) (λ e. omega arith) (λ e. omega arith) (λ e. omega arith))
 
 -- Kinds 29 and 30.
 pub container-kind : (k : ℕ) → 29 ≤ k → k ≤ 30 → isContainerKind k ≡ true

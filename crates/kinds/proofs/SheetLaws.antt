@@ -135,12 +135,6 @@ module _ (w : List ℕ) (n at : ℕ) (p : 1 ≤ countAt w at) (q : countAt w at 
   pub nests-arity : arity (kindAt w at) (countAt w at) (countAt w (at + 4)) ≡ false → nests w n at ≡ false
   nests-arity h = nests-step w n at p q ∙ rw h
 
-  pub nests-inner : arity (kindAt w at) (countAt w at) (countAt w (at + 4)) ≡ true → nests w (countAt w at - 1) (at + 4) ≡ false → nests w n at ≡ false
-  nests-inner h i = nests-step w n at p q ∙ rw (h, i)
-
-  pub nests-on : arity (kindAt w at) (countAt w at) (countAt w (at + 4)) ≡ true → nests w (countAt w at - 1) (at + 4) ≡ true → nests w n at ≡ nests w (n - countAt w at) (at + 4 * countAt w at)
-  nests-on h i = nests-step w n at p q ∙ rw (h, i)
-
 pub nests-none : (w : List ℕ) (n at : ℕ) → n ≤ 0 → nests w n at ≡ true
 unfolding nests nest
 nests-none w zero at p = refl
@@ -172,9 +166,6 @@ module _ (w : List ℕ) (n at s e : ℕ) (p : 0 < n) where
       go : (m : ℕ) → n ≡ m → 0 < m → packed w m at s e ≡ (numbers (kindAt w at) (firstAt w at) (secondAt w at) s e && packed w (m - 1) (at + 4) (nextName (kindAt w at) (secondAt w at) s) e)
       go zero h q = absurd (omega arith)
       go (suc m) h q = rw (sub-one (suc m))
-
-  pub packed-bad : numbers (kindAt w at) (firstAt w at) (secondAt w at) s e ≡ false → packed w n at s e ≡ false
-  packed-bad h = packed-step ∙ rw h
 
   pub packed-on : numbers (kindAt w at) (firstAt w at) (secondAt w at) s e ≡ true → packed w n at s e ≡ packed w (n - 1) (at + 4) (nextName (kindAt w at) (secondAt w at) s) e
   packed-on h = packed-step ∙ rw h

@@ -2,17 +2,14 @@
 use Prim.Native.Nat.{ℕ, suc, _+_, _*_, _-_, _≤_, _<_}
 use mathlib.Core.Path.{_≡_}
 use mathlib.Core.List.{List, []}
-use lib.ListN.{length, take, drop, getD}
+use lib.ListN.{length, drop, getD}
 use lib.Seq.{sets}
-use lib.Dec.{ltb, eqb}
-use mathlib.Core.Bool.{true, false, _||_}
-use mathlib.Core.Logic.{_⊎_}
+use mathlib.Core.Bool.{false}
 use mathlib.Core.Option.{some, none}
 use Rattle.kinds.specs.Parse as R
-use Rattle.kinds.specs.Container.{endByte}
-use Rattle.kinds.specs.Parse.{value, noNumber, empty, encoding, containerEnd, arrayEnd, refused, items, itemsRefused, parseInner, parseItems, start, integral}
+use Rattle.kinds.specs.Parse.{empty, encoding, containerEnd, arrayEnd, refused, items, itemsRefused, parseInner, parseItems, start}
 use Rattle.kinds.specs.Sheet.{nodes, namesOf, sheetOf}
-use Rattle.kinds.specs.Tree.{Label, Trees, end, node, count, primitive, bitField, typedBitField}
+use Rattle.kinds.specs.Tree.{Label, Trees, end, node, count}
 use Rattle.parser.specs.Run.{runEnd}
 use Rattle.codes.specs.Answer.{isIndirection, hasParts}
 use Rattle.parse.specs.Out.{After}

@@ -6,7 +6,7 @@ use mathlib.Core.Bool.{Bool, true, false}
 use native.Mathlib.Omega.{arith}
 use lib.ListN.{length, drop, getD, length-drop}
 use lib.Seq.{getD-drop, drop-nil}
-use Rattle.kinds.proofs.ListLaws.{unread, unread-end}
+use Rattle.kinds.proofs.ListLaws.{unread}
 use Rattle.parser.specs.Run.{after, runEnd}
 use Rattle.parser.proofs.PlaceLaws.{drop-on}
 

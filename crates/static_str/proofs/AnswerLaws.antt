@@ -1,7 +1,7 @@
 -- The answers: where a text fits the output and where it does not, and by what the check of a sheet found.
 use Prim.Native.Nat.{ℕ, _+_, _≤_, _<_}
 use native.Mathlib.Omega.{arith}
-use mathlib.Core.Path.{_≡_, refl, ap, sym, _∙_, subst}
+use mathlib.Core.Path.{_≡_, ap, sym, _∙_}
 use mathlib.Core.List.{List, _++_, append-nil}
 use borrow.Author.Tests.{le-leb, lt-leb}
 use lib.ListN.{length, drop}
@@ -22,7 +22,6 @@ use Rattle.static_str.specs.declared.Printed.the-variants.{Refused, Byte
 use Rattle.static_str.specs.Answer.{fitted, placed, encodingLen, encodingArray, encodingOutput}
 use Rattle.static_str.specs.Output.{written, Wrote}
 use Rattle.static_str.specs.Parts.{TreesLength}
-use Rattle.static_str.proofs.OutputLaws.{wrote-same}
 
 module _ (text : List ℕ) (out : List ℕ) where
   fitted-short : length out < length text → Refused OutputTooShort ≡ fitted text (length out)

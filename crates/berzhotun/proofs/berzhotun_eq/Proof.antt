@@ -3,10 +3,6 @@ use Rattle.berzhotun.specs.Answer.{compareNumber, compareValues}
 use borrow.Author.Needs.{needs}
 use Rattle.berzhotun.proofs.berzhotun_eq.Statement.{statement}
 use Rattle.berzhotun.proofs.berzhotun_eq.Tie as tie
-use Rattle.berzhotun.proofs.berzhotun_eq.Reads as reads
-use Rattle.berzhotun.proofs.berzhotun_eq.Lts as lts
-use Rattle.berzhotun.proofs.give_compared.Reads as give-compared-reads
-use Rattle.encoding_box.proofs.eq.Reads as eq-reads
 
 returns : tie.Need-returns
 returns c =

@@ -3,10 +3,6 @@ use Rattle.berzhotun.specs.Answer.{compareNumber, compareValues}
 use borrow.Author.Needs.{needs}
 use Rattle.berzhotun.proofs.berzhotun_equivalent_to.Statement.{statement}
 use Rattle.berzhotun.proofs.berzhotun_equivalent_to.Tie as tie
-use Rattle.berzhotun.proofs.berzhotun_equivalent_to.Reads as reads
-use Rattle.berzhotun.proofs.berzhotun_equivalent_to.Lts as lts
-use Rattle.berzhotun.proofs.give_compared.Reads as give-compared-reads
-use Rattle.encoding.proofs.equivalent_to.Reads as equivalent-to-reads
 
 returns : tie.Need-returns
 returns c =

@@ -3,10 +3,6 @@ use Rattle.berzhotun.specs.Answer.{compareNumber, compareValues}
 use borrow.Author.Needs.{needs}
 use Rattle.berzhotun.proofs.berzhotun_equivalent_to_box.Statement.{statement}
 use Rattle.berzhotun.proofs.berzhotun_equivalent_to_box.Tie as tie
-use Rattle.berzhotun.proofs.berzhotun_equivalent_to_box.Reads as reads
-use Rattle.berzhotun.proofs.berzhotun_equivalent_to_box.Lts as lts
-use Rattle.berzhotun.proofs.give_compared.Reads as give-compared-reads
-use Rattle.encoding.proofs.equivalent_to_box.Reads as equivalent-to-box-reads
 
 returns : tie.Need-returns
 returns c =

@@ -3,10 +3,6 @@ use Rattle.berzhotun.specs.Answer.{compareNumber, compareValues}
 use borrow.Author.Needs.{needs}
 use Rattle.berzhotun.proofs.berzhotun_equivalent_to_str.Statement.{statement}
 use Rattle.berzhotun.proofs.berzhotun_equivalent_to_str.Tie as tie
-use Rattle.berzhotun.proofs.berzhotun_equivalent_to_str.Reads as reads
-use Rattle.berzhotun.proofs.berzhotun_equivalent_to_str.Lts as lts
-use Rattle.berzhotun.proofs.give_compared.Reads as give-compared-reads
-use Rattle.expect.proofs.equivalent_to_str.Reads as equivalent-to-str-reads
 
 returns : tie.Need-returns
 returns c =

@@ -7,9 +7,6 @@ use Rattle.berzhotun.proofs.ReadingLaws.{tree-number, tree-values, refu
 use borrow.Author.Needs.{needs}
 use Rattle.berzhotun.proofs.berzhotun_from_start_of_str.Statement.{statement}
 use Rattle.berzhotun.proofs.berzhotun_from_start_of_str.Tie as tie
-use Rattle.berzhotun.proofs.berzhotun_from_start_of_str.Reads as reads
-use Rattle.berzhotun.proofs.berzhotun_from_start_of_str.Lts as lts
-use Rattle.parse.proofs.from_start_of_str.Reads as from-start-of-str-reads
 
 sub-t19 : tie.Need-sub-t19
 sub-t19 c = end-shorter _ _ (c .before .before .before .before .before .from-start-of-str .ensures .1 .0)

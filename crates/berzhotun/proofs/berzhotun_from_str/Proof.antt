@@ -1,10 +1,6 @@
 use borrow.Author.Needs.{needs}
 use Rattle.berzhotun.proofs.berzhotun_from_str.Statement.{statement}
 use Rattle.berzhotun.proofs.berzhotun_from_str.Tie as tie
-use Rattle.berzhotun.proofs.berzhotun_from_str.Reads as reads
-use Rattle.berzhotun.proofs.berzhotun_from_str.Lts as lts
-use Rattle.berzhotun.proofs.give_reading.Reads as give-reading-reads
-use Rattle.parse.proofs.from_str.Reads as from-str-reads
 
 returns : tie.Need-returns
 returns c =

@@ -1,10 +1,6 @@
 use borrow.Author.Needs.{needs}
 use Rattle.berzhotun.proofs.berzhotun_size.Statement.{statement}
 use Rattle.berzhotun.proofs.berzhotun_size.Tie as tie
-use Rattle.berzhotun.proofs.berzhotun_size.Reads as reads
-use Rattle.berzhotun.proofs.berzhotun_size.Lts as lts
-use Rattle.berzhotun.proofs.give_sized.Reads as give-sized-reads
-use Rattle.encoding.proofs.size.Reads as size-reads
 
 returns : tie.Need-returns
 returns c = rw (← c .before .before .size .ensures) (c .give-sized .ensures)

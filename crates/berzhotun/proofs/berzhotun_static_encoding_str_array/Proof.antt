@@ -1,10 +1,6 @@
 use borrow.Author.Needs.{needs}
 use Rattle.berzhotun.proofs.berzhotun_static_encoding_str_array.Statement.{statement}
 use Rattle.berzhotun.proofs.berzhotun_static_encoding_str_array.Tie as tie
-use Rattle.berzhotun.proofs.berzhotun_static_encoding_str_array.Reads as reads
-use Rattle.berzhotun.proofs.berzhotun_static_encoding_str_array.Lts as lts
-use Rattle.berzhotun.proofs.give_printed.Reads as give-printed-reads
-use Rattle.static_str.proofs.static_encoding_str_array.Reads as static-encoding-str-array-reads
 
 returns : tie.Need-returns
 returns c =

@@ -2,9 +2,6 @@ use mathlib.Core.Path.{refl}
 use borrow.Author.Needs.{needs}
 use Rattle.berzhotun.proofs.give_printed.Statement.{statement}
 use Rattle.berzhotun.proofs.give_printed.Tie as tie
-use Rattle.berzhotun.proofs.give_printed.Reads as reads
-use Rattle.berzhotun.proofs.give_printed.Lts as lts
-use Rattle.kinds.proofs.Refusal.number.Reads as number-reads
 
 returns : tie.Need-returns
 returns c = search needs

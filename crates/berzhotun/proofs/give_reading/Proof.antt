@@ -1,10 +1,6 @@
 use borrow.Author.Needs.{needs}
 use Rattle.berzhotun.proofs.give_reading.Statement.{statement}
 use Rattle.berzhotun.proofs.give_reading.Tie as tie
-use Rattle.berzhotun.proofs.give_reading.Reads as reads
-use Rattle.berzhotun.proofs.give_reading.Lts as lts
-use Rattle.kinds.proofs.Refusal.number.Reads as number-reads
-use Rattle.kinds.proofs.Refusal.values.Reads as values-reads
 
 returns : tie.Need-returns
 returns c = search needs

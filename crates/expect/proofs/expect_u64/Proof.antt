@@ -1,4 +1,3 @@
-use mathlib.Core.Path.{_∙_}
 use borrow.Author.Needs.{needs}
 use Rattle.numbers.proofs.NumberLaws as N
 use Rattle.expect.proofs.TextLaws.{number-none, number-other, number-is}

@@ -3,7 +3,6 @@ use mathlib.Core.Path.{sym, refl}
 use native.Mathlib.Omega.{arith}
 use lib.Seq.{length-take-le}
 use Rattle.lines.proofs.FieldLaws.{front-is, front-all}
-use borrow.Author.Needs.{needs}
 use Rattle.lines.proofs.front.Statement.{statement}
 use Rattle.lines.proofs.front.Tie as tie
 
