@@ -182,3 +182,22 @@ raising-end {n} {bytes} h r = eighth (8 * bytes) refl ∙ ap (λ (x : ℕ). x / 
   where
     eighth : (x : ℕ) → x ≡ 8 * bytes → bytes ≡ x / 8
     eighth x e = omega arith
+
+-- The doublings that a number of bits above the last one takes.
+pub raising-2 : {n : ℕ} → 8 < n → Raising n 2
+raising-2 {n} h = raising-next h (raising-start n)
+
+pub raising-4 : {n : ℕ} → 16 < n → Raising n 4
+raising-4 h = raising-next h (raising-2 (omega arith))
+
+pub raising-8 : {n : ℕ} → 32 < n → Raising n 8
+raising-8 h = raising-next h (raising-4 (omega arith))
+
+pub raising-16 : {n : ℕ} → 64 < n → Raising n 16
+raising-16 h = raising-next h (raising-8 (omega arith))
+
+pub raising-32 : {n : ℕ} → 128 < n → Raising n 32
+raising-32 h = raising-next h (raising-16 (omega arith))
+
+pub raising-64 : {n : ℕ} → 256 < n → Raising n 64
+raising-64 h = raising-next h (raising-32 (omega arith))

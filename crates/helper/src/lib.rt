@@ -171,13 +171,31 @@ impl Measured {
     }
 }
 
-// The bits raised to a power of two, at least 8, in bytes.
+// The bits raised to a power of two, at least 8, in bytes. No sheet has more than 255 bits, for which the loop is not entered.
 fn bit_bytes(n: u64) -> u64
     ensures { λ r. ⌜ r ≡ bitBytes n ⌝ }
 {
+    if n <= 8 {
+        return 1;
+    }
+    if n <= 16 {
+        return 2;
+    }
+    if n <= 32 {
+        return 4;
+    }
+    if n <= 64 {
+        return 8;
+    }
+    if n <= 128 {
+        return 16;
+    }
+    if n <= 256 {
+        return 32;
+    }
     // so many bytes hold the bits
     let enough = n / 8 + (n % 8 + 7) / 8;
-    let mut bytes = 1;
+    let mut bytes = 64;
     while bytes < enough {
         bytes *= 2;
     }

@@ -1,0 +1,145 @@
+// Times the functions of several builds of the library in turn (tools/versus): versus ROUNDS BEFORE.so.. AFTER.so.., as many of each.
+#define _GNU_SOURCE
+#include <dlfcn.h>
+#include <stdio.h>
+#include <stdlib.h>
+#include <string.h>
+#include <time.h>
+
+#include "berzhotun.h"
+
+enum { MOST_BUILDS = 64, BATCH_NS = 20000 };
+
+typedef struct {
+    __typeof__(berzhotun_from_str) *from_str;
+    __typeof__(berzhotun_from_start_of_str) *from_start_of_str;
+    __typeof__(berzhotun_equivalent_to) *equivalent_to;
+    __typeof__(berzhotun_eq) *eq;
+    __typeof__(berzhotun_equivalent_to_str) *equivalent_to_str;
+    __typeof__(berzhotun_size) *size;
+    __typeof__(berzhotun_static_encoding_str_len) *len;
+    __typeof__(berzhotun_static_encoding_str_array) *print;
+} Build;
+
+static const char *const whats[] = {"whole-text reading", "reading from the start", "tree against tree", "with all fields",
+                                    "tree against text", "size", "length", "print"};
+enum { WHATS = sizeof whats / sizeof *whats };
+
+static uint8_t text[BERZHOTUN_MAX_TEXT + 1], printed[BERZHOTUN_MAX_PRINT], output[BERZHOTUN_MAX_PRINT];
+static size_t text_len, printed_len;
+static uint64_t words[BERZHOTUN_MAX_WORDS], other_words[BERZHOTUN_MAX_WORDS];
+static uint8_t names[BERZHOTUN_MAX_NAMES], other_names[BERZHOTUN_MAX_NAMES];
+static volatile uint64_t sink;
+
+static void fail(const char *why) {
+    fprintf(stderr, "versus: %s\n", why);
+    exit(1);
+}
+
+static void *symbol(void *library, const char *name) {
+    void *found = dlsym(library, name);
+    if (!found) fail(dlerror());
+    return found;
+}
+
+static Build load(const char *path) {
+    void *library = dlopen(path, RTLD_NOW | RTLD_LOCAL);
+    if (!library) fail(dlerror());
+    return (Build){symbol(library, "berzhotun_from_str"),          symbol(library, "berzhotun_from_start_of_str"),
+                   symbol(library, "berzhotun_equivalent_to"),     symbol(library, "berzhotun_eq"),
+                   symbol(library, "berzhotun_equivalent_to_str"), symbol(library, "berzhotun_size"),
+                   symbol(library, "berzhotun_static_encoding_str_len"), symbol(library, "berzhotun_static_encoding_str_array")};
+}
+
+#define SHEET words, words[3], names, words[2]
+#define OTHER other_words, other_words[3], other_names, other_words[2]
+#define LENT other_words, BERZHOTUN_MAX_WORDS, other_names, BERZHOTUN_MAX_NAMES
+
+static uint64_t call(const Build *build, int what) {
+    uint64_t answer[3];
+    switch (what) {
+    case 0: return build->from_str(text, text_len, LENT, answer);
+    case 1: return build->from_start_of_str(text, text_len, LENT, answer);
+    case 2: return build->equivalent_to(SHEET, OTHER, answer) + answer[0];
+    case 3: return build->eq(SHEET, OTHER, answer) + answer[0];
+    case 4: return build->equivalent_to_str(SHEET, printed, printed_len, answer) + answer[0];
+    case 5: return build->size(SHEET, answer) + answer[0];
+    case 6: return build->len(SHEET, answer) + answer[0];
+    default: return build->print(SHEET, output, sizeof output, answer) + answer[0];
+    }
+}
+
+static double batch(const Build *build, int what, int calls) {
+    struct timespec a, b;
+    clock_gettime(CLOCK_MONOTONIC, &a);
+    for (int i = 0; i < calls; i++) sink += call(build, what);
+    clock_gettime(CLOCK_MONOTONIC, &b);
+    return (double)(b.tv_sec - a.tv_sec) * 1e9 + (double)(b.tv_nsec - a.tv_nsec);
+}
+
+// The mean and the least of the builds' times.
+static void summed(const double *times, int builds, double *mean, double *least) {
+    *mean = 0, *least = times[0];
+    for (int i = 0; i < builds; i++) {
+        *mean += times[i] / builds;
+        if (times[i] < *least) *least = times[i];
+    }
+}
+
+static void row(const char *shape, const Build *builds, int each, int rounds, int what) {
+    double times[MOST_BUILDS] = {0}, mean[2], least[2];
+    int calls = 1;
+    while (batch(&builds[0], what, calls) < BATCH_NS) calls *= 2;
+    for (int i = 0; i < 2 * each; i++) times[i] = 1e18;
+    for (int round = 0; round < rounds; round++) {
+        for (int i = 0; i < 2 * each; i++) {
+            double took = batch(&builds[i], what, calls) / calls;
+            if (took < times[i]) times[i] = took;
+        }
+    }
+    summed(times, each, &mean[0], &least[0]);
+    summed(times + each, each, &mean[1], &least[1]);
+    printf("%-14s %-22s %9.1f %9.1f  %5.2f %5.2f\n", shape, whats[what], mean[0], mean[1], mean[1] / mean[0], least[1] / least[0]);
+}
+
+static void repeat(const char *part, int times) {
+    for (int i = 0; i < times; i++) text_len += (size_t)sprintf((char *)text + text_len, "%s", part);
+}
+
+// The benchmark's shapes (oracle/bench.rs), and wide bitfields.
+static const char *shape(int which) {
+    static const char *const fields[] = {"i", "^v", "[4c]", "@", "b3", "{P=dd}", "*", "^{B}", "(U=if)", "b0i7", ":"};
+    text_len = 0;
+    switch (which) {
+    case 0: return repeat("i", 1), "a code";
+    case 1: return repeat("{Rate=i^v{Point=dd}[4c]@\"NSDate\"^{Band=s}(U=if)b3*:#Bq^^{Q}}", 1), "25 nodes";
+    case 2:
+        repeat("{R=", 1);
+        for (int i = 0; text_len + strlen(fields[i % 11]) < BERZHOTUN_MAX_TEXT; i++) repeat(fields[i % 11], 1);
+        repeat("i", (int)(BERZHOTUN_MAX_TEXT - 1 - text_len));
+        return repeat("}", 1), "1,188 nodes";
+    case 3: return repeat("{R=", 1), repeat("i", 1996), repeat("}", 1), "1,997 codes";
+    case 4: return repeat("^", 1000), repeat("i", 1), "1,001 pointers";
+    case 5: return repeat("{R=", 499), repeat("i", 1), repeat("}", 499), "nested records";
+    case 6: return repeat("{R=", 1), repeat("b200", 400), repeat("}", 1), "wide bitfields";
+    default: return NULL;
+    }
+}
+
+int main(int count, char **given) {
+    static Build builds[MOST_BUILDS];
+    int rounds = count > 1 ? atoi(given[1]) : 0, each = (count - 2) / 2;
+    if (rounds < 1 || each < 1 || 2 * each > MOST_BUILDS) fail("ROUNDS BEFORE.so.. AFTER.so..");
+    for (int i = 0; i < 2 * each; i++) builds[i] = load(given[2 + i]);
+    printf("%-14s %-22s %9s %9s  %5s %5s\n", "tree", "what", "before", "after", "mean", "least");
+    for (int which = 0; shape(which); which++) {
+        uint64_t answer[3];
+        if (builds[0].from_str(text, text_len, words, BERZHOTUN_MAX_WORDS, names, BERZHOTUN_MAX_NAMES, answer)) fail("a text that does not read");
+        memcpy(other_words, words, sizeof words);
+        memcpy(other_names, names, sizeof names);
+        if (builds[0].print(SHEET, printed, sizeof printed, answer)) fail("a tree that does not print");
+        printed_len = answer[0];
+        for (int what = 0; what < WHATS; what++) row(shape(which), builds, each, rounds, what);
+    }
+    return 0;
+}
