@@ -8,7 +8,7 @@ use lib.ListN.{length, getD, replicate, length-replicate}
 use Rattle.kinds.specs.Byte.{byte, among}
 use Rattle.kinds.specs.Parse as P
 use Rattle.kinds.specs.Parse.{Parsed, empty, encoding, Whole, start, begin, held, parseInner, parse, isQualifier, qualifiers, stripLeadingQualifiers, encodingOrNone, parseEncodingOrNone, whole, fromStr, fromStartOfStr}
-use Rattle.kinds.specs.Sheet.{maxText, sheetOf, headerOf}
+use Rattle.kinds.specs.Sheet.{maxText, wordsUsed, headerFor, sheetOf}
 use Rattle.kinds.specs.Tree as T
 use Rattle.kinds.specs.Tree.{Trees, end, node, pointer, count}
 use Rattle.kinds.specs.declared.Refusal.the-variants.{TextTooLong, ListTooShort}
@@ -111,8 +111,8 @@ unfolding pointers
 pointers-length n = length-replicate n (byte "^")
 
 -- The header of a sheet that is written over the front of a list.
-words-used : (k : ℕ) (t : Trees) (words : List ℕ) → getD (filled k (sheetWords (some t)) words) 3 0 ≡ 4 + 4 * count t
-unfolding filled padded sheetWords sheetOf headerOf
+words-used : (k : ℕ) (t : Trees) (words : List ℕ) → getD (filled k (sheetWords (some t)) words) 3 0 ≡ wordsUsed (count t)
+unfolding filled padded sheetWords sheetOf headerFor
 words-used k t words = refl
 
 pub pointers-fill : (n : ℕ) (words names : List ℕ) → n ≤ maxText → wordsFor n ≤ length words → namesFor n ≤ length names

@@ -5,7 +5,7 @@ use mathlib.Core.Path.{_≡_}
 use mathlib.Core.Bool.{true}
 use mathlib.Core.List.{List}
 use lib.ListN.{getD}
-use Rattle.kinds.specs.Sheet.{headerOf, sheetOf, namesOf, isSheet}
+use Rattle.kinds.specs.Sheet.{headerFor, sheetOf, namesOf, isSheet}
 use Rattle.kinds.proofs.HoldsLaws.{holds-test}
 use Rattle.kinds.proofs.NodeLaws.{sheet-says}
 use Rattle.bounds.specs.Extremes.{longest}
@@ -21,5 +21,5 @@ sheet-bounded words names h =
 -- And one has as many of each.
 pub sheet-reached : (isSheet (sheetOf longest) (namesOf longest) ≡ true)
     × (getD (sheetOf longest) 0 0 ≡ maxNodes) × (getD (sheetOf longest) 3 0 ≡ maxWords) × (getD (sheetOf longest) 2 0 ≡ maxNames)
-unfolding sheetOf headerOf
+unfolding sheetOf headerFor
 sheet-reached = (holds-test (sheetOf longest) (namesOf longest) longest longest-holds, longest-count, omega (arith, longest-count), longest-names)

@@ -505,7 +505,7 @@ pub fn equivalent_to_str(words: &[u64], names: &[u8], text: &[u8]) -> Compared
     }
     match check(&words[0..], &names[0..]) {
         Checked::Refused(why) => Compared::Refused(why),
-        Checked::Code(kind) => Compared::Decided(code_matches(kind, &text[0..])),
+        Checked::Code(_, kind) => Compared::Decided(code_matches(kind, &text[0..])),
         Checked::Nodes(first, n) => Compared::Decided(tree_matches(
             &words[first..],
             &names[0..],

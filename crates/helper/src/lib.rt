@@ -466,7 +466,7 @@ pub fn size(words: &[u64], names: &[u8]) -> Sized
 {
     match check(words, names) {
         Checked::Refused(why) => Sized::Refused(why),
-        Checked::Code(kind) => Measured::of_primitive(kind).answer(),
+        Checked::Code(_, kind) => Measured::of_primitive(kind).answer(),
         Checked::Nodes(first, _) => size_of(&words[first..], 0, NestingLevel::new()).answer(),
     }
 }

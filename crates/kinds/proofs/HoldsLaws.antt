@@ -13,7 +13,8 @@ use lib.Dec.{leb, eqb}
 use Rattle.kinds.specs.Tree.{Label, Trees, end, node, isEnd, isOne, count, kind, name}
 use Rattle.kinds.specs.Parse.{maxU64}
 use Rattle.kinds.specs.Sound.{validLabel, validCount, valid}
-use Rattle.kinds.specs.Sheet.{first, second, namesOf, nodes, headerOf, sheetOf, Holds, nodeWords, treeOf, kindAt, firstAt, secondAt, countAt, labelAt, label, isContainerKind, trees, arity, nests, numbers, nextName, packed, isSheet}
+use Rattle.kinds.specs.Sheet.{headerWords, wordsUsed, headerFor, sheetOf, Holds, nodeWords, treeOf, isSheet}
+use Rattle.kinds.specs.Sheet.{first, second, namesOf, nodes, kindAt, firstAt, secondAt, countAt, labelAt, label, isContainerKind, trees, arity, nests, numbers, nextName, packed}
 use Rattle.kinds.specs.Walk.{NodeAt, TreesAt}
 use Rattle.kinds.proofs.SheetLaws.{Header, trees-step, arity-low, arity-high, packed-first, packed-rest, packed-none}
 use Rattle.kinds.proofs.TableLaws.{both, both-left, both-right}
@@ -245,16 +246,16 @@ module _ (s w : List ℕ) (e : ℕ) (es : e ≤ length s) where
       (laid-node (labelAt s w at) (trees s w (countAt w at - 1) (at + 4)) (trees s w (suc n - countAt w at) (at + 4 * countAt w at)) (suc n) at p m hn (y .the-kind) (y .the-first) (y .the-second)
       (ok-node s w at hn p e num) (y .the-name) c₁ c₂ kids rest)
 
-header-stands : {m : ℕ} (w : List ℕ) (t : Trees) → Header w m → count t ≡ getD w 0 0 → length (namesOf t) ≡ getD w 2 0 → Stands w 4 (nodes t 0) → Stands w 0 (sheetOf t)
-unfolding sheetOf headerOf
+header-stands : {m : ℕ} (w : List ℕ) (t : Trees) → Header w m → count t ≡ getD w 0 0 → length (namesOf t) ≡ getD w 2 0 → Stands w headerWords (nodes t 0) → Stands w 0 (sheetOf t)
+unfolding sheetOf headerFor
 header-stands w t h k n g =
     let x = nodes t 0 in
     let o = h .offset in
     let u = h .used in
     let rm = h .room in
-    let d : getD w 3 0 ≡ 4 + 4 * count t = omega arith in
-    subst (λ (j : ℕ). Stands w 0 (count t ∷ 4 ∷ length (namesOf t) ∷ j ∷ x)) d
-    (subst (λ (j : ℕ). Stands w 0 (count t ∷ 4 ∷ j ∷ getD w 3 0 ∷ x)) (sym n)
+    let d : getD w 3 0 ≡ wordsUsed (count t) = omega arith in
+    subst (λ (j : ℕ). Stands w 0 (count t ∷ headerWords ∷ length (namesOf t) ∷ j ∷ x)) d
+    (subst (λ (j : ℕ). Stands w 0 (count t ∷ headerWords ∷ j ∷ getD w 3 0 ∷ x)) (sym n)
     (subst (λ (j : ℕ). Stands w 0 (count t ∷ j ∷ getD w 2 0 ∷ getD w 3 0 ∷ x)) o
     (subst (λ (j : ℕ). Stands w 0 (j ∷ getD w 1 0 ∷ getD w 2 0 ∷ getD w 3 0 ∷ x)) (sym k)
     (four-words w 0 x (omega arith) g))))
@@ -266,8 +267,8 @@ is-end = refl
 begins : (w xs : List ℕ) (n : ℕ) → length xs ≡ n → Stands w 0 xs → w ≡ xs ++ drop n w
 begins w xs n e h = h .1 ∙ ap (λ (z : List ℕ). xs ++ z) (sym (drop-append-seam xs (h .0)) ∙ ap (drop (length xs)) (sym (h .1)) ∙ ap (λ (k : ℕ). drop k w) e)
 
-pub sheet-length : (t : Trees) → length (sheetOf t) ≡ 4 + 4 * count t
-unfolding sheetOf headerOf
+pub sheet-length : (t : Trees) → length (sheetOf t) ≡ wordsUsed (count t)
+unfolding sheetOf headerFor
 sheet-length t = let e = nodes-length t 0 in omega arith
 
 -- What passes the test is the layout of the tree that it holds.
@@ -280,7 +281,7 @@ test-holds w s h =
     let b = getD w 2 0 in
     let v = nodeWords w in
     let rm = r .head .room in
-    let ld = length-drop 4 w in
+    let ld = length-drop headerWords w in
     let all : packed v (n + 0) 0 0 b ≡ true = subst (λ (j : ℕ). packed v j 0 0 b ≡ true) (sym (add-zero n)) (r .packs) in
     let x = laid s v b (r .head .bytes) n n 0 0 0 (omega arith) (record { room = omega arith; nested = subst (λ (j : ℕ). nests v j 0 ≡ true) c (r .root .nested) }) (omega arith) all in
     let end-at : 0 + length (namesOf (trees s v n 0)) ≡ b = eqb-true (0 + length (namesOf (trees s v n 0))) b (sym (packed-none v 0 (0 + 4 * n) (0 + length (namesOf (trees s v n 0))) b (omega arith)) ∙ x .on) in
@@ -292,7 +293,7 @@ test-holds w s h =
       one = ap isOne (trees-step s v n 0 (r .root .some-node) (omega arith)) ∙ ap isEnd (no-trees s v (n - countAt v 0) (0 + 4 * countAt v 0) (omega arith)) ∙ is-end;
       few-nodes = omega arith;
       few-names = omega arith;
-      words-are = begins w (sheetOf (trees s v n 0)) (4 + 4 * count (trees s v n 0)) (sheet-length (trees s v n 0)) (header-stands w (trees s v n 0) (r .head) k (omega arith) (x .stands));
+      words-are = begins w (sheetOf (trees s v n 0)) (wordsUsed (count (trees s v n 0))) (sheet-length (trees s v n 0)) (header-stands w (trees s v n 0) (r .head) k (omega arith) (x .stands));
       names-are = begins s (namesOf (trees s v n 0)) (length (namesOf (trees s v n 0))) refl (x .names);
     }
 
@@ -302,7 +303,7 @@ unfolding isOne isEnd
 holds-test w s end h = absurd (false≢true (h .one))
 holds-test w s (node l cs end) h =
     ap₂ isSheet (h .words-are) (h .names-are)
-    ∙ layout-sheet l cs (drop (4 + 4 * count (node l cs end)) w) (drop (length (namesOf (node l cs end))) s) (h .valid-tree) (h .few-nodes) (h .few-names)
+    ∙ layout-sheet l cs (drop (wordsUsed (count (node l cs end))) w) (drop (length (namesOf (node l cs end))) s) (h .valid-tree) (h .few-nodes) (h .few-names)
 holds-test w s (node l cs (node x ys zs)) h = absurd (false≢true (h .one))
 
 -- And the tree that it holds is the only one.
@@ -311,5 +312,5 @@ unfolding isOne isEnd
 holds-tree w s end h = absurd (false≢true (h .one))
 holds-tree w s (node l cs end) h =
     ap₂ treeOf (h .words-are) (h .names-are)
-    ∙ layout-tree l cs (drop (4 + 4 * count (node l cs end)) w) (drop (length (namesOf (node l cs end))) s) (h .valid-tree) (h .few-nodes) (h .few-names)
+    ∙ layout-tree l cs (drop (wordsUsed (count (node l cs end))) w) (drop (length (namesOf (node l cs end))) s) (h .valid-tree) (h .few-nodes) (h .few-names)
 holds-tree w s (node l cs (node x ys zs)) h = absurd (false≢true (h .one))

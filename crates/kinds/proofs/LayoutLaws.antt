@@ -13,7 +13,8 @@ use Rattle.kinds.specs.Tree as T
 use Rattle.kinds.specs.Tree.{Label, Trees, end, node, primitive, bitField, typedBitField, pointer, atomic, array, struct, union, isEnd, isOne, count, kind, name}
 use Rattle.kinds.specs.Parse.{maxU64}
 use Rattle.kinds.specs.Sound.{validLabel, validCount, valid}
-use Rattle.kinds.specs.Sheet.{first, second, namesOf, nodes, headerOf, sheetOf, nodeWords, treeOf, kindAt, firstAt, secondAt, countAt, labelAt, label, trees, arity, nests, numbers, nextName, packed, header, isSheet}
+use Rattle.kinds.specs.Sheet.{headerWords, wordsUsed, headerFor, sheetOf, header, nodeWords, isSheet, treeOf}
+use Rattle.kinds.specs.Sheet.{first, second, namesOf, nodes, kindAt, firstAt, secondAt, countAt, labelAt, label, trees, arity, nests, numbers, nextName, packed}
 use Rattle.kinds.proofs.SheetLaws.{trees-step, nests-step, nests-none, arity-one, arity-low, packed-on, packed-none}
 use Rattle.kinds.proofs.TableLaws.{both-left, both-right}
 use Rattle.kinds.proofs.NodeLaws.{no-trees}
@@ -237,12 +238,13 @@ plus-none : (n : ℕ) → suc n ≡ suc (n + 0)
 plus-none n = omega arith
 
 root-count : (l : Label) (cs : Trees) (r : List ℕ) → countAt (nodeWords (sheetOf (node l cs end) ++ r)) 0 ≡ suc (count cs)
-unfolding sheetOf headerOf nodes
+unfolding sheetOf headerFor nodes
 root-count l cs r = refl
 
-header-make : (w : List ℕ) (m n b : ℕ) → getD w 0 0 ≡ n → getD w 1 0 ≡ 4 → getD w 2 0 ≡ b → getD w 3 0 ≡ 4 + 4 * n → 1 ≤ n → n ≤ 2001 → b ≤ 2000 → 4 + 4 * n ≤ length w → b ≤ m → header w m ≡ true
+header-make : (w : List ℕ) (m n b : ℕ) → getD w 0 0 ≡ n → getD w 1 0 ≡ headerWords → getD w 2 0 ≡ b → getD w 3 0 ≡ wordsUsed n → 1 ≤ n → n ≤ 2001 → b ≤ 2000 → wordsUsed n ≤ length w → b ≤ m → header w m ≡ true
 unfolding header
-header-make w m n b e₀ e₁ e₂ e₃ p q r s u = rw (e₀, e₁, e₂, e₃, le-leb 4 (length w) (omega arith), le-leb 1 n p, le-leb n 2001 q, le-leb b 2000 r, eq-eqb (4 + 4 * n) (4 + 4 * n) refl, le-leb (4 + 4 * n) (length w) s, le-leb b m u)
+header-make w m n b e₀ e₁ e₂ e₃ p q r s u =
+    rw (e₀, e₁, e₂, e₃, le-leb headerWords (length w) (omega arith), le-leb 1 n p, le-leb n 2001 q, le-leb b 2000 r, eq-eqb (wordsUsed n) (wordsUsed n) refl, le-leb (wordsUsed n) (length w) s, le-leb b m u)
 
 sheet-make : (w s : List ℕ) → header w (length s) ≡ true → packed (nodeWords w) (getD w 0 0) 0 0 (getD w 2 0) ≡ true → countAt (nodeWords w) 0 ≡ getD w 0 0 → nests (nodeWords w) (getD w 0 0) 0 ≡ true → isSheet w s ≡ true
 unfolding isSheet
@@ -251,7 +253,7 @@ sheet-make w s a b c d = rw (a, b, eq-eqb (countAt (nodeWords w) 0) (getD w 0 0)
 -- the layout of a tree is a sheet, and holds that tree
 module _ (l : Label) (cs : Trees) (r q : List ℕ) (ok : valid (node l cs end) ≡ true) (few : count (node l cs end) ≤ 2001) (short : length (namesOf (node l cs end)) ≤ 2000) where
   pub layout-sheet : isSheet (sheetOf (node l cs end) ++ r) (namesOf (node l cs end) ++ q) ≡ true
-  unfolding sheetOf headerOf count
+  unfolding sheetOf headerFor count
   layout-sheet =
       let t = node l cs end in
       let n = length-append (nodes t 0) r in
@@ -268,5 +270,5 @@ module _ (l : Label) (cs : Trees) (r q : List ℕ) (ok : valid (node l cs end) �
       (nests-back (nodeWords w) t 0 0 ok (r, refl))
 
   pub layout-tree : treeOf (sheetOf (node l cs end) ++ r) (namesOf (node l cs end) ++ q) ≡ node l cs end
-  unfolding treeOf sheetOf headerOf
+  unfolding treeOf sheetOf headerFor
   layout-tree = read-back (namesOf (node l cs end) ++ q) (nodeWords (sheetOf (node l cs end) ++ r)) (node l cs end) 0 0 ok (r, refl) (q, refl)

@@ -9,7 +9,7 @@ use lib.ListN.{length, getD, take, drop, length-drop}
 use lib.Dec.{leb, eqb}
 use Rattle.kinds.specs.Tree as T
 use Rattle.kinds.specs.Tree.{end, primitive, bitField, typedBitField, pointer, atomic, array, struct, union, isEnd, kind, isContainer}
-use Rattle.kinds.specs.Sheet.{header, numbers, nextName, packed, isSheet, nodeWords, kindAt, firstAt, secondAt, countAt, label, isContainerKind, read, trees, arity, nests}
+use Rattle.kinds.specs.Sheet.{header, numbers, nextName, packed, isSheet, headerWords, nodeWords, kindAt, firstAt, secondAt, countAt, label, isContainerKind, read, trees, arity, nests}
 use Rattle.kinds.specs.Walk.{NodeAt, TreesAt, KindAndName, KindsAndNames}
 use Rattle.kinds.proofs.SheetLaws.{Header, header-says, arity-one, arity-low, arity-high, nests-step, nests-zero, nests-over, nests-none, packed-first, packed-rest, container-first, container-fits}
 use Rattle.kinds.proofs.TableLaws.{both-left, both-right}
@@ -295,7 +295,7 @@ sheet-says words names h =
     let hd = header-says words (length names) (both-left (header words (length names)) _ h) in
     let e = eqb-true (countAt w 0) (getD words 0 0) (both-left (eqb (countAt w 0) (getD words 0 0)) _ b) in
     let r = hd .room in
-    let l = length-drop 4 words in
+    let l = length-drop headerWords words in
     record {
       count = e;
       head = hd;

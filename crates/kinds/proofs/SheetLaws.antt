@@ -10,7 +10,7 @@ use borrow.Author.Tests.{le-leb, lt-leb, leb-true, leb-false, eq-eqb, ne-eqb, eq
 use lib.ListN.{length, getD}
 use lib.Dec.{leb, eqb}
 use Rattle.kinds.specs.Tree.{node}
-use Rattle.kinds.specs.Sheet.{kindAt, firstAt, secondAt, countAt, labelAt, isContainerKind, numbers, nextName, packed, header, below, read, trees, arity, nest, nests, maxNodes, maxNames}
+use Rattle.kinds.specs.Sheet.{kindAt, firstAt, secondAt, countAt, labelAt, isContainerKind, numbers, nextName, packed, headerWords, wordsUsed, headerFor, header, below, read, trees, arity, nest, nests, maxNodes, maxNames}
 use Rattle.kinds.proofs.TableLaws.{both, both-left, both-right}
 
 module _ (s w : List ℕ) where
@@ -175,33 +175,38 @@ unfolding packed
 packed-none w zero at s e p = refl
 packed-none w (suc n) at s e p = absurd (omega arith)
 
+-- the header takes the words before the first node
+pub header-length : (k l : ℕ) → length (headerFor k l) ≡ headerWords
+unfolding headerFor
+header-length k l = refl
+
 -- what a header says
 pub record Header (w : List ℕ) (m : ℕ) : Type 0 where
   pub some-nodes : 1 ≤ getD w 0 0
   pub few-nodes : getD w 0 0 ≤ maxNodes
   pub few-bytes : getD w 2 0 ≤ maxNames
-  pub offset : getD w 1 0 ≡ 4
-  pub used : getD w 3 0 ≡ 4 + 4 * getD w 0 0
-  pub room : 4 + 4 * getD w 0 0 ≤ length w
+  pub offset : getD w 1 0 ≡ headerWords
+  pub used : getD w 3 0 ≡ wordsUsed (getD w 0 0)
+  pub room : wordsUsed (getD w 0 0) ≤ length w
   pub bytes : getD w 2 0 ≤ m
 
 pub header-says : (w : List ℕ) (m : ℕ) → header w m ≡ true → Header w m
 unfolding header
 header-says w m h =
-    let a = both (leb 4 (length w)) _ h in
+    let a = both (leb headerWords (length w)) _ h in
     let b = both (leb 1 (getD w 0 0)) _ (a .1) in
     let c = both (leb (getD w 0 0) maxNodes) _ (b .1) in
-    let d = both (eqb (getD w 1 0) 4) _ (c .1) in
+    let d = both (eqb (getD w 1 0) headerWords) _ (c .1) in
     let e = both (leb (getD w 2 0) maxNames) _ (d .1) in
-    let f = both (eqb (getD w 3 0) (4 + 4 * getD w 0 0)) _ (e .1) in
+    let f = both (eqb (getD w 3 0) (wordsUsed (getD w 0 0))) _ (e .1) in
     let g = both (leb (getD w 3 0) (length w)) _ (f .1) in
     record {
       some-nodes = leb-true 1 (getD w 0 0) (b .0);
       few-nodes = leb-true (getD w 0 0) maxNodes (c .0);
       few-bytes = leb-true (getD w 2 0) maxNames (e .0);
-      offset = eqb-true (getD w 1 0) 4 (d .0);
-      used = eqb-true (getD w 3 0) (4 + 4 * getD w 0 0) (f .0);
-      room = subst (λ (n : ℕ). n ≤ length w) (eqb-true (getD w 3 0) (4 + 4 * getD w 0 0) (f .0)) (leb-true (getD w 3 0) (length w) (g .0));
+      offset = eqb-true (getD w 1 0) headerWords (d .0);
+      used = eqb-true (getD w 3 0) (wordsUsed (getD w 0 0)) (f .0);
+      room = subst (λ (n : ℕ). n ≤ length w) (eqb-true (getD w 3 0) (wordsUsed (getD w 0 0)) (f .0)) (leb-true (getD w 3 0) (length w) (g .0));
       bytes = leb-true (getD w 2 0) m (g .1);
     }
 

@@ -50,12 +50,16 @@ nodes (node l cs ts) p =
 abbrev pub headerWords : ℕ
 headerWords = 4
 
--- Node count, offset of the first node, count of name bytes, words used.
-unfoldable pub headerOf : Trees → List ℕ
-headerOf t = count t ∷ headerWords ∷ length (namesOf t) ∷ (headerWords + 4 * count t) ∷ []
+-- The words of a sheet with `k` nodes, header and nodes.
+abbrev pub wordsUsed : ℕ → ℕ
+wordsUsed k = headerWords + 4 * k
+
+-- The header of a sheet with `k` nodes and `l` name bytes: node count, offset of the first node, count of name bytes, words used.
+unfoldable pub headerFor : ℕ → ℕ → List ℕ
+headerFor k l = k ∷ headerWords ∷ l ∷ wordsUsed k ∷ []
 
 unfoldable pub sheetOf : Trees → List ℕ
-sheetOf t = headerOf t ++ nodes t 0
+sheetOf t = headerFor (count t) (length (namesOf t)) ++ nodes t 0
 
 -- The most bytes of a text, nodes of a tree and name bytes of a tree.
 abbrev pub maxText : ℕ
@@ -73,7 +77,7 @@ pub record Holds (words names : List ℕ) (t : Trees) : Type 0 where
   pub valid-tree : valid t ≡ true
   pub few-nodes : count t ≤ maxNodes
   pub few-names : length (namesOf t) ≤ maxNames
-  pub words-are : words ≡ sheetOf t ++ drop (headerWords + 4 * count t) words
+  pub words-are : words ≡ sheetOf t ++ drop (wordsUsed (count t)) words
   pub names-are : names ≡ namesOf t ++ drop (length (namesOf t)) names
 
 -- ---- The test that two lists begin with a sheet. `w` is the words from the first node on, and `at` a node's first word in it.
@@ -145,7 +149,7 @@ header words names =
     && (leb (getD words 0 0) maxNodes
     && (eqb (getD words 1 0) headerWords
     && (leb (getD words 2 0) maxNames
-    && (eqb (getD words 3 0) (headerWords + 4 * getD words 0 0)
+    && (eqb (getD words 3 0) (wordsUsed (getD words 0 0))
     && (leb (getD words 3 0) (length words)
     && leb (getD words 2 0) names))))))
 

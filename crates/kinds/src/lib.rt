@@ -35,10 +35,8 @@ const BLOCK: u64 = 20;
 
 const CLASS: u64 = 21;
 
-// The most bytes of a text, words of a sheet that is read from one, nodes of a sheet and name bytes of a sheet.
+// The most bytes of a text, nodes of a sheet and name bytes of a sheet.
 pub const MAX_TEXT: usize = 2000;
-
-pub const MAX_WORDS: usize = 4 + 4 * (MAX_TEXT + 1);
 
 pub const MAX_NODES: u64 = 2001;
 

@@ -15,7 +15,7 @@ use Rattle.kinds.specs.Sheet.{nodes, namesOf, first, second}
 use Rattle.kinds.specs.Tree.{Label, Trees, end, node, count, pointer, atomic, array, none, kind, name}
 use Rattle.parse.specs.Agree.{Lists, lists, Bound, ParsedIs, Simple, Reads, Ready, FoundBound, FoundIs, Frame, Kept, ItemsIs, ItemsReads, ItemsFound, ItemsBound, NamedIs, NameFound, ItemsWithin}
 use Rattle.parse.specs.Answer.{kindWord}
-use Rattle.parse.specs.Out.{After, AfterItems, pickList, pickParsed, pickItems, putNode, noneUnder, holdOut, holdWords, itemOut, itemWords, containOut, containWords, closesFields, endOut}
+use Rattle.parse.specs.Out.{After, AfterItems, pickList, pickParsed, pickItems, nodePut, noneUnder, holdOut, holdWords, itemOut, itemWords, containOut, containWords, closesFields, endOut}
 use Rattle.parse.specs.Room.{slack, closes}
 use Rattle.kinds.specs.declared.ContainerKind.{ContainerKind}
 use Rattle.kinds.specs.declared.ContainerKind.the-variants.{Struct, Union}
@@ -111,12 +111,12 @@ pub record Bare (m : ℕ) (l : Label) (x : ℕ) : Type 0 where
   pub name-is : name l ≡ []
 
 pub over-bare : (w : List ℕ) (n m x c : ℕ) (l : Label) (cs : Trees) → Bare m l x → c ≡ suc (count cs)
-    → putNode (sets w (4 * (n + 1)) (nodes cs m)) n (kind l) x 0 c ≡ sets w (4 * n) (nodes (node l cs end) m)
+    → nodePut (sets w (4 * (n + 1)) (nodes cs m)) n (kind l) x 0 c ≡ sets w (4 * n) (nodes (node l cs end) m)
 over-bare w n m x c l cs b e =
     let z : m + length (name l) ≡ m = ap (λ (s : List ℕ). m + length s) (b .name-is) ∙ add-zero m in
-    ap (λ (k : ℕ). putNode (sets w (4 * (n + 1)) (nodes cs k)) n (kind l) x 0 c) (sym z)
-    ∙ ap (λ (k : ℕ). putNode (sets w (4 * (n + 1)) (nodes cs (m + length (name l)))) n (kind l) k 0 c) (sym (b .first-is))
-    ∙ ap (λ (k : ℕ). putNode (sets w (4 * (n + 1)) (nodes cs (m + length (name l)))) n (kind l) (first l m) k c) (sym (b .second-is))
+    ap (λ (k : ℕ). nodePut (sets w (4 * (n + 1)) (nodes cs k)) n (kind l) x 0 c) (sym z)
+    ∙ ap (λ (k : ℕ). nodePut (sets w (4 * (n + 1)) (nodes cs (m + length (name l)))) n (kind l) k 0 c) (sym (b .first-is))
+    ∙ ap (λ (k : ℕ). nodePut (sets w (4 * (n + 1)) (nodes cs (m + length (name l)))) n (kind l) (first l m) k c) (sym (b .second-is))
     ∙ over w n m c l cs e
 
 names-bare : (l : Label) (cs : Trees) → name l ≡ [] → namesOf (node l cs end) ≡ namesOf cs
@@ -146,7 +146,7 @@ module _ (text : List ℕ) (n m x : ℕ) (b a : Lists) (l : Label) (bare : Bare 
         count-is = omega (arith, none-count);
         names-is = sym (ap (λ (s : List ℕ). m + length s) ns ∙ add-zero m);
         words-are =
-            ap (λ (s : List ℕ). putNode (sets (a .words) (4 * (n + 1)) s) n (kind l) x 0 2) (sym (none-nodes m))
+            ap (λ (s : List ℕ). nodePut (sets (a .words) (4 * (n + 1)) s) n (kind l) x 0 2) (sym (none-nodes m))
             ∙ over-bare (a .words) n m x 2 l (node none end end) bare (omega (arith, none-count))
             ∙ ap (λ (s : List ℕ). sets s (4 * n) (nodes (node l (node none end end) end) m)) (kept .words-kept);
         names-are = kept .names-kept ∙ sym (ap (λ (s : List ℕ). sets (b .names) m s) ns);
@@ -156,7 +156,7 @@ module _ (text : List ℕ) (n m x : ℕ) (b a : Lists) (l : Label) (bare : Bare 
 pub child-found : (text : List ℕ) (n m x : ℕ) (b a : Lists) (l : Label) → Bare m l x
     → (to next k j : ℕ) (p q : R.Parsed) → FoundIs text (n + 1) m b a to k j p
     → ((c : Label) (cs : Trees) → p ≡ encoding c cs (drop to text) → q ≡ encoding l (node c cs end) (drop next text))
-    → FoundIs text n m b (lists (putNode (a .words) n (kind l) x 0 (k - n)) (a .names)) next k j q
+    → FoundIs text n m b (lists (nodePut (a .words) n (kind l) x 0 (k - n)) (a .names)) next k j q
 child-found text n m x b a l bare to next k j p q f e =
     let c = f .label in
     let cs = f .children in
@@ -170,7 +170,7 @@ child-found text n m x b a l bare to next k j p q f e =
       count-is = omega arith;
       names-is = f .names-is ∙ sym (ap (λ (s : List ℕ). m + length s) ns);
       words-are =
-          ap (λ (s : List ℕ). putNode s n (kind l) x 0 (k - n)) (f .words-are)
+          ap (λ (s : List ℕ). nodePut s n (kind l) x 0 (k - n)) (f .words-are)
           ∙ over-bare (b .words) n m x (k - n) l (node c cs end) bare (omega arith);
       names-are = f .names-are ∙ sym (ap (λ (s : List ℕ). sets (b .names) m s) ns);
     }
@@ -273,7 +273,7 @@ module _ (text : List ℕ) (at n m len it : ℕ) (h : at < length text) (st : st
   opens-array = slack-open text at h (ap closes st)
 
   found-closed : (to k j : ℕ) → Reads text it (n + 1) m b a (Encoding to k j) → closed text to ≡ true
-      → Reads text at n m b (lists (putNode (a .words) n 28 len 0 (k - n)) (a .names)) (Encoding (to + 1) k j)
+      → Reads text at n m b (lists (nodePut (a .words) n 28 len 0 (k - n)) (a .names)) (Encoding (to + 1) k j)
   unfolding Begun item kind closes start R.inSingles R.singles inOthers others
   found-closed to k j r e =
       let l : to < length text = closed-in text to e in
@@ -288,7 +288,7 @@ module _ (text : List ℕ) (at n m len it : ℕ) (h : at < length text) (st : st
           names-on = r .bound .names-on;
           names-room = omega (arith, r .bound .names-room);
         };
-        says = begun text at n m b (lists (putNode (a .words) n 28 len 0 (k - n)) (a .names)) (Encoding (to + 1) k j) h
+        says = begun text at n m b (lists (nodePut (a .words) n 28 len 0 (k - n)) (a .names)) (Encoding (to + 1) k j) h
             (λ g f. child-found text n m len b a (array len) (bare-array m len) to (to + 1) k j _ _ (r .says g (fuel-on text at it g on f)) (λ lab cs q. begins-item text at len it st num g q ∙ closes-it text len lab cs to l c));
       }
 
@@ -302,7 +302,7 @@ module _ (text : List ℕ) (at n m len it : ℕ) (h : at < length text) (st : st
   }
 
   pick-found : (to k j : ℕ) → Reads text it (n + 1) m b a (Encoding to k j) → (d : Bool) → closed text to ≡ d
-      → Reads text at n m b (lists (pickList d (putNode (a .words) n 28 len 0 (k - n)) (a .words)) (a .names)) (pickParsed d (Encoding (to + 1) k j) (Refused WrongEndArray to))
+      → Reads text at n m b (lists (pickList d (nodePut (a .words) n 28 len 0 (k - n)) (a .words)) (a .names)) (pickParsed d (Encoding (to + 1) k j) (Refused WrongEndArray to))
   pick-found to k j r true e = found-closed to k j r e
   pick-found to k j r false e = found-open to k j r e
 
@@ -527,7 +527,7 @@ module _ (text : List ℕ) (at : ℕ) (k : ContainerKind) (n m : ℕ) (h : at < 
     named g = begins text at st (λ t. parseInner g t) (λ j t. parseItems g j t) ∙ rw (q .is, begin) refl
 
     contained-found : (end-at k2 j2 g : ℕ) → ItemsFound text (n + 1) l (lists (b .words) ns) a end-at k2 j2 (parseItems g k (drop to text))
-        → FoundIs text n m b (lists (putNode (a .words) n (kindWord k) m (l - m) (k2 - n)) (a .names)) end-at k2 j2
+        → FoundIs text n m b (lists (nodePut (a .words) n (kindWord k) m (l - m) (k2 - n)) (a .names)) end-at k2 j2
         (begin (getD text at 0) (start (getD text at 0)) (drop (at + 1) text) (λ t. parseInner g t) (λ j t. parseItems g j t))
     unfolding R.contained
     contained-found end-at k2 j2 g t =
@@ -549,11 +549,11 @@ module _ (text : List ℕ) (at : ℕ) (k : ContainerKind) (n m : ℕ) (h : at < 
           count-is = omega arith;
           names-is = omega arith;
           words-are =
-              ap (λ (w : List ℕ). putNode w n (kindWord k) m (l - m) (k2 - n)) (t .words-are)
-              ∙ ap (λ (x : ℕ). putNode (sets (b .words) (4 * (n + 1)) (nodes ts x)) n (kindWord k) m (l - m) (k2 - n)) ml
-              ∙ ap (λ (x : ℕ). putNode (sets (b .words) (4 * (n + 1)) (nodes ts (m + length (name lab)))) n x m (l - m) (k2 - n)) (sym (facts .0))
-              ∙ ap (λ (x : ℕ). putNode (sets (b .words) (4 * (n + 1)) (nodes ts (m + length (name lab)))) n (kind lab) x (l - m) (k2 - n)) (sym (facts .1))
-              ∙ ap (λ (x : ℕ). putNode (sets (b .words) (4 * (n + 1)) (nodes ts (m + length (name lab)))) n (kind lab) (first lab m) x (k2 - n)) (sl ∙ sym (facts .2))
+              ap (λ (w : List ℕ). nodePut w n (kindWord k) m (l - m) (k2 - n)) (t .words-are)
+              ∙ ap (λ (x : ℕ). nodePut (sets (b .words) (4 * (n + 1)) (nodes ts x)) n (kindWord k) m (l - m) (k2 - n)) ml
+              ∙ ap (λ (x : ℕ). nodePut (sets (b .words) (4 * (n + 1)) (nodes ts (m + length (name lab)))) n x m (l - m) (k2 - n)) (sym (facts .0))
+              ∙ ap (λ (x : ℕ). nodePut (sets (b .words) (4 * (n + 1)) (nodes ts (m + length (name lab)))) n (kind lab) x (l - m) (k2 - n)) (sym (facts .1))
+              ∙ ap (λ (x : ℕ). nodePut (sets (b .words) (4 * (n + 1)) (nodes ts (m + length (name lab)))) n (kind lab) (first lab m) x (k2 - n)) (sl ∙ sym (facts .2))
               ∙ over (b .words) n m (k2 - n) lab ts cl;
           names-are =
               t .names-are
@@ -576,7 +576,7 @@ module _ (text : List ℕ) (at : ℕ) (k : ContainerKind) (n m : ℕ) (h : at < 
             names-on = omega (arith, q .names-is);
             names-room = omega (arith, q .names-room);
           };
-          says = begun text at n m b (lists (putNode (a .words) n (kindWord k) m (l - m) (k2 - n)) (a .names)) (Encoding end-at k2 j2) h
+          says = begun text at n m b (lists (nodePut (a .words) n (kindWord k) m (l - m) (k2 - n)) (a .names)) (Encoding end-at k2 j2) h
               (λ g f. contained-found end-at k2 j2 g (r .says g (omega (arith, q .onward, length-drop to text, length-drop (at + 1) text))));
         }
     reads-contained (NoItems why end-at) r =

@@ -1,6 +1,6 @@
 -- The whole text: from what reading at a place gives to what the lists hold and what is answered.
 use Prim.Native.Nat.{ℕ, zero, suc, _+_, _*_, _-_, _≤_, _<_}
-use mathlib.Core.Path.{_≡_, refl, sym, ap, _∙_, subst, subst₂}
+use mathlib.Core.Path.{_≡_, refl, sym, ap, ap₂, _∙_, subst, subst₂}
 use mathlib.Core.List.{List, [], _∷_, _++_, append-assoc, append-nil}
 use mathlib.Core.Bool.{Bool, true, false, _||_, and-false, false≢true}
 use mathlib.Core.Option.{some, none}
@@ -15,7 +15,7 @@ use Rattle.kinds.specs.Container.{endByte}
 use Rattle.kinds.specs.Parse as R
 use Rattle.kinds.specs.Byte.{among}
 use Rattle.kinds.specs.Parse.{start, isQualifier, parseInner, parse, parseEncodingOrNone, encodingOrNone, stripLeadingQualifiers, encoded, notEncoded}
-use Rattle.kinds.specs.Sheet.{nodes, namesOf, headerOf, sheetOf, headerWords, maxText}
+use Rattle.kinds.specs.Sheet.{nodes, namesOf, headerFor, sheetOf, headerWords, wordsUsed, maxText}
 use Rattle.kinds.specs.Tree as T
 use Rattle.kinds.specs.Tree.{Trees, end, node, count}
 use Rattle.kinds.specs.declared.ErrorKind.{ErrorKind}
@@ -23,13 +23,14 @@ use Rattle.kinds.specs.declared.ErrorKind.the-variants.{Unknown}
 use Rattle.kinds.specs.declared.Refusal.the-variants.{TextTooLong, ListTooShort}
 use Rattle.parse.specs.Agree.{Lists, lists, Reads, Ready, Frame, FoundBound, Bound, TreeAt, NoTree, EncodedIs}
 use Rattle.parse.specs.Answer.{used, hasRoom, turnedAway, padded, filled}
-use Rattle.parse.specs.Out.{putNode, cleared, headed, noneSheet, codeSheet, Fits, encodedOut, encodedWords, encodedNames}
+use Rattle.parse.specs.Out.{nodePut, cleared, headed, noneSheet, codeSheet, Fits, encodedOut, encodedWords, encodedNames}
 use Rattle.parse.specs.declared.Encoded.{Encoded}
 use Rattle.parse.specs.declared.Encoded.the-variants as E
 use Rattle.parse.specs.declared.Parsed.{Parsed}
 use Rattle.parse.specs.declared.Parsed.the-variants.{Empty, Encoding, ContainerEnd, ArrayEnd, Refused}
 use Rattle.parse.proofs.Cycle.{reads-simple, kept-frame, count-alone, none-nodes, none-count, none-names}
 use Rattle.kinds.proofs.HoldsLaws.{sheet-length}
+use Rattle.kinds.proofs.SheetLaws.{header-length}
 use Rattle.kinds.proofs.ListLaws.{unread-end}
 use Rattle.parse.proofs.Sheets.{slack-le, simple-code}
 use Rattle.parse.proofs.Stores.{sets-append, sets-front-append, sets-part}
@@ -51,13 +52,17 @@ put-in-rest w a i v h e =
     ∙ ap (λ (x : List ℕ). take headerWords w ++ x) (e ∙ ap (λ (x : List ℕ). sets x i v) (mid-rest headerWords w))
     ∙ sets-part headerWords w i v h
 
+-- The header stored before what stands from the first node on.
+header-front : (w : List ℕ) (k l : ℕ) (v : List ℕ) → sets (sets w headerWords v) 0 (headerFor k l) ≡ sets w 0 (headerFor k l ++ v)
+header-front w k l v = sets-front-append w 0 headerWords (headerFor k l) v (omega (arith, header-length k l))
+
 -- None's node stored after the header, and the header before it.
-pub none-put : (w a r : List ℕ) → headerWords ≤ length w → a ≡ putNode (midOf headerWords (length w - headerWords) w) 0 31 0 0 1 → r ≡ headed 1 0 (putMid headerWords (length w - headerWords) w a) → r ≡ noneSheet w
+pub none-put : (w a r : List ℕ) → headerWords ≤ length w → a ≡ nodePut (midOf headerWords (length w - headerWords) w) 0 31 0 0 1 → r ≡ headed 1 0 (putMid headerWords (length w - headerWords) w a) → r ≡ noneSheet w
 none-put w a r h e f =
     let v : List ℕ = 31 ∷ 0 ∷ 0 ∷ 1 ∷ [] in
     f
     ∙ ap (headed 1 0) (put-in-rest w a 0 v h e)
-    ∙ sets-front-append w 0 headerWords (1 ∷ headerWords ∷ 0 ∷ (headerWords + 4) ∷ []) v refl
+    ∙ header-front w 1 0 v
 
 -- ---- Lists of zeros.
 
@@ -86,20 +91,33 @@ stored-front n w v h l =
     ∙ ap (λ (t : List ℕ). v ++ t) (drop-append-le (length v) z (drop n w) (omega arith) ∙ ap (λ (t : List ℕ). t ++ drop n w) (drop-zeros n (length v) h))
     ∙ sym (append-assoc v (zeros (n - length v)) (drop n w))
 
--- A primitive's node and four zeros stored after the header, and the header before them.
-pub code-put : (p : ℕ) (w a b y : List ℕ) → used 1 ≤ length w → a ≡ putNode (midOf headerWords (length w - headerWords) w) 0 p 0 0 1
-    → let x : List ℕ = putMid headerWords (length w - headerWords) w a in length x ≡ length w
-    → b ≡ putNode (midOf headerWords (length x - headerWords) x) 1 0 0 0 0 → y ≡ headed 1 0 (putMid headerWords (length x - headerWords) x b) → y ≡ codeSheet p w
+-- A run and the zeros after it stored together.
+stored-padded : (n : ℕ) (w v : List ℕ) → length v ≤ n → n ≤ length w → sets w 0 (padded n v) ≡ filled n v w
 unfolding padded filled
+stored-padded n w v h l =
+    let z : List ℕ = zeros (n - length v) in
+    let zl : length z ≡ n - length v = length-replicate (n - length v) 0 in
+    let e : length (v ++ z) ≡ n = length-append v z ∙ omega arith in
+    sets-eq (v ++ z) w 0 (omega arith) ∙ ap (λ (k : ℕ). (v ++ z) ++ drop k w) (zero-add (length (v ++ z)) ∙ e)
+
+-- A primitive's node and four zeros stored after the header, and the header before them.
+pub code-put : (p : ℕ) (w a b y : List ℕ) → used 1 ≤ length w → a ≡ nodePut (midOf headerWords (length w - headerWords) w) 0 p 0 0 1
+    → let x : List ℕ = putMid headerWords (length w - headerWords) w a in length x ≡ length w
+    → b ≡ nodePut (midOf headerWords (length x - headerWords) x) 1 0 0 0 0 → y ≡ headed 1 0 (putMid headerWords (length x - headerWords) x b) → y ≡ codeSheet p w
+unfolding padded
 code-put p w a b y h e l f g =
     let x : List ℕ = putMid headerWords (length w - headerWords) w a in
     let v : List ℕ = p ∷ 0 ∷ 0 ∷ 1 ∷ [] in
     let z : List ℕ = 0 ∷ 0 ∷ 0 ∷ 0 ∷ [] in
-    let hd : List ℕ = 1 ∷ headerWords ∷ 0 ∷ (headerWords + 4) ∷ [] in
+    let hd : List ℕ = headerFor 1 0 in
+    let hl : length hd ≡ headerWords = header-length 1 0 in
+    let vl : length (hd ++ v) ≡ length hd + length v = length-append hd v in
+    let four : 4 ≡ used 1 - length (hd ++ v) = omega arith in
     g
-    ∙ ap (headed 1 0) (put-in-rest x b 4 z (omega arith) f ∙ ap (λ (t : List ℕ). sets t 8 z) (put-in-rest w a 0 v (omega arith) e) ∙ sym (sets-append w 4 v z))
-    ∙ sets-front-append w 0 headerWords hd (v ++ z) refl
-    ∙ sets-eq (hd ++ (v ++ z)) w 0 (omega arith)
+    ∙ ap (headed 1 0) (put-in-rest x b 4 z (omega arith) f ∙ ap (λ (t : List ℕ). sets t (headerWords + 4) z) (put-in-rest w a 0 v (omega arith) e) ∙ sym (sets-append w headerWords v z))
+    ∙ header-front w 1 0 (v ++ z)
+    ∙ ap (sets w 0) (sym (append-assoc hd v z) ∙ ap (λ (k : ℕ). (hd ++ v) ++ zeros k) four)
+    ∙ stored-padded (used 1) w (hd ++ v) (omega arith) h
     ∙ sym (stored-front (used 1) w (hd ++ v) (omega arith) h)
 
 -- One byte cleared.
@@ -145,12 +163,12 @@ module _ (text w ns : List ℕ) where
 
 -- ---- The outcome of reading from cleared lists.
 
-none-sheet : sheetOf (node T.none end end) ≡ 1 ∷ 4 ∷ 0 ∷ 8 ∷ 31 ∷ 0 ∷ 0 ∷ 1 ∷ []
-unfolding sheetOf headerOf
+none-sheet : sheetOf (node T.none end end) ≡ headerFor 1 0 ++ (31 ∷ 0 ∷ 0 ∷ 1 ∷ [])
+unfolding sheetOf
 none-sheet = simp (none-nodes, none-names, none-count)
 
 -- None's sheet stored in cleared words.
-pub none-stored : (n : ℕ) (w : List ℕ) → 8 ≤ n → n ≤ length w → noneSheet (filled n [] w) ≡ filled n (sheetOf (node T.none end end)) w
+pub none-stored : (n : ℕ) (w : List ℕ) → wordsUsed 1 ≤ n → n ≤ length w → noneSheet (filled n [] w) ≡ filled n (sheetOf (node T.none end end)) w
 none-stored n w h l =
     ap noneSheet (sym (emptied n w w refl))
     ∙ sym (ap (sets (cleared n w) 0) none-sheet)
@@ -181,7 +199,7 @@ module _ (text w ns : List ℕ) (at : ℕ) (short : length text ≤ 2000) (hw : 
       → NoTree text (lists w ns) (lists (cleared (used (length text)) joined) (cleared (length text) (a .names))) why to
   refused-is why to e h f =
       let m : ℕ = 4 * (length text + 1) in
-      let four : length (take headerWords front) ≡ headerWords = length-take-le headerWords front (omega (arith, front-length)) in
+      let head : length (take headerWords front) ≡ headerWords = length-take-le headerWords front (omega (arith, front-length)) in
       record {
         away = not-away text w ns short hw hn;
         words-room = hw;
@@ -189,7 +207,7 @@ module _ (text w ns : List ℕ) (at : ℕ) (short : length text ≤ 2000) (hw : 
         is = e;
         within = h;
         words-are = emptied (used (length text)) w joined (
-            ap (λ (k : ℕ). drop (k + m) joined) (sym four)
+            ap (λ (k : ℕ). drop (k + m) joined) (sym head)
             ∙ drop-append-add (take headerWords front) (a .words) m
             ∙ f .words-frame m (omega (arith, slack-le text at))
             ∙ drop-drop m headerWords front
@@ -198,7 +216,7 @@ module _ (text w ns : List ℕ) (at : ℕ) (short : length text ≤ 2000) (hw : 
       }
 
   tree-is : (to k j : ℕ) → Reads text at 0 0 before a (Encoding to k j) → TreeAt text (lists w ns) (lists (headed k j joined) (a .names)) to
-  unfolding fuel encodingOrNone sheetOf headerOf
+  unfolding fuel encodingOrNone sheetOf
   tree-is to k j r =
       let f = r .says fuel (omega arith) in
       let b : FoundBound text at 0 0 to k j = r .bound in
@@ -221,9 +239,8 @@ module _ (text w ns : List ℕ) (at : ℕ) (short : length text ≤ 2000) (hw : 
         words-are =
             ap (λ (x : List ℕ). headed k j (take headerWords front ++ x)) (f .words-are)
             ∙ ap (headed k j) (sets-part headerWords front 0 (nodes t 0) (omega (arith, front-length)))
-            ∙ sets-front-append front 0 headerWords (k ∷ headerWords ∷ j ∷ (headerWords + 4 * k) ∷ []) (nodes t 0) refl
-            ∙ ap (λ (c : ℕ). sets front 0 (c ∷ headerWords ∷ j ∷ (headerWords + 4 * c) ∷ nodes t 0)) kt
-            ∙ ap (λ (c : ℕ). sets front 0 (count t ∷ headerWords ∷ c ∷ (headerWords + 4 * count t) ∷ nodes t 0)) jt
+            ∙ header-front front k j (nodes t 0)
+            ∙ ap₂ (λ (c d : ℕ). sets front 0 (headerFor c d ++ nodes t 0)) kt jt
             ∙ stored-front (used (length text)) w (sheetOf t) fits hw;
         names-are = f .names-are ∙ stored-front (length text) ns (namesOf t) few hn;
         words-fit = fits;
@@ -305,14 +322,14 @@ one-code text w ns p one hw hn st w2 n2 ew en =
     let h : 0 < length text = omega arith in
     let front : List ℕ = cleared (used (length text)) w in
     let v : List ℕ = p ∷ 0 ∷ 0 ∷ 1 ∷ [] in
-    let hd : List ℕ = 1 ∷ headerWords ∷ 0 ∷ (headerWords + 4) ∷ [] in
+    let hd : List ℕ = headerFor 1 0 in
     let kept : List ℕ = cleared (length text) ns in
-    let a : Lists = lists (putNode (drop headerWords front) 0 p 0 0 1) kept in
+    let a : Lists = lists (nodePut (drop headerWords front) 0 p 0 0 1) kept in
     let n0 : List ℕ = drop headerWords front in
-    let reads : Reads text 0 0 0 (lists n0 kept) a (Encoding 1 1 0) = reads-simple text 0 0 0 n0 (putNode n0 0 p 0 0 1) kept (Encoding 1 1 0) h (simple-code text 0 0 0 n0 h p st) in
+    let reads : Reads text 0 0 0 (lists n0 kept) a (Encoding 1 1 0) = reads-simple text 0 0 0 n0 (nodePut n0 0 p 0 0 1) kept (Encoding 1 1 0) h (simple-code text 0 0 0 n0 h p st) in
     let words : headed 1 0 (take headerWords front ++ a .words) ≡ w2 =
     ap (headed 1 0) (sets-part headerWords front 0 v (omega (arith, cleared-length (used (length text)) w hw)))
-    ∙ sets-front-append front 0 headerWords hd v refl
+    ∙ header-front front 1 0 v
     ∙ ap (λ (k : ℕ). sets (cleared (used k) w) 0 (hd ++ v)) one
     ∙ sym ew in
     let names : kept ≡ n2 = ap (λ (k : ℕ). cleared k ns) one ∙ sym en in

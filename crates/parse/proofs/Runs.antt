@@ -12,7 +12,7 @@ use Rattle.kinds.specs.Parse as R
 use Rattle.kinds.specs.Parse.{start, inSingles, singles, inOthers, others}
 use Rattle.kinds.specs.Tree.{Label, pointer, atomic, kind}
 use Rattle.parse.specs.Agree.{Lists, lists, Bound, Reads, Ready, ItemsReads, CodesRead}
-use Rattle.parse.specs.Out.{After, indirectionWord, holdOut, holdWords, putNode}
+use Rattle.parse.specs.Out.{After, indirectionWord, holdOut, holdWords, nodePut}
 use Rattle.parser.proofs.RunLaws.{RunTo}
 use Rattle.codes.specs.Answer.{isIndirection}
 use Rattle.parse.specs.Room.{slack, closes}
@@ -99,10 +99,10 @@ module _ (text : List ℕ) (at n p : ℕ) (h : at < length text) (st : start (ge
   code-slack = omega (arith, slack-open text at h (ap closes st), slack-le text (at + 1))
 
   pub items-code : (kind : ContainerKind) (m : ℕ) (w ns : List ℕ) (z : Lists) (i : Items)
-      → ItemsReads text (at + 1) kind (n + 1) m (lists (putNode w n p 0 0 1) ns) z i → ItemsReads text at kind n m (lists w ns) z i
+      → ItemsReads text (at + 1) kind (n + 1) m (lists (nodePut w n p 0 0 1) ns) z i → ItemsReads text at kind n m (lists w ns) z i
   items-code kind m w ns z i r =
-      items-more text at kind n m (lists w ns) (lists (putNode w n p 0 0 1) ns) (at + 1) (n + 1) m z i
-      (reads-simple text at n m w (putNode w n p 0 0 1) ns (Encoding (at + 1) (n + 1) m) h (simple-code text at n m w h p st)) r
+      items-more text at kind n m (lists w ns) (lists (nodePut w n p 0 0 1) ns) (at + 1) (n + 1) m z i
+      (reads-simple text at n m w (nodePut w n p 0 0 1) ns (Encoding (at + 1) (n + 1) m) h (simple-code text at n m w h p st)) r
 
 pub ready-codes : (text : List ℕ) (at n m to : ℕ) (w w' ns : List ℕ) → Ready text at n m (lists w ns) → CodesRead text at n w w' to → length w' ≡ length w → Ready text to (n + (to - at)) m (lists w' ns)
 ready-codes text at n m to w w' ns r c e = record {
@@ -120,11 +120,11 @@ codes-none text at n w l = record {
 }
 
 pub codes-more : (text : List ℕ) (at n : ℕ) (w w' : List ℕ) (to p : ℕ) → CodesRead text at n w w' to → to < length text → start (getD text to 0) ≡ R.single p
-    → CodesRead text at n w (putNode w' (n + (to - at)) p 0 0 1) (to + 1)
+    → CodesRead text at n w (nodePut w' (n + (to - at)) p 0 0 1) (to + 1)
 codes-more text at n w w' to p c h st = record {
   onward = omega (arith, c .onward);
   within = omega arith;
   room = omega (arith, c .onward, c .room, code-slack text to (n + (to - at)) p h st);
   reads = λ kind m ns z i r. c .reads kind m ns z i (items-code text to (n + (to - at)) p h st kind m w' ns z i
-      (subst (λ (k : ℕ). ItemsReads text (to + 1) kind k m (lists (putNode w' (n + (to - at)) p 0 0 1) ns) z i) (omega (arith, c .onward)) r));
+      (subst (λ (k : ℕ). ItemsReads text (to + 1) kind k m (lists (nodePut w' (n + (to - at)) p 0 0 1) ns) z i) (omega (arith, c .onward)) r));
 }

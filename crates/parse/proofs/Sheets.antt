@@ -16,7 +16,7 @@ use Rattle.codes.specs.declared.Token.the-variants as T
 use Rattle.codes.proofs.StepLaws.{begins}
 use Rattle.codes.proofs.TokenLaws.{TokenIs}
 use Rattle.parse.specs.Agree.{Simple, FoundBound}
-use Rattle.parse.specs.Out.{tokenOut, tokenWords, TokenRoom, putNode}
+use Rattle.parse.specs.Out.{tokenOut, tokenWords, TokenRoom, nodePut}
 use Rattle.parse.specs.Room.{slack, closes}
 use Rattle.kinds.specs.declared.ContainerKind.{ContainerKind}
 use Rattle.kinds.specs.declared.ErrorKind.the-variants.{UnexpectedEnd}
@@ -129,7 +129,7 @@ module _ (text : List ℕ) (at n m : ℕ) (w : List ℕ) (h : at < length text) 
   token-room T.Parts i r = tt
   token-room T.End i r = tt
 
-  pub simple-code : (p : ℕ) → start (getD text at 0) ≡ R.single p → Simple text at n m w (putNode w n p 0 0 1) (Encoding (at + 1) (n + 1) m)
+  pub simple-code : (p : ℕ) → start (getD text at 0) ≡ R.single p → Simple text at n m w (nodePut w n p 0 0 1) (Encoding (at + 1) (n + 1) m)
   unfolding begin leaf
   simple-code p e = simple-token (T.Primitive p (at + 1)) (record { bound = omega arith; says = λ inner fields. begins text at e inner fields })
 

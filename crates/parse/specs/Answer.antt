@@ -9,7 +9,7 @@ use lib.Dec.{leb, ltb}
 use lib.ListN.{length, drop, replicate}
 use Rattle.kinds.specs.Parse.{Whole, tree, refusal, FromStart, treeThen, fromStr, fromStartOfStr}
 use Rattle.kinds.specs.Refusal as R
-use Rattle.kinds.specs.Sheet.{headerWords, maxText, sheetOf, namesOf}
+use Rattle.kinds.specs.Sheet.{wordsUsed, maxText, sheetOf, namesOf}
 use Rattle.kinds.specs.Tree.{Trees, end, node}
 use Rattle.kinds.specs.declared.ContainerKind.{ContainerKind}
 use Rattle.kinds.specs.declared.Refusal.{Refusal}
@@ -19,9 +19,9 @@ use Rattle.parse.specs.declared.Reading.the-variants.{Tree, Refused}
 
 -- ---- Refusals 1 and 2, before reading.
 
--- The words that reading a text of `l` bytes uses.
+-- The words that reading a text of `l` bytes uses: those of a sheet of the most nodes that it can make.
 abbrev pub used : ℕ → ℕ
-used l = headerWords + 4 * (l + 1)
+used l = wordsUsed (l + 1)
 
 -- The lent lists are as long as reading needs.
 unfoldable pub hasRoom : List ℕ → List ℕ → List ℕ → Bool

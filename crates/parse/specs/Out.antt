@@ -8,7 +8,7 @@ use lib.Seq.{sets}
 use Rattle.kinds.specs.Container.{endByte, sameContainer}
 use Rattle.kinds.specs.declared.ContainerKind.{ContainerKind}
 use Rattle.kinds.specs.declared.ErrorKind.the-variants.{Unknown, WrongEndArray, WrongEndContainer}
-use Rattle.kinds.specs.Sheet.{headerWords}
+use Rattle.kinds.specs.Sheet.{wordsUsed, headerFor}
 use Rattle.codes.specs.Answer.{closed}
 use Rattle.codes.specs.declared.Token.{Token}
 use Rattle.codes.specs.declared.Token.the-variants as T
@@ -24,8 +24,9 @@ use Rattle.parse.specs.declared.Items.the-variants.{Read, Refused as NoI
 abbrev pub closesFields : List ℕ → ℕ → ContainerKind → Bool
 closesFields text to kind = ltb to (length text) && eqb (getD text to 0) (endByte kind)
 
-abbrev pub putNode : List ℕ → ℕ → ℕ → ℕ → ℕ → ℕ → List ℕ
-putNode w n kind first second count = sets w (4 * n) (kind ∷ first ∷ second ∷ count ∷ [])
+-- The words with node `n` put, where there is room for it.
+abbrev pub nodePut : List ℕ → ℕ → ℕ → ℕ → ℕ → ℕ → List ℕ
+nodePut w n kind first second count = sets w (4 * n) (kind ∷ first ∷ second ∷ count ∷ [])
 
 abbrev pub tokenOut : Token → ℕ → ℕ → Parsed
 tokenOut (T.Primitive p to) n m = Encoding to (n + 1) m
@@ -38,9 +39,9 @@ tokenOut T.Parts n m = Empty
 tokenOut T.End n m = Empty
 
 abbrev pub tokenWords : Token → ℕ → List ℕ → List ℕ
-tokenWords (T.Primitive p to) n w = putNode w n p 0 0 1
-tokenWords (T.BitField size to) n w = putNode w n 24 0 size 1
-tokenWords (T.TypedBitField offset p size to) n w = putNode (putNode w (n + 1) p 0 0 1) n 25 offset size 2
+tokenWords (T.Primitive p to) n w = nodePut w n p 0 0 1
+tokenWords (T.BitField size to) n w = nodePut w n 24 0 size 1
+tokenWords (T.TypedBitField offset p size to) n w = nodePut (nodePut w (n + 1) p 0 0 1) n 25 offset size 2
 tokenWords (T.ArrayEnd to) n w = w
 tokenWords (T.ContainerEnd kind to) n w = w
 tokenWords (T.Refused why to) n w = w
@@ -68,7 +69,7 @@ After (Refused why to) n = Unit {0}
 
 -- A node with no child read: one None under it.
 abbrev pub noneUnder : ℕ → ℕ → ℕ → List ℕ → List ℕ
-noneUnder kind first n w = putNode (putNode w (n + 1) 31 0 0 1) n kind first 0 2
+noneUnder kind first n w = nodePut (nodePut w (n + 1) 31 0 0 1) n kind first 0 2
 
 abbrev pub holdOut : Parsed → ℕ → ℕ → ℕ → Parsed
 holdOut Empty next n m = Encoding next (n + 2) m
@@ -79,7 +80,7 @@ holdOut (Refused why to) next n m = Refused why to
 
 abbrev pub holdWords : Parsed → ℕ → ℕ → List ℕ → List ℕ
 holdWords Empty kind n w = noneUnder kind 0 n w
-holdWords (Encoding to k l) kind n w = putNode w n kind 0 0 (k - n)
+holdWords (Encoding to k l) kind n w = nodePut w n kind 0 0 (k - n)
 holdWords (ContainerEnd c to) kind n w = noneUnder kind 0 n w
 holdWords (ArrayEnd to) kind n w = noneUnder kind 0 n w
 holdWords (Refused why to) kind n w = w
@@ -105,7 +106,7 @@ itemOut (Refused why to) text item n m = Refused why to
 
 abbrev pub itemWords : Parsed → List ℕ → ℕ → ℕ → List ℕ → List ℕ
 itemWords Empty text len n w = w
-itemWords (Encoding to k l) text len n w = pickList (closed text to) (putNode w n 28 len 0 (k - n)) w
+itemWords (Encoding to k l) text len n w = pickList (closed text to) (nodePut w n 28 len 0 (k - n)) w
 itemWords (ContainerEnd kind to) text len n w = w
 itemWords (ArrayEnd to) text len n w = noneUnder 28 len n w
 itemWords (Refused why to) text len n w = w
@@ -119,7 +120,7 @@ containOut (Read to k l) = Encoding to k l
 containOut (NoItems why to) = Refused why to
 
 abbrev pub containWords : Items → ContainerKind → ℕ → ℕ → ℕ → List ℕ → List ℕ
-containWords (Read to k l) kind n m named w = putNode w n (kindWord kind) m (named - m) (k - n)
+containWords (Read to k l) kind n m named w = nodePut w n (kindWord kind) m (named - m) (k - n)
 containWords (NoItems why to) kind n m named w = w
 
 abbrev pub pickItems : Bool → Items → Items → Items
@@ -140,20 +141,20 @@ abbrev pub cleared : ℕ → List ℕ → List ℕ
 cleared n xs = replicate n 0 ++ drop n xs
 
 abbrev pub headed : ℕ → ℕ → List ℕ → List ℕ
-headed k l w = sets w 0 (k ∷ headerWords ∷ l ∷ (headerWords + 4 * k) ∷ [])
+headed k l w = sets w 0 (headerFor k l)
 
 -- The sheet of None alone.
 abbrev pub noneSheet : List ℕ → List ℕ
-noneSheet w = sets w 0 (1 ∷ headerWords ∷ 0 ∷ (headerWords + 4) ∷ 31 ∷ 0 ∷ 0 ∷ 1 ∷ [])
+noneSheet w = sets w 0 (headerFor 1 0 ++ (31 ∷ 0 ∷ 0 ∷ 1 ∷ []))
 
 -- The sheet of a primitive alone, in the words that a text of one byte uses.
 abbrev pub codeSheet : ℕ → List ℕ → List ℕ
-codeSheet p w = sets (cleared (used 1) w) 0 (1 ∷ headerWords ∷ 0 ∷ (headerWords + 4) ∷ p ∷ 0 ∷ 0 ∷ 1 ∷ [])
+codeSheet p w = sets (cleared (used 1) w) 0 (headerFor 1 0 ++ (p ∷ 0 ∷ 0 ∷ 1 ∷ []))
 
 -- The nodes found fit the words.
 abbrev pub Fits : Parsed → ℕ → Type 0
 Fits Empty n = Unit {0}
-Fits (Encoding to k l) n = headerWords + 4 * k ≤ n
+Fits (Encoding to k l) n = wordsUsed k ≤ n
 Fits (ContainerEnd kind to) n = Unit {0}
 Fits (ArrayEnd to) n = Unit {0}
 Fits (Refused why to) n = Unit {0}

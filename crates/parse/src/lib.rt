@@ -6,7 +6,7 @@ ghost use mathlib.Core.List.{[], _∷_};
 ghost use Prim.Native.Nat.{_+_, _*_, _-_, _≤_, _<_};
 ghost use lib.ListN.{length, drop};
 ghost use lib.Seq.{sets};
-ghost use Rattle.kinds.specs.Sheet.{headerWords};
+ghost use Rattle.kinds.specs.Sheet.{wordsUsed};
 ghost use Rattle.kinds.specs.Parse.{unknownDigit, parseName, parseNumber, maxU64};
 ghost use Rattle.parser.specs.Run.{runEnd};
 ghost use Rattle.numbers.specs.Answer.{numberAt};
@@ -14,7 +14,8 @@ ghost use Rattle.names.specs.Answer.{nameAt};
 ghost use Rattle.codes.specs.Answer.{isIndirection, tokenAt};
 ghost use Rattle.parse.specs.Answer.{used, answerWords, fromStrAnswer, fromStrWords, fromStrNames, fromStartAnswer, fromStartWords, fromStartNames, fromStartRest, EndOf};
 ghost use Rattle.parse.specs.Room.{slack};
-ghost use Rattle.parse.specs.Out.{tokenOut, tokenWords, TokenRoom, After, AfterItems, holdOut, holdWords, indirectionWord, itemOut, itemWords, containOut, containWords, closesFields, endOut, noneUnder, cleared, headed, noneSheet, codeSheet, Fits, encodedOut, encodedWords, encodedNames};
+ghost use Rattle.parse.specs.Out.{tokenOut, tokenWords, TokenRoom, After, AfterItems, holdOut, holdWords, indirectionWord, itemOut, itemWords, noneUnder};
+ghost use Rattle.parse.specs.Out.{containOut, containWords, closesFields, endOut, cleared, headed, noneSheet, codeSheet, Fits, encodedOut, encodedWords, encodedNames};
 ghost use Rattle.parse.specs.Agree.{NamedIs, Simple, SimpleReady, Ready, OneReady, Reads, ChildReady, Holds, CodesRead, ContainerReady, lists, EncodedIs};
 use codes::Token;
 use codes::closes_item;
@@ -470,7 +471,7 @@ fn clear_names(names: &mut [u8], n: usize)
 
 // The header, where the nodes are known to fit.
 fn put_header(words: &mut [u64], k: usize, l: usize)
-    requires { ⌜ headerWords + 4 * k ≤ length (now words) ⌝ }
+    requires { ⌜ wordsUsed k ≤ length (now words) ⌝ }
     ensures { λ _. ⌜ now (words .exit) ≡ headed k l (now (words .entry)) ⌝ }
 {
     sheet::put_header(words, k, l);
@@ -487,7 +488,7 @@ fn clear_sheet(n: usize, words: &mut [u64], names: &mut [u8])
 
 // The sheet of None alone.
 fn put_none(words: &mut [u64])
-    requires { ⌜ headerWords + 4 ≤ length (now words) ⌝ }
+    requires { ⌜ wordsUsed 1 ≤ length (now words) ⌝ }
     ensures { λ _. ⌜ now (words .exit) ≡ noneSheet (now (words .entry)) ⌝ }
 {
     put_node(&mut words[HEADER..], 0, NONE, 0, 0, 1);

@@ -3,12 +3,12 @@
 use helper::Sized;
 use kinds::Compared;
 use kinds::MAX_TEXT;
-use kinds::MAX_WORDS;
 use kinds::Refusal;
 use libc::STDIN_FILENO;
 use libc::STDOUT_FILENO;
 use lines::Decoded;
 use parse::Reading;
+use sheet::MAX_WORDS;
 use static_str::Printed;
 
 // The most bytes of questions, of a text in one, which may be longer than any that is read, and of an answer.

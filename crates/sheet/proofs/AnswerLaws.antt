@@ -9,7 +9,7 @@ use borrow.Author.Tests.{eq-eqb, ne-eqb}
 use lib.Dec.{eqb}
 use lib.ListN.{length, getD, length-drop}
 use lib.Seq.{getD-drop}
-use Rattle.kinds.specs.Sheet.{kindAt, firstAt, secondAt, countAt, labelAt, numbers, nextName, packed, nests, header, nodeWords, isSheet, trees, treeOf}
+use Rattle.kinds.specs.Sheet.{kindAt, firstAt, secondAt, countAt, labelAt, numbers, nextName, packed, nests, headerWords, header, nodeWords, isSheet, trees, treeOf}
 use Rattle.kinds.specs.Sound.{goodName, goodNames}
 use Rattle.kinds.specs.Walk.{TreesAt}
 use Rattle.kinds.proofs.SheetLaws.{header-says, trees-step}
@@ -87,12 +87,12 @@ module _ (words names : List ℕ) where
   verdict-header h = rw h
 
   module _ (h : header words (length names) ≡ true) where
-    pub verdict-count : (getD words 7 0 ≡ getD words 0 0 → ⊥) → verdictOf words names ≡ NotASheet
+    pub verdict-count : (getD words (headerWords + 3) 0 ≡ getD words 0 0 → ⊥) → verdictOf words names ≡ NotASheet
     unfolding verdictOf isSheet
-    verdict-count c = rw (h, ne-eqb (countAt (nodeWords words) 0) (getD words 0 0) (λ e. c (sym (getD-drop 4 words 3 0) ∙ e)), and-false (packed (nodeWords words) (getD words 0 0) 0 0 (getD words 2 0)))
+    verdict-count c = rw (h, ne-eqb (countAt (nodeWords words) 0) (getD words 0 0) (λ e. c (sym (getD-drop headerWords words 3 0) ∙ e)), and-false (packed (nodeWords words) (getD words 0 0) 0 0 (getD words 2 0)))
 
     nodes-room : 0 + 4 * getD words 0 0 ≤ length (nodeWords words)
-    nodes-room = let a = header-says words (length names) h .room in let b = length-drop 4 words in omega arith
+    nodes-room = let a = header-says words (length names) h .room in let b = length-drop headerWords words in omega arith
 
     pub verdict-walked : countAt (nodeWords words) 0 ≡ getD words 0 0 → verdictOf words names ≡ answer (getD words 2 0) (walked names (nodeWords words) (getD words 0 0) 0 0 (getD words 2 0) true)
     unfolding verdictOf isSheet walked answer treeOf endsAt
@@ -113,16 +113,17 @@ module _ (words names : List ℕ) where
       pub part-room : 0 + 4 * getD words 0 0 ≤ length w
       part-room = rw part nodes-room
 
-      pub verdict-pass : getD words 7 0 ≡ getD words 0 0 → (x : Walked) → x ≡ walked names w (getD words 0 0) 0 0 (getD words 2 0) true → answer (getD words 2 0) x ≡ verdictOf words names
-      verdict-pass c x h = rw (h, part) (sym (verdict-walked (getD-drop 4 words 3 0 ∙ c)))
+      pub verdict-pass : getD words (headerWords + 3) 0 ≡ getD words 0 0 → (x : Walked) → x ≡ walked names w (getD words 0 0) 0 0 (getD words 2 0) true → answer (getD words 2 0) x ≡ verdictOf words names
+      verdict-pass c x h = rw (h, part) (sym (verdict-walked (getD-drop headerWords words 3 0 ∙ c)))
 
     -- a lone code
-    pub verdict-code : getD words 0 0 ≡ 1 → getD words 7 0 ≡ getD words 0 0 → getD words 4 0 < 24 → (x : Walked) → x ≡ cond (eqb (getD words 5 0) 0 && eqb (getD words 6 0) 0) (Next 0 true) Broken
+    pub verdict-code : getD words 0 0 ≡ 1 → getD words (headerWords + 3) 0 ≡ getD words 0 0 → getD words headerWords 0 < 24 → (x : Walked)
+        → x ≡ cond (eqb (getD words (headerWords + 1) 0) 0 && eqb (getD words (headerWords + 2) 0) 0) (Next 0 true) Broken
         → answer (getD words 2 0) x ≡ verdictOf words names
     verdict-code n c k x h = verdict-pass (nodeWords words) refl c x (h ∙ sym code)
       where
-        code : walked names (nodeWords words) (getD words 0 0) 0 0 (getD words 2 0) true ≡ cond (eqb (getD words 5 0) 0 && eqb (getD words 6 0) 0) (Next 0 true) Broken
+        code : walked names (nodeWords words) (getD words 0 0) 0 0 (getD words 2 0) true ≡ cond (eqb (getD words (headerWords + 1) 0) 0 && eqb (getD words (headerWords + 2) 0) 0) (Next 0 true) Broken
         code =
             ap (λ (m : ℕ). walked names (nodeWords words) m 0 0 (getD words 2 0) true) n
-            ∙ walked-code names (nodeWords words) 0 0 (getD words 2 0) true (rw (getD-drop 4 words 0 0) k) (getD-drop 4 words 3 0 ∙ c ∙ n)
-            ∙ ap₂ (λ (a b : ℕ). cond (eqb a 0 && eqb b 0) (Next 0 true) Broken) (getD-drop 4 words 1 0) (getD-drop 4 words 2 0)
+            ∙ walked-code names (nodeWords words) 0 0 (getD words 2 0) true (rw (getD-drop headerWords words 0 0) k) (getD-drop headerWords words 3 0 ∙ c ∙ n)
+            ∙ ap₂ (λ (a b : ℕ). cond (eqb a 0 && eqb b 0) (Next 0 true) Broken) (getD-drop headerWords words 1 0) (getD-drop headerWords words 2 0)

@@ -9,7 +9,7 @@ use lib.Dec.{leb, eqb}
 use lib.ListN.{length, getD, take, drop, length-append, length-drop, List·getD-append}
 use lib.Seq.{take-append-le, drop-append-le}
 use Rattle.kinds.specs.Tree.{Trees, struct, union}
-use Rattle.kinds.specs.Sheet.{kindAt, firstAt, secondAt, countAt, label, isContainerKind, numbers, nextName, packed, below, arity, nest, nests, header, nodeWords, isSheet, read, trees, treeOf}
+use Rattle.kinds.specs.Sheet.{kindAt, firstAt, secondAt, countAt, label, isContainerKind, numbers, nextName, packed, below, arity, nest, nests, headerWords, header, nodeWords, isSheet, read, trees, treeOf}
 use Rattle.kinds.specs.Sound.{goodNames}
 use Rattle.kinds.specs.Walk.{KindsAndNames}
 use Rattle.kinds.proofs.SheetLaws.{Header, header-says}
@@ -83,7 +83,7 @@ module _ (v x s y : List ℕ) where
 
 -- ---- The lists. `w` has the words that its header says are used and `s` the name bytes; `x` and `y` stand behind them.
 
-module _ (w s x y : List ℕ) (head : 4 ≤ length w) (words : getD w 3 0 ≤ length w) (bytes : getD w 2 0 ≤ length s) where
+module _ (w s x y : List ℕ) (head : headerWords ≤ length w) (words : getD w 3 0 ≤ length w) (bytes : getD w 2 0 ≤ length s) where
   header-beyond : header (w ++ x) (length (s ++ y)) ≡ header w (length s)
   unfolding header
   header-beyond =
@@ -94,8 +94,8 @@ module _ (w s x y : List ℕ) (head : 4 ≤ length w) (words : getD w 3 0 ≤ le
         front w x 1 (omega arith),
         front w x 2 (omega arith),
         front w x 3 (omega arith),
-        le-leb 4 (length (w ++ x)) (omega arith),
-        le-leb 4 (length w) head,
+        le-leb headerWords (length (w ++ x)) (omega arith),
+        le-leb headerWords (length w) head,
         le-leb (getD w 3 0) (length (w ++ x)) (omega arith),
         le-leb (getD w 3 0) (length w) words,
         le-leb (getD w 2 0) (length (s ++ y)) (omega arith),
@@ -103,10 +103,10 @@ module _ (w s x y : List ℕ) (head : 4 ≤ length w) (words : getD w 3 0 ≤ le
       )
 
   nodes-beyond : nodeWords (w ++ x) ≡ nodeWords w ++ x
-  nodes-beyond = drop-append-le 4 w x head
+  nodes-beyond = drop-append-le headerWords w x head
 
   nodes-room : Header w (length s) → 0 + 4 * getD w 0 0 ≤ length (nodeWords w)
-  nodes-room h = let a = h .room in let b = length-drop 4 w in omega arith
+  nodes-room h = let a = h .room in let b = length-drop headerWords w in omega arith
 
   sheet-beyond : isSheet (w ++ x) (s ++ y) ≡ isSheet w s
   unfolding isSheet nests

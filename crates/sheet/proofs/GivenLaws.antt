@@ -3,12 +3,13 @@ use Prim.Native.Nat.{ℕ, _+_, _-_, _*_, _≤_, _<_}
 use native.Mathlib.Omega.{arith}
 use mathlib.Core.Path.{_≡_, refl, ap, ap₂, sym, _∙_, subst}
 use mathlib.Core.List.{List}
-use mathlib.Core.Bool.{Bool, true, false, cond}
+use mathlib.Core.Bool.{Bool, true, false, cond, _&&_}
 use borrow.Author.Tests.{ltb-true, lt-ltb, le-ltb, le-leb}
 use lib.Dec.{ltb}
 use lib.ListN.{length, getD, take, drop}
 use lib.Seq.{getD-drop}
-use Rattle.kinds.specs.Sheet.{kindAt, firstAt, secondAt, countAt, header, isSheet, treeOf, nodeWords, headerWords, nests, maxNames}
+use Rattle.kinds.specs.Refusal.{number}
+use Rattle.kinds.specs.Sheet.{kindAt, firstAt, secondAt, countAt, header, isSheet, treeOf, nodeWords, headerWords, wordsUsed, nests, maxNames}
 use Rattle.kinds.specs.Sound.{goodNames}
 use Rattle.kinds.specs.Tree.{Trees, end, node, primitive}
 use Rattle.kinds.specs.declared.Refusal.{Refusal}
@@ -17,7 +18,8 @@ use Rattle.kinds.proofs.ListLaws.{part-rest}
 use Rattle.kinds.proofs.HoldsLaws.{test-holds}
 use Rattle.kinds.proofs.NodeLaws.{SheetSays, sheet-says, packed-walk, leaf-count, label-primitive, no-trees}
 use Rattle.kinds.proofs.SheetLaws.{trees-step}
-use Rattle.sheet.specs.Answer.{Held, held, refused, holding, heldBoth, refusedBoth, ofHeld, ofSheet, ofSheets, found, checked, both, checkedBoth}
+use Rattle.sheet.specs.Answer.{Held, held, refused, holding, HeldBoth, heldBoth, refusedBoth, holdingBoth, paired, ofHeld, ofSheet, ofSheets}
+use Rattle.sheet.specs.Answer.{found, checked, checkedNumber, sheetNumber, both, checkedBoth, checkedBothNumber, sheetsNumber}
 use Rattle.sheet.specs.Given.{CodeIn, NodesAre, NodesIn, Gives, GivesBoth}
 use Rattle.sheet.specs.declared.Checked.{Checked}
 use Rattle.sheet.specs.declared.Checked.the-variants.{Refused, Code, Nodes}
@@ -102,7 +104,7 @@ module _ (words names : List ℕ) (h : isSheet words names ≡ true) (e : held w
     code-nodes = subst (NodesIn words names headerWords) code-alone sheet-nodes
 
     sheet-code : CodeIn words names (kindAt (nodeWords words) 0)
-    sheet-code = record { code = k; node-in = code-nodes; holds = e ∙ ap holding code-tree }
+    sheet-code = record { code = k; holds = e ∙ ap holding code-tree }
 
 module _ (words names : List ℕ) where
   pub gives : Gives words names (checked words names)
@@ -113,13 +115,66 @@ module _ (words names : List ℕ) where
       there t e = e ∙ ap holding (sym (held-says words names e .tree))
 
       kinds : (t : Trees) (e : held words names ≡ holding t) (b : Bool) → ltb (kindAt (nodeWords words) 0) 24 ≡ b
-          → Gives words names (cond b (Code (kindAt (nodeWords words) 0)) (Nodes headerWords (getD words 0 0)))
-      kinds t e true p = sheet-code words names (held-says words names e .sheet) (there t e) (ltb-true _ _ p)
+          → Gives words names (cond b (Code headerWords (kindAt (nodeWords words) 0)) (Nodes headerWords (getD words 0 0)))
+      kinds t e true p =
+          let s = held-says words names e .sheet in
+          let k = ltb-true _ _ p in
+          (sheet-code words names s (there t e) k, code-nodes words names s (there t e) k)
       kinds t e false p = sheet-nodes words names (held-says words names e .sheet) (there t e)
 
       go : (x : Held) → held words names ≡ x → Gives words names (ofHeld Refused (λ t. found words) x)
       go (refused r) e = e
       go (holding t) e = kinds t e (ltb (kindAt (nodeWords words) 0) 24) refl
+
+-- ---- The number of an answer, from what it gives.
+
+abbrev heldNumber : Held → ℕ
+heldNumber (refused r) = number r
+heldNumber (holding t) = 0
+
+abbrev heldBothNumber : HeldBoth → ℕ
+heldBothNumber (refusedBoth r) = number r
+heldBothNumber (holdingBoth t u) = 0
+
+module _ (words names : List ℕ) where
+  held-number : heldNumber (held words names) ≡ sheetNumber words names
+  unfolding held sheetNumber
+  held-number = go (isSheet words names) (goodNames (treeOf words names))
+    where
+      go : (x y : Bool) → heldNumber (cond x (cond y (holding (treeOf words names)) (refused BadName)) (refused NotASheet)) ≡ cond x (cond y 0 4) 3
+      go true true = refl
+      go true false = refl
+      go false y = refl
+
+  gives-number : (r : Checked) → Gives words names r → checkedNumber r ≡ sheetNumber words names
+  gives-number (Refused r) g = sym (ap heldNumber g) ∙ held-number
+  gives-number (Code first k) g = sym (ap heldNumber (g .0 .holds)) ∙ held-number
+  gives-number (Nodes first n) g = sym (ap heldNumber (g .nodes .holds)) ∙ held-number
+
+module _ (aw an bw bn : List ℕ) where
+  held-both-number : heldBothNumber (heldBoth aw an bw bn) ≡ sheetsNumber aw an bw bn
+  unfolding heldBoth held sheetsNumber
+  held-both-number = go (isSheet aw an) (goodNames (treeOf aw an)) (isSheet bw bn) (goodNames (treeOf bw bn))
+    where
+      of : Bool → Bool → Trees → Held
+      of x y t = cond x (cond y (holding t) (refused BadName)) (refused NotASheet)
+
+      go : (a x b y : Bool) → heldBothNumber (paired (of a x (treeOf aw an)) (of b y (treeOf bw bn))) ≡ cond (a && b) (cond (x && y) 0 4) 3
+      go true true true true = refl
+      go true true true false = refl
+      go true true false y = refl
+      go true false true true = refl
+      go true false true false = refl
+      go true false false y = refl
+      go false x true true = refl
+      go false x true false = refl
+      go false x false y = refl
+
+  gives-number-both : (r : CheckedBoth) → GivesBoth aw an bw bn r → checkedBothNumber r ≡ sheetsNumber aw an bw bn
+  unfolding heldBoth
+  gives-number-both (B.Refused r) g = sym (ap heldBothNumber g) ∙ held-both-number
+  gives-number-both (B.Codes k j) g = sym (ap₂ (λ (x y : Held). heldBothNumber (paired x y)) (g .0 .holds) (g .1 .holds)) ∙ held-both-number
+  gives-number-both (B.Nodes f n h m) g = sym (ap₂ (λ (x y : Held). heldBothNumber (paired x y)) (g .0 .nodes .holds) (g .1 .nodes .holds)) ∙ held-both-number
 
 -- ---- What the pass over a sheet says, and the check.
 
@@ -147,28 +202,28 @@ module _ (words names : List ℕ) where
       go false y e = let z : _≡_ {A = ℕ} 0 1 = cc in absurd (omega arith)
 
   module _ (h : verdictOf words names ≡ J.Good) where
-    pub good-room : 8 ≤ length words
+    pub good-room : wordsUsed 1 ≤ length words
     good-room = let s = sheet-says words names (verdict-sheet h) in let r = s .head .room in let n = s .head .some-nodes in omega arith
 
-    pub good-code : getD words 4 0 < 24 → Code (getD words 4 0) ≡ checked words names
-    good-code k = let e : getD words 4 0 ≡ kindAt (nodeWords words) 0 = sym (getD-drop 4 words 0 0) in ap Code e ∙ sym (rw (lt-ltb (kindAt (nodeWords words) 0) 24 (omega arith))) ∙ verdict-checked h
+    pub good-code : getD words headerWords 0 < 24 → Code headerWords (getD words headerWords 0) ≡ checked words names
+    good-code k = let e : getD words headerWords 0 ≡ kindAt (nodeWords words) 0 = sym (getD-drop headerWords words 0 0) in ap (Code headerWords) e ∙ sym (rw (lt-ltb (kindAt (nodeWords words) 0) 24 (omega arith))) ∙ verdict-checked h
 
-    pub good-nodes : 24 ≤ getD words 4 0 → Nodes headerWords (getD words 0 0) ≡ checked words names
-    good-nodes k = let e : getD words 4 0 ≡ kindAt (nodeWords words) 0 = sym (getD-drop 4 words 0 0) in sym (rw (le-ltb (kindAt (nodeWords words) 0) 24 (omega arith))) ∙ verdict-checked h
+    pub good-nodes : 24 ≤ getD words headerWords 0 → Nodes headerWords (getD words 0 0) ≡ checked words names
+    good-nodes k = let e : getD words headerWords 0 ≡ kindAt (nodeWords words) 0 = sym (getD-drop headerWords words 0 0) in sym (rw (le-ltb (kindAt (nodeWords words) 0) 24 (omega arith))) ∙ verdict-checked h
 
   -- the words of one code are a sheet
   module _ (l : LoneCode words) where
     lone-header : header words (length names) ≡ true
     unfolding header
-    lone-header = let r = l .room in rw (l .nodes, l .offset, l .names, l .used, le-leb 4 (length words) (omega arith), le-leb 8 (length words) r, le-leb 0 (length names) (omega arith))
+    lone-header = let r = l .room in rw (l .nodes, l .offset, l .names, l .used, le-leb headerWords (length words) (omega arith), le-leb (wordsUsed 1) (length words) r, le-leb 0 (length names) (omega arith))
 
     pub lone-good : verdictOf words names ≡ J.Good
     unfolding answer
     lone-good = sym (verdict-code words names lone-header (l .nodes) (l .count ∙ sym (l .nodes)) (l .kind) (Next 0 true) (rw (l .first, l .second))) ∙ rw (l .names)
 
-  -- both promises of the check from the first
-  pub check-gives : {r : Checked} → r ≡ checked words names → (r ≡ checked words names) × Gives words names r
-  check-gives e = (e, subst (Gives words names) (sym e) (gives words names))
+  -- the promises of the check from the first
+  pub check-gives : {r : Checked} → r ≡ checked words names → (r ≡ checked words names) × (Gives words names r × (checkedNumber r ≡ sheetNumber words names))
+  check-gives {r} e = let g = subst (Gives words names) (sym e) (gives words names) in (e, (g, gives-number words names r g))
 
 module _ (aw an bw bn : List ℕ) where
   gives-both : GivesBoth aw an bw bn (checkedBoth aw an bw bn)
@@ -177,20 +232,22 @@ module _ (aw an bw bn : List ℕ) where
     where
       go : (x : Checked) → Gives aw an x → (y : Checked) → Gives bw bn y → GivesBoth aw an bw bn (both x y)
       go (Refused r) g (Refused q) h = rw (g, h)
-      go (Refused r) g (Code j) h = rw (g, h .holds)
-      go (Refused r) g (Nodes f m) h = rw (g, h .nodes .holds)
-      go (Code k) g (Refused q) h = rw (g .holds, h)
-      go (Code k) g (Code j) h = (g, h)
-      go (Code k) g (Nodes f m) h = (g .node-in, h)
+      go (Refused r) g (Code i j) h = rw (g, h .0 .holds)
+      go (Refused r) g (Nodes i m) h = rw (g, h .nodes .holds)
+      go (Code f k) g (Refused q) h = rw (g .0 .holds, h)
+      go (Code f k) g (Code i j) h = (g .0, h .0)
+      go (Code f k) g (Nodes i m) h = (g .1, h)
       go (Nodes f n) g (Refused q) h = rw (g .nodes .holds, h)
-      go (Nodes f n) g (Code j) h = (g, h .node-in)
+      go (Nodes f n) g (Code i j) h = (g, h .1)
       go (Nodes f n) g (Nodes i m) h = (g, h)
 
-  pub both-gives : {x y : Checked} {r : CheckedBoth} → r ≡ both x y → x ≡ checked aw an → y ≡ checked bw bn → (r ≡ checkedBoth aw an bw bn) × GivesBoth aw an bw bn r
+  pub both-gives : {x y : Checked} {r : CheckedBoth} → r ≡ both x y → x ≡ checked aw an → y ≡ checked bw bn
+      → (r ≡ checkedBoth aw an bw bn) × (GivesBoth aw an bw bn r × (checkedBothNumber r ≡ sheetsNumber aw an bw bn))
   unfolding checkedBoth
   both-gives {x} {y} {r} e p q =
       let d : r ≡ checkedBoth aw an bw bn = e ∙ ap₂ both p q in
-      (d, subst (GivesBoth aw an bw bn) (sym d) gives-both)
+      let g = subst (GivesBoth aw an bw bn) (sym d) gives-both in
+      (d, (g, gives-number-both aw an bw bn r g))
 
 -- ---- For a walk: what it is given, by what the check found, and the answer that it makes of it.
 
@@ -198,8 +255,8 @@ module _ (words names : List ℕ) {c : Checked} (g : Gives words names c) where
   pub given-refused : {r : Refusal} → c ≡ Refused r → held words names ≡ refused r
   given-refused e = subst (Gives words names) e g
 
-  pub given-code : {k : ℕ} → c ≡ Code k → CodeIn words names k
-  given-code e = subst (Gives words names) e g
+  pub given-code : {first k : ℕ} → c ≡ Code first k → CodeIn words names k
+  given-code e = subst (Gives words names) e g .0
 
   pub given-nodes : {first n : ℕ} → c ≡ Nodes first n → NodesIn words names first n
   given-nodes e = subst (Gives words names) e g

@@ -5,7 +5,7 @@ use mathlib.Core.List.{List, [], _∷_}
 use borrow.Author.Tests.{le-leb, lt-leb}
 use lib.ListN.{length}
 use lib.Seq.{sets}
-use Rattle.kinds.specs.Sheet.{headerWords}
+use Rattle.kinds.specs.Sheet.{wordsUsed, headerFor}
 use Rattle.sheet.specs.Put.{putNode, putHeader}
 
 module _ (n : ℕ) (node w : List ℕ) where
@@ -18,10 +18,10 @@ module _ (n : ℕ) (node w : List ℕ) where
   node-kept h = rw (lt-leb (4 * n + 4) (length w) h)
 
 module _ (k l : ℕ) (w : List ℕ) where
-  pub header-put : headerWords + 4 * k ≤ length w → putHeader k l w ≡ sets w 0 (k ∷ headerWords ∷ l ∷ (headerWords + 4 * k) ∷ [])
+  pub header-put : wordsUsed k ≤ length w → putHeader k l w ≡ sets w 0 (headerFor k l)
   unfolding putHeader
-  header-put h = rw (le-leb (headerWords + 4 * k) (length w) h)
+  header-put h = rw (le-leb (wordsUsed k) (length w) h)
 
-  pub header-kept : length w < headerWords + 4 * k → putHeader k l w ≡ w
+  pub header-kept : length w < wordsUsed k → putHeader k l w ≡ w
   unfolding putHeader
-  header-kept h = rw (lt-leb (headerWords + 4 * k) (length w) h)
+  header-kept h = rw (lt-leb (wordsUsed k) (length w) h)

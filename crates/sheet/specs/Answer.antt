@@ -1,6 +1,6 @@
 -- What two lent lists hold (01, refusals 3 and 4), the answers that are made of it, and what `check` and `check_both` answer.
 use Prim.Native.Nat.{ℕ}
-use mathlib.Core.Bool.{cond}
+use mathlib.Core.Bool.{cond, _&&_}
 use mathlib.Core.List.{List}
 use lib.Dec.{leb, ltb}
 use lib.ListN.{getD}
@@ -60,35 +60,42 @@ ofSheets refuse tell aw an bw bn = ofHeldBoth refuse tell (heldBoth aw an bw bn)
 
 -- ---- The check.
 
--- The kind of the tree where that is one code, or where its nodes begin in the words and how many they are.
+-- Where the nodes begin in the words; the kind of the tree where that is one code, or how many its nodes are.
 abbrev pub found : List ℕ → Checked
-found words = cond (ltb (kindAt (nodeWords words) 0) 24) (Code (kindAt (nodeWords words) 0)) (Nodes headerWords (getD words 0 0))
+found words = cond (ltb (kindAt (nodeWords words) 0) 24) (Code headerWords (kindAt (nodeWords words) 0)) (Nodes headerWords (getD words 0 0))
 
 unfoldable pub checked : List ℕ → List ℕ → Checked
 checked words names = ofSheet Refused (λ t. found words) words names
 
--- 01's number: 0 for a sheet.
+-- 01's number of the answer, and what it must be: 3 where the lists begin with no sheet, 4 where a container's name is bad, else 0.
 abbrev pub checkedNumber : Checked → ℕ
 checkedNumber (Refused r) = number r
-checkedNumber (Code k) = 0
+checkedNumber (Code first k) = 0
 checkedNumber (Nodes first n) = 0
+
+unfoldable pub sheetNumber : List ℕ → List ℕ → ℕ
+sheetNumber words names = cond (isSheet words names) (cond (goodNames (treeOf words names)) 0 4) 3
 
 -- The check of two sheets; a code that stands beside another tree is one node.
 abbrev pub both : Checked → Checked → CheckedBoth
 both (Refused r) (Refused q) = B.Refused (sooner r q)
-both (Refused r) (Code j) = B.Refused r
+both (Refused r) (Code g j) = B.Refused r
 both (Refused r) (Nodes g m) = B.Refused r
-both (Code k) (Refused q) = B.Refused q
-both (Code k) (Code j) = B.Codes k j
-both (Code k) (Nodes g m) = B.Nodes headerWords 1 g m
+both (Code f k) (Refused q) = B.Refused q
+both (Code f k) (Code g j) = B.Codes k j
+both (Code f k) (Nodes g m) = B.Nodes f 1 g m
 both (Nodes f n) (Refused q) = B.Refused q
-both (Nodes f n) (Code j) = B.Nodes f n headerWords 1
+both (Nodes f n) (Code g j) = B.Nodes f n g 1
 both (Nodes f n) (Nodes g m) = B.Nodes f n g m
 
 unfoldable pub checkedBoth : List ℕ → List ℕ → List ℕ → List ℕ → CheckedBoth
 checkedBoth aw an bw bn = both (checked aw an) (checked bw bn)
 
+-- The same of two sheets: 3 is tested on both before 4 on either.
 abbrev pub checkedBothNumber : CheckedBoth → ℕ
 checkedBothNumber (B.Refused r) = number r
 checkedBothNumber (B.Codes k j) = 0
 checkedBothNumber (B.Nodes f n g m) = 0
+
+unfoldable pub sheetsNumber : List ℕ → List ℕ → List ℕ → List ℕ → ℕ
+sheetsNumber aw an bw bn = cond (isSheet aw an && isSheet bw bn) (cond (goodNames (treeOf aw an) && goodNames (treeOf bw bn)) 0 4) 3

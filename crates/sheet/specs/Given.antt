@@ -3,7 +3,7 @@ use Prim.Native.Nat.{ℕ, _+_, _*_, _≤_, _<_}
 use mathlib.Core.List.{List}
 use mathlib.Core.Path.{_≡_}
 use lib.ListN.{length, drop}
-use Rattle.kinds.specs.Sheet.{Holds, headerWords, countAt, trees, maxNodes, maxNames}
+use Rattle.kinds.specs.Sheet.{Holds, countAt, trees, maxNodes, maxNames}
 use Rattle.kinds.specs.Tree.{end, node, primitive}
 use Rattle.kinds.specs.Walk.{NodeAt, TreesAt, KindsAndNames}
 use Rattle.sheet.specs.Answer.{held, refused, holding, heldBoth, refusedBoth}
@@ -30,15 +30,14 @@ pub record NodesIn (words names : List ℕ) (first n : ℕ) : Type 0 where
   pub room : first + 4 * n ≤ length words
   pub nodes : NodesAre words names (drop first words) n
 
--- The tree of the lists is the code of kind `k`, one node.
+-- The tree of the lists is the code of kind `k`.
 pub record CodeIn (words names : List ℕ) (k : ℕ) : Type 0 where
   pub code : k < 24
-  pub node-in : NodesIn words names headerWords 1
   pub holds : held words names ≡ holding (node (primitive k) end end)
 
 abbrev pub Gives : List ℕ → List ℕ → Checked → Type 0
 Gives words names (Refused r) = held words names ≡ refused r
-Gives words names (Code k) = CodeIn words names k
+Gives words names (Code first k) = CodeIn words names k × NodesIn words names first 1
 Gives words names (Nodes first n) = NodesIn words names first n
 
 -- The same of two sheets.

@@ -5,7 +5,7 @@ use mathlib.Core.List.{List}
 use mathlib.Core.Path.{_≡_}
 use lib.Dec.{leb, eqb}
 use lib.ListN.{length, getD}
-use Rattle.kinds.specs.Sheet.{kindAt, firstAt, secondAt, countAt, labelAt, numbers, nextName, arity, nests, isSheet, treeOf}
+use Rattle.kinds.specs.Sheet.{headerWords, wordsUsed, kindAt, firstAt, secondAt, countAt, labelAt, numbers, nextName, arity, nests, isSheet, treeOf}
 use Rattle.kinds.specs.Sound.{goodName, goodNames}
 use Rattle.sheet.specs.declared.Verdict.{Verdict}
 use Rattle.sheet.specs.declared.Verdict.the-variants.{NotASheet, BadName, Good}
@@ -45,12 +45,12 @@ answer e (Next p good) = cond (eqb p e) (cond good Good BadName) NotASheet
 
 -- The words of a sheet of one code.
 pub record LoneCode (words : List ℕ) : Type 0 where
-  pub room : 8 ≤ length words
+  pub room : wordsUsed 1 ≤ length words
   pub nodes : getD words 0 0 ≡ 1
-  pub offset : getD words 1 0 ≡ 4
+  pub offset : getD words 1 0 ≡ headerWords
   pub names : getD words 2 0 ≡ 0
-  pub used : getD words 3 0 ≡ 8
-  pub kind : getD words 4 0 < 24
-  pub first : getD words 5 0 ≡ 0
-  pub second : getD words 6 0 ≡ 0
-  pub count : getD words 7 0 ≡ 1
+  pub used : getD words 3 0 ≡ wordsUsed 1
+  pub kind : getD words headerWords 0 < 24
+  pub first : getD words (headerWords + 1) 0 ≡ 0
+  pub second : getD words (headerWords + 2) 0 ≡ 0
+  pub count : getD words (headerWords + 3) 0 ≡ 1

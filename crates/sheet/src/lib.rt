@@ -8,7 +8,7 @@ ghost use lib.Dec.{leb, eqb};
 ghost use lib.ListN.{length, take, drop};
 ghost use Rattle.kinds.specs.Name.{verifyName};
 ghost use Rattle.kinds.specs.Sheet.{kindAt, countAt, isContainerKind, numbers, header};
-ghost use Rattle.sheet.specs.Answer.{checked, sooner, both, checkedBoth};
+ghost use Rattle.sheet.specs.Answer.{checked, checkedNumber, sheetNumber, sooner, both, checkedBoth, checkedBothNumber, sheetsNumber};
 ghost use Rattle.sheet.specs.Given.{Gives, GivesBoth};
 ghost use Rattle.sheet.specs.Put.{putNode, putHeader};
 ghost use Rattle.sheet.specs.Walked.{walked, fits, nodeFits, verdictOf, answer, LoneCode};
@@ -16,6 +16,7 @@ use kinds::ARRAY;
 use kinds::BIT_FIELD;
 use kinds::MAX_NAMES;
 use kinds::MAX_NODES;
+use kinds::MAX_TEXT;
 use kinds::NONE;
 use kinds::PRIMITIVES;
 use kinds::Refusal;
@@ -30,11 +31,14 @@ const MAX_BITS: u64 = 255;
 // The words before the first node.
 pub const HEADER: usize = 4;
 
-// What the check of a sheet finds: why there is none, the kind of a tree that is one code, or where the nodes begin in the words
-// and how many they are.
+// The most words of a sheet that is read from a text.
+pub const MAX_WORDS: usize = HEADER + 4 * (MAX_TEXT + 1);
+
+// What the check of a sheet finds: why there is none, or where the nodes begin in the words, with the kind of a tree that is one
+// code or else how many they are.
 pub enum Checked {
     Refused(Refusal),
-    Code(u64),
+    Code(usize, u64),
     Nodes(usize, usize),
 }
 
@@ -313,7 +317,7 @@ fn check_sheet(words: &[u64], names: &[u8]) -> Checked
         Verdict::Good => {
             let kind = words[HEADER];
             if kind < PRIMITIVES {
-                return Checked::Code(kind);
+                return Checked::Code(HEADER, kind);
             }
             Checked::Nodes(HEADER, words[0] as usize)
         }
@@ -352,9 +356,10 @@ fn lone_code(words: &[u64]) -> bool
 pub fn check(words: &[u64], names: &[u8]) -> Checked
     ensures answers { λ r. ⌜ r ≡ checked (now (words .entry)) (now (names .entry)) ⌝ }
     ensures gives { λ r. ⌜ Gives (now (words .entry)) (now (names .entry)) r ⌝ }
+    ensures number { λ r. ⌜ checkedNumber r ≡ sheetNumber (now (words .entry)) (now (names .entry)) ⌝ }
 {
     if lone_code(words) {
-        return Checked::Code(words[HEADER]);
+        return Checked::Code(HEADER, words[HEADER]);
     }
     check_sheet(&words[0..], &names[0..])
 }
@@ -374,17 +379,17 @@ fn both_of(a: Checked, b: Checked) -> CheckedBoth
     match a {
         Checked::Refused(r) => match b {
             Checked::Refused(q) => CheckedBoth::Refused(sooner_of(r, q)),
-            Checked::Code(_) => CheckedBoth::Refused(r),
+            Checked::Code(_, _) => CheckedBoth::Refused(r),
             Checked::Nodes(_, _) => CheckedBoth::Refused(r),
         },
-        Checked::Code(k) => match b {
+        Checked::Code(f, k) => match b {
             Checked::Refused(q) => CheckedBoth::Refused(q),
-            Checked::Code(j) => CheckedBoth::Codes(k, j),
-            Checked::Nodes(g, m) => CheckedBoth::Nodes(HEADER, 1, g, m),
+            Checked::Code(_, j) => CheckedBoth::Codes(k, j),
+            Checked::Nodes(g, m) => CheckedBoth::Nodes(f, 1, g, m),
         },
         Checked::Nodes(f, n) => match b {
             Checked::Refused(q) => CheckedBoth::Refused(q),
-            Checked::Code(_) => CheckedBoth::Nodes(f, n, HEADER, 1),
+            Checked::Code(g, _) => CheckedBoth::Nodes(f, n, g, 1),
             Checked::Nodes(g, m) => CheckedBoth::Nodes(f, n, g, m),
         },
     }
@@ -394,6 +399,7 @@ fn both_of(a: Checked, b: Checked) -> CheckedBoth
 pub fn check_both(aw: &[u64], an: &[u8], bw: &[u64], bn: &[u8]) -> CheckedBoth
     ensures answers { λ r. ⌜ r ≡ checkedBoth (now (aw .entry)) (now (an .entry)) (now (bw .entry)) (now (bn .entry)) ⌝ }
     ensures gives { λ r. ⌜ GivesBoth (now (aw .entry)) (now (an .entry)) (now (bw .entry)) (now (bn .entry)) r ⌝ }
+    ensures number { λ r. ⌜ checkedBothNumber r ≡ sheetsNumber (now (aw .entry)) (now (an .entry)) (now (bw .entry)) (now (bn .entry)) ⌝ }
 {
     if lone_code(aw) {
         if lone_code(bw) {

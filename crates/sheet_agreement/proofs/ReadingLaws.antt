@@ -11,7 +11,7 @@ use lib.ListN.{length, take, drop, replicate}
 use lib.Seq.{take-append-seam, drop-append-seam}
 use Rattle.kinds.specs.Parse as P
 use Rattle.kinds.specs.Parse.{Whole, tree, fromStr, FromStart, treeThen, fromStartOfStr}
-use Rattle.kinds.specs.Sheet.{Holds, maxText, sheetOf, namesOf}
+use Rattle.kinds.specs.Sheet.{Holds, wordsUsed, maxText, sheetOf, namesOf}
 use Rattle.kinds.specs.Print.{print}
 use Rattle.agreement.specs.Sound.{sound}
 use Rattle.kinds.specs.Tree.{Label, Trees, end, node, count, isEnd, isOne, shown}
@@ -69,7 +69,7 @@ module _ (text words names : List ℕ) (t : Trees) (r : Readable (length text) t
         valid-tree = r .valid-tree;
         few-nodes = omega (arith, r .few-nodes);
         few-names = omega (arith, r .few-names);
-        words-are = rw words-after (front (used (length text)) (4 + 4 * count t) (sheetOf t) words (sheet-length t));
+        words-are = rw words-after (front (used (length text)) (wordsUsed (count t)) (sheetOf t) words (sheet-length t));
         names-are = rw names-after (front (length text) (length (namesOf t)) (namesOf t) names refl);
       }
 

@@ -454,7 +454,7 @@ pub fn static_encoding_str_len(words: &[u64], names: &[u8]) -> Printed
 {
     match check(&words[0..], &names[0..]) {
         Checked::Refused(why) => Printed::Refused(why),
-        Checked::Code(kind) => Printed::Bytes(code_len(kind)),
+        Checked::Code(_, kind) => Printed::Bytes(code_len(kind)),
         Checked::Nodes(first, n) => Printed::Bytes(trees_len(
             &words[first..],
             0,
@@ -471,7 +471,7 @@ pub fn static_encoding_str_array(words: &[u64], names: &[u8], out: &mut [u8]) ->
 {
     match check(&words[0..], &names[0..]) {
         Checked::Refused(refusal) => Printed::Refused(refusal),
-        Checked::Code(kind) => print_code(kind, out),
+        Checked::Code(_, kind) => print_code(kind, out),
         Checked::Nodes(first, n) => print_tree(&words[first..], &names[0..], n, out),
     }
 }

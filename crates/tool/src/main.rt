@@ -5,13 +5,12 @@ mod show;
 use helper::Sized;
 use kinds::Compared;
 use kinds::MAX_TEXT;
-use kinds::MAX_WORDS;
 use libc::STDERR_FILENO;
 use libc::STDIN_FILENO;
 use libc::STDOUT_FILENO;
 use parse::Reading;
 use sheet::Checked;
-use sheet::HEADER;
+use sheet::MAX_WORDS;
 use static_str::Printed;
 
 // The most bytes of commands from standard input.
@@ -116,7 +115,7 @@ fn from(words: &[u64], first: usize) -> &[u64] {
 fn say_tree(words: &[u64], names: &[u8]) {
     match sheet::check(words, names) {
         Checked::Refused(_) => {}
-        Checked::Code(_) => say_nodes(from(words, HEADER), names, 1),
+        Checked::Code(first, _) => say_nodes(from(words, first), names, 1),
         Checked::Nodes(first, n) => say_nodes(from(words, first), names, (n % 65536) as u16),
     }
 }

@@ -12,7 +12,7 @@ mul-compare-fields c =
     let p4 = p2 .before .before in
     let p9 = p4 .before .before .before .before .before in
     let a = p9 .args in
-    let g = given-nodes-both (a .aw .now) (a .an .now) (a .bw .now) (a .bn .now) (p4 .check-both .ensures .1) (p2 .f .given .1) in
+    let g = given-nodes-both (a .aw .now) (a .an .now) (a .bw .now) (a .bn .now) (p4 .check-both .ensures .1 .0) (p2 .f .given .1) in
     let s = g .0 .starts in
     omega arith
 
@@ -22,7 +22,7 @@ sub-compare-fields c =
     let p4 = p2 .before .before in
     let p9 = p4 .before .before .before .before .before in
     let a = p9 .args in
-    let g = given-nodes-both (a .aw .now) (a .an .now) (a .bw .now) (a .bn .now) (p4 .check-both .ensures .1) (p2 .f .given .1) in
+    let g = given-nodes-both (a .aw .now) (a .an .now) (a .bw .now) (a .bn .now) (p4 .check-both .ensures .1 .0) (p2 .f .given .1) in
     let s = g .0 .starts in
     omega arith
 
@@ -32,7 +32,7 @@ part-compare-fields-start c =
     let p4 = p2 .before .before in
     let p9 = p4 .before .before .before .before .before in
     let a = p9 .args in
-    let g = given-nodes-both (a .aw .now) (a .an .now) (a .bw .now) (a .bn .now) (p4 .check-both .ensures .1) (p2 .f .given .1) in
+    let g = given-nodes-both (a .aw .now) (a .an .now) (a .bw .now) (a .bn .now) (p4 .check-both .ensures .1 .0) (p2 .f .given .1) in
     let s = g .0 .starts in
     omega arith
 
@@ -42,7 +42,7 @@ mul-compare-fields-2 c =
     let p6 = p4 .before .before in
     let p11 = p6 .before .before .before .before .before in
     let a = p11 .args in
-    let g = given-nodes-both (a .aw .now) (a .an .now) (a .bw .now) (a .bn .now) (p6 .check-both .ensures .1) (p4 .f .given .1) in
+    let g = given-nodes-both (a .aw .now) (a .an .now) (a .bw .now) (a .bn .now) (p6 .check-both .ensures .1 .0) (p4 .f .given .1) in
     let s = g .1 .starts in
     omega arith
 
@@ -52,7 +52,7 @@ sub-compare-fields-3 c =
     let p6 = p4 .before .before in
     let p11 = p6 .before .before .before .before .before in
     let a = p11 .args in
-    let g = given-nodes-both (a .aw .now) (a .an .now) (a .bw .now) (a .bn .now) (p6 .check-both .ensures .1) (p4 .f .given .1) in
+    let g = given-nodes-both (a .aw .now) (a .an .now) (a .bw .now) (a .bn .now) (p6 .check-both .ensures .1 .0) (p4 .f .given .1) in
     let s = g .1 .starts in
     omega arith
 
@@ -62,7 +62,7 @@ part-compare-fields-start-3 c =
     let p6 = p4 .before .before in
     let p11 = p6 .before .before .before .before .before in
     let a = p11 .args in
-    let g = given-nodes-both (a .aw .now) (a .an .now) (a .bw .now) (a .bn .now) (p6 .check-both .ensures .1) (p4 .f .given .1) in
+    let g = given-nodes-both (a .aw .now) (a .an .now) (a .bw .now) (a .bn .now) (p6 .check-both .ensures .1 .0) (p4 .f .given .1) in
     let s = g .1 .starts in
     omega arith
 
@@ -72,7 +72,7 @@ compare-fields-requires c κs =
     let p8 = p6 .before .before in
     let p13 = p8 .before .before .before .before .before in
     let a = p13 .args in
-    let g = given-nodes-both (a .aw .now) (a .an .now) (a .bw .now) (a .bn .now) (p8 .check-both .ensures .1) (p6 .f .given .1) in
+    let g = given-nodes-both (a .aw .now) (a .an .now) (a .bw .now) (a .bn .now) (p8 .check-both .ensures .1 .0) (p6 .f .given .1) in
     let v = nodes-part (g .0) in
     let u = nodes-part (g .1) in
     rw (whole, whole) ((v .whole, u .whole), (v .lent-names, u .lent-names))
@@ -83,7 +83,7 @@ returns c =
     let p3 = p1 .before .before in
     let p8 = p3 .before .before .before .before .before in
     let a = p8 .args in
-    compare-refused (a .all) _ _ _ _ (given-refused-both (a .aw .now) (a .an .now) (a .bw .now) (a .bn .now) (p3 .check-both .ensures .1) (p1 .why .given .1))
+    compare-refused (a .all) _ _ _ _ (given-refused-both (a .aw .now) (a .an .now) (a .bw .now) (a .bn .now) (p3 .check-both .ensures .1 .0) (p1 .why .given .1))
 
 returns-2 : tie.Need-returns-2
 returns-2 c =
@@ -91,7 +91,7 @@ returns-2 c =
     let p4 = p2 .before .before in
     let p9 = p4 .before .before .before .before .before in
     let a = p9 .args in
-    let g = given-codes (a .aw .now) (a .an .now) (a .bw .now) (a .bn .now) (p4 .check-both .ensures .1) (p2 .k .given .1) in
+    let g = given-codes (a .aw .now) (a .an .now) (a .bw .now) (a .bn .now) (p4 .check-both .ensures .1 .0) (p2 .k .given .1) in
     compare-codes (a .all) _ _ _ _ g (c .equivalent-kinds .ensures)
 
 returns-3 : tie.Need-returns-3
@@ -101,7 +101,7 @@ returns-3 c =
     let p9 = p7 .before .before in
     let p14 = p9 .before .before .before .before .before in
     let a = p14 .args in
-    let g = given-nodes-both (a .aw .now) (a .an .now) (a .bw .now) (a .bn .now) (p9 .check-both .ensures .1)
+    let g = given-nodes-both (a .aw .now) (a .an .now) (a .bw .now) (a .bn .now) (p9 .check-both .ensures .1 .0)
     (p7 .f .given .1) in
     compare-nodes (a .all) _ _ _ _ (nodes-part (g .0)) (nodes-part (g .1)) (p5 .new .ensures) (rw (whole, whole) at (c .compare-fields .ensures))
 

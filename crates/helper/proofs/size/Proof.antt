@@ -12,7 +12,7 @@ mul-size-of c =
     let p3 = p1 .before .before in
     let p6 = p3 .before .before .before in
     let a = p6 .args in
-    let g = given-nodes (a .words .now) (a .names .now) (p3 .check .ensures .1) (p1 .first .given .1) in
+    let g = given-nodes (a .words .now) (a .names .now) (p3 .check .ensures .1 .0) (p1 .first .given .1) in
     let s = g .starts in
     omega arith
 
@@ -22,7 +22,7 @@ sub-size-of c =
     let p3 = p1 .before .before in
     let p6 = p3 .before .before .before in
     let a = p6 .args in
-    let g = given-nodes (a .words .now) (a .names .now) (p3 .check .ensures .1) (p1 .first .given .1) in
+    let g = given-nodes (a .words .now) (a .names .now) (p3 .check .ensures .1 .0) (p1 .first .given .1) in
     let s = g .starts in
     omega arith
 
@@ -32,7 +32,7 @@ part-size-of-start c =
     let p3 = p1 .before .before in
     let p6 = p3 .before .before .before in
     let a = p6 .args in
-    let g = given-nodes (a .words .now) (a .names .now) (p3 .check .ensures .1) (p1 .first .given .1) in
+    let g = given-nodes (a .words .now) (a .names .now) (p3 .check .ensures .1 .0) (p1 .first .given .1) in
     let s = g .starts in
     omega arith
 
@@ -42,7 +42,7 @@ size-of-requires c κs =
     let p5 = p3 .before .before in
     let p8 = p5 .before .before .before in
     let a = p8 .args in
-    let g = given-nodes (a .words .now) (a .names .now) (p5 .check .ensures .1) (p3 .first .given .1) in
+    let g = given-nodes (a .words .now) (a .names .now) (p5 .check .ensures .1 .0) (p3 .first .given .1) in
     nodes-part g .root
 
 returns : tie.Need-returns
@@ -50,7 +50,7 @@ returns c =
     let p1 = c .before in
     let p3 = p1 .before .before in
     let p6 = p3 .before .before .before in
-    let a = p6 .args in size-refused _ _ (given-refused (a .words .now) (a .names .now) (p3 .check .ensures .1) (p1 .why .given .1))
+    let a = p6 .args in size-refused _ _ (given-refused (a .words .now) (a .names .now) (p3 .check .ensures .1 .0) (p1 .why .given .1))
 
 returns-2 : tie.Need-returns-2
 returns-2 c =
@@ -59,7 +59,7 @@ returns-2 c =
     let p5 = p3 .before .before in
     let p8 = p5 .before .before .before in
     let a = p8 .args in
-    c .answer .ensures ∙ size-code _ _ (given-code (a .words .now) (a .names .now) (p5 .check .ensures .1) (p3 .kind .given .1)) (p1 .of-primitive .ensures)
+    c .answer .ensures ∙ size-code _ _ (given-code (a .words .now) (a .names .now) (p5 .check .ensures .1 .0) (p3 .kind .given .1)) (p1 .of-primitive .ensures)
 
 returns-3 : tie.Need-returns-3
 returns-3 c =
@@ -69,7 +69,7 @@ returns-3 c =
     let p7 = p5 .before .before in
     let p10 = p7 .before .before .before in
     let a = p10 .args in
-    let g = given-nodes (a .words .now) (a .names .now) (p7 .check .ensures .1) (p5 .first .given .1) in
+    let g = given-nodes (a .words .now) (a .names .now) (p7 .check .ensures .1 .0) (p5 .first .given .1) in
     c .answer2 .ensures ∙ size-nodes _ _ (nodes-part g) (p2 .new .ensures) (p1 .size-of .ensures (a .names .now))
 
 pub size-spec : {M : Type 1} → statement M

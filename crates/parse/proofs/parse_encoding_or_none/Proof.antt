@@ -5,6 +5,7 @@ use Prim.Native.Nat.{ℕ}
 use mathlib.Core.List.{List}
 use Rattle.parser.proofs.PlaceLaws.{strip-place}
 use Rattle.codes.proofs.CodeLaws.{single-code}
+use Rattle.kinds.specs.Sheet.{headerWords}
 use Rattle.parse.specs.Agree.{lists, Lists}
 use Rattle.parse.proofs.Entry.{too-long, few-words, few-names, ready-whole, joined-fits, one-code, entered, mid-rest}
 use Rattle.kinds.proofs.ListLaws.{whole}
@@ -47,7 +48,7 @@ parse-inner-requires c κs =
     let w : List ℕ = clear .last .1 .0 in
     let at = strip-place T _ (c3 .strip-leading-qualifiers .ensures) .1 in
     rw (whole T) (ready-whole T _ _ _ at
-    (omega (arith, c13 .if2 .left, clear .kept .1 .0, ap length (mid-rest 4 w), length-drop 4 w))
+    (omega (arith, c13 .if2 .left, clear .kept .1 .0, ap length (mid-rest headerWords w), length-drop headerWords w))
     (omega (arith, c12 .if3 .left, clear .kept .1 .1 .0)))
 
 encoding-or-none-requires : tie.Need-encoding-or-none-requires

@@ -2,6 +2,7 @@ use mathlib.Core.List.{List}
 use Prim.Native.Nat.{ℕ, _-_}
 use lib.ListN.{length}
 use borrow.Rule.Slice.PartMut.{same-len-mid}
+use Rattle.kinds.specs.Sheet.{headerWords}
 use Rattle.parse.proofs.Entry.{code-put, first-cleared}
 use borrow.Author.Needs.{needs}
 use Rattle.parse.proofs.put_code.Statement.{statement}
@@ -16,7 +17,7 @@ returns c =
     let w : List ℕ = a .words .now in
     let x = c10 .put-node in
     let y = c6 .put-node2 in
-    let same = same-len-mid 4 (length w - 4) w (x .last .0) (x .kept .0) in
+    let same = same-len-mid headerWords (length w - headerWords) w (x .last .0) (x .kept .0) in
     (code-put (a .p) w (x .last .0) (y .last .0) _ (c14 .pre .0) (x .ensures) same (y .ensures) (c .before .before .put-header .ensures), first-cleared (a .names .now) (c14 .pre .1))
 
 pub put-code-spec : {M : Type 1} → statement M

@@ -24,10 +24,10 @@ returns-7 : tie.Need-returns-7
 returns-7 c = rw (c .before .before .before .before .a3 .given .1, c .before .b5 .given .1)
 
 returns-8 : tie.Need-returns-8
-returns-8 c = rw (c .before .before .before .a3 .given .1, c .enum-told3 .given .1)
+returns-8 c = rw (c .before .before .before .before .a3 .given .1, c .before .b6 .given .1)
 
 returns-9 : tie.Need-returns-9
-returns-9 c = rw (c .before .before .before .before .a3 .given .1, c .before .b6 .given .1)
+returns-9 c = rw (c .before .before .before .before .a3 .given .1, c .before .b7 .given .1)
 
 pub both-of-spec : {M : Type 1} → statement M
 both-of-spec =

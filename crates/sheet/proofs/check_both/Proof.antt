@@ -1,6 +1,7 @@
 use mathlib.Core.Path.{refl}
 use native.Mathlib.Omega.{arith}
 use lib.ListN.{getD}
+use Rattle.kinds.specs.Sheet.{headerWords}
 use Rattle.kinds.proofs.ListLaws.{whole}
 use Rattle.sheet.specs.declared.Checked.the-variants.{Code}
 use Rattle.sheet.proofs.GivenLaws.{both-gives, good-code, lone-good}
@@ -19,7 +20,7 @@ returns c =
     let a = c .before .before .before .before .before .before .before .before .before .before .args in
     let l = c .before .before .before .before .before .lone-code .ensures (c .before .before .before .before .if1 .taken) in
     let m = c .before .before .before .lone-code2 .ensures (c .before .before .if2 .taken) in
-    both-gives (a .aw .now) (a .an .now) (a .bw .now) (a .bn .now) {x = Code (getD (a .aw .now) 4 0)} {y = Code (getD (a .bw .now) 4 0)} refl
+    both-gives (a .aw .now) (a .an .now) (a .bw .now) (a .bn .now) {x = Code headerWords (getD (a .aw .now) headerWords 0)} {y = Code headerWords (getD (a .bw .now) headerWords 0)} refl
     (good-code _ _ (lone-good _ _ l) (l .kind))
     (good-code _ _ (lone-good _ _ m) (m .kind))
 

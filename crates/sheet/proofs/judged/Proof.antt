@@ -1,5 +1,6 @@
 use native.Mathlib.Omega.{arith}
 use mathlib.Core.Path.{sym, _∙_}
+use Rattle.kinds.specs.Sheet.{headerWords}
 use Rattle.kinds.proofs.ListLaws.{part-rest, whole}
 use Rattle.kinds.proofs.SheetLaws.{header-says}
 use Rattle.sheet.proofs.TestLaws.{passed, failed}
@@ -49,7 +50,7 @@ check-nodes-requires c κs =
     let a = p10 .args in
     let p = passed (p7 .header-ok .ensures) (p6 .if1 .left) in
     let h = header-says _ _ p in
-    (part-room _ (a .names .now) p _ (part-rest (a .words .now) 4), omega arith, rw whole (h .bytes))
+    (part-room _ (a .names .now) p _ (part-rest (a .words .now) headerWords), omega arith, rw whole (h .bytes))
 
 returns-3 : tie.Need-returns-3
 returns-3 c =
@@ -60,7 +61,7 @@ returns-3 c =
     let p12 = p9 .before .before .before in
     let p = passed (p9 .header-ok .ensures) (p8 .if1 .left) in
     c .answer-of .ensures
-    ∙ verdict-pass _ _ p _ (part-rest (p12 .args .words .now) 4)
+    ∙ verdict-pass _ _ p _ (part-rest (p12 .args .words .now) headerWords)
     (p5 .if2 .left) _ (rw whole at (p1 .check-nodes .ensures))
 
 pub judged-spec : {M : Type 1} → statement M

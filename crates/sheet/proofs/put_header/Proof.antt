@@ -1,6 +1,7 @@
 use mathlib.Core.Path.{sym}
 use native.Mathlib.Omega.{arith}
 use lib.ListN.{length-set}
+use Rattle.kinds.specs.Sheet.{headerFor}
 use Rattle.sheet.proofs.PutLaws.{header-put, header-kept}
 use borrow.Author.Needs.{needs}
 use Rattle.sheet.proofs.put_header.Statement.{statement}
@@ -19,6 +20,7 @@ slice-write-words-3 : tie.Need-slice-write-words-3
 slice-write-words-3 c = simp length-set (omega arith)
 
 returns-3 : tie.Need-returns-3
+unfolding headerFor
 returns-3 c = sym (header-put (c .before .before .args .nodes) _ _ (omega arith))
 
 pub put-header-spec : {M : Type 1} → statement M

@@ -9,41 +9,41 @@ use Rattle.static_str.proofs.static_encoding_str_len.Tie as tie
 code-len-requires : tie.Need-code-len-requires
 code-len-requires c κs =
     let c3 = c .before .before .before in
-    (given-code _ _ (rw (whole, whole) at (c3 .check .ensures .1)) (c .before .kind .given .1)) .code
+    (given-code _ _ (rw (whole, whole) at (c3 .check .ensures .1 .0)) (c .before .kind .given .1)) .code
 
 mul-trees-len : tie.Need-mul-trees-len
 mul-trees-len c =
     let c3 = c .before .before .before in
-    let h = (given-nodes _ _ (rw (whole, whole) at (c3 .check .ensures .1)) (c .before .first .given .1)) in omega (arith, h .starts)
+    let h = (given-nodes _ _ (rw (whole, whole) at (c3 .check .ensures .1 .0)) (c .before .first .given .1)) in omega (arith, h .starts)
 
 sub-trees-len : tie.Need-sub-trees-len
 sub-trees-len c =
     let c3 = c .before .before .before in
-    let h = (given-nodes _ _ (rw (whole, whole) at (c3 .check .ensures .1)) (c .before .first .given .1)) in omega (arith, h .starts)
+    let h = (given-nodes _ _ (rw (whole, whole) at (c3 .check .ensures .1 .0)) (c .before .first .given .1)) in omega (arith, h .starts)
 
 part-trees-len-start : tie.Need-part-trees-len-start
 part-trees-len-start c =
     let c3 = c .before .before .before in
-    let h = (given-nodes _ _ (rw (whole, whole) at (c3 .check .ensures .1)) (c .before .first .given .1)) in omega (arith, h .starts)
+    let h = (given-nodes _ _ (rw (whole, whole) at (c3 .check .ensures .1 .0)) (c .before .first .given .1)) in omega (arith, h .starts)
 
 trees-len-requires : tie.Need-trees-len-requires
 trees-len-requires c κs =
     let c3 = c .before .before .before in
     let c5 = c3 .before .before in
-    let h = (nodes-part (given-nodes _ _ (rw (whole, whole) at (c5 .check .ensures .1)) (c3 .first .given .1))) in ((h .whole, h .few), h .short-names)
+    let h = (nodes-part (given-nodes _ _ (rw (whole, whole) at (c5 .check .ensures .1 .0)) (c3 .first .given .1))) in ((h .whole, h .few), h .short-names)
 
 returns : tie.Need-returns
 returns c =
     let c3 = c .before .before .before in
     let c8 = c3 .before .before .before .before .before in
-    len-refused (c8 .args .words .now) (c8 .args .names .now) (given-refused _ _ (rw (whole, whole) at (c3 .check .ensures .1)) (c .before .why .given .1))
+    len-refused (c8 .args .words .now) (c8 .args .names .now) (given-refused _ _ (rw (whole, whole) at (c3 .check .ensures .1 .0)) (c .before .why .given .1))
 
 returns-2 : tie.Need-returns-2
 returns-2 c =
     let c2 = c .before .before in
     let c4 = c2 .before .before in
     let c9 = c4 .before .before .before .before .before in
-    len-code (c9 .args .words .now) (c9 .args .names .now) (given-code _ _ (rw (whole, whole) at (c4 .check .ensures .1)) (c2 .kind .given .1))
+    len-code (c9 .args .words .now) (c9 .args .names .now) (given-code _ _ (rw (whole, whole) at (c4 .check .ensures .1 .0)) (c2 .kind .given .1))
     (c .code-len .ensures .0)
 
 returns-3 : tie.Need-returns-3
@@ -52,7 +52,7 @@ returns-3 c =
     let c6 = c4 .before .before in
     let c11 = c6 .before .before .before .before .before in
     len-nodes (c11 .args .words .now) (c11 .args .names .now) _ _
-    (nodes-part (given-nodes _ _ (rw (whole, whole) at (c6 .check .ensures .1)) (c4 .first .given .1))) (c .before .new .ensures) (c .trees-len .ensures .0)
+    (nodes-part (given-nodes _ _ (rw (whole, whole) at (c6 .check .ensures .1 .0)) (c4 .first .given .1))) (c .before .new .ensures) (c .trees-len .ensures .0)
 
 pub static-encoding-str-len-spec : {M : Type 1} → statement M
 static-encoding-str-len-spec =
