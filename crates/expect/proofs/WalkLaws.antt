@@ -25,7 +25,7 @@ use Rattle.kinds.specs.declared.Fields.the-variants.{Included, Dropped}
 use Rattle.kinds.specs.declared.NestingLevel.{NestingLevel}
 use Rattle.kinds.specs.declared.NestingLevel.the-variants.{Top, Within, Bottom}
 use Rattle.kinds.specs.Kind.{containerOf}
-use Rattle.expect.specs.Agree.{expectAt, ExpectedIs, InText, indirectionOf, opening, closing, OpenedIs, OpenedAt}
+use Rattle.expect.specs.Agree.{expectAt, ExpectedIs, InText, indirectionOf, opening, closing, OpenedIs, ContainerOpenedAt, OpenedAt}
 use Rattle.expect.specs.declared.Expected as X
 use Rattle.expect.specs.declared.Expected.the-variants as XV
 use Rattle.expect.specs.declared.Opened.{Opened}
@@ -283,9 +283,7 @@ module _ (names w : List ℕ) (at : ℕ) (v : NestingLevel) (s : List ℕ) where
       (λ d. false≢true (sym (ap isContainerKind d) ∙ c))))
 
 pub opened-at : (names w : List ℕ) (at : ℕ) (v : NestingLevel) (text : List ℕ) (place : ℕ) (r : Opened) → isContainerKind (kindAt w at) ≡ true
-    → OpenedIs text (containerOf (kindAt w at)) Within r
-    (λ inner. expectNode (labelAt names w at) v (isEnd (trees names w (countAt w at - 1) (at + 4))) inner (drop place text))
-    → OpenedAt names w at v text place r
+    → ContainerOpenedAt names w at v text place r → OpenedAt names w at v text place r
 opened-at names w at v text place (O.Taken to) c h = (container-whole names w at v (drop place text) (remaining (drop to text)) (h .0), h .1)
 opened-at names w at v text place O.Mismatch c h = container-whole names w at v (drop place text) mismatch h
 opened-at names w at v text place (O.Fields to u) c h = (container-fields names w at v (drop place text) c (drop to text) u (h .2) (h .0), h .1)

@@ -18,6 +18,7 @@ use Rattle.kinds.specs.declared.ContainerKind.{ContainerKind}
 use Rattle.kinds.specs.declared.IndirectionKind.{IndirectionKind}
 use Rattle.kinds.specs.declared.IndirectionKind.the-variants.{Atomic, Pointer}
 use Rattle.kinds.specs.declared.NestingLevel.{NestingLevel}
+use Rattle.kinds.specs.declared.NestingLevel.the-variants.{Within}
 use Rattle.expect.specs.declared.Expected.{Expected}
 use Rattle.expect.specs.declared.Expected.the-variants.{Remaining, Mismatch}
 use Rattle.expect.specs.declared.Opened.{Opened}
@@ -68,6 +69,12 @@ abbrev pub OpenedIs : List ℕ → ContainerKind → NestingLevel → Opened →
 OpenedIs text k u (O.Taken to) q = ((inner : List ℕ → E.Expected) → q inner ≡ remaining (drop to text)) × (to ≤ length text)
 OpenedIs text k u O.Mismatch q = (inner : List ℕ → E.Expected) → q inner ≡ mismatch
 OpenedIs text k u (O.Fields to v) q = ((inner : List ℕ → E.Expected) → q inner ≡ (inner (drop to text) then (λ t. expectByte (endByte k) t))) × (to ≤ length text) × (v ≡ u)
+
+-- The container at `at` up to its fields, in the text from `place` on.
+abbrev pub ContainerOpenedAt : List ℕ → List ℕ → ℕ → NestingLevel → List ℕ → ℕ → Opened → Type 0
+ContainerOpenedAt names w at v text place r =
+    OpenedIs text (containerOf (kindAt w at)) Within r
+    (λ inner. expectNode (labelAt names w at) v (isEnd (trees names w (countAt w at - 1) (at + 4))) inner (drop place text))
 
 -- The indirection of a kind word, 26 or 27.
 abbrev pub indirectionOf : ℕ → IndirectionKind

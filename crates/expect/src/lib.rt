@@ -1,18 +1,18 @@
 // Tree against text: parse.rs's `expect_encoding` over the node words of a sheet and a place in the text.
 ghost use mathlib.Core.Path.{_≡_};
 ghost use mathlib.Core.Bool.{true, false};
-ghost use Prim.Native.Nat.{_+_, _-_, _≤_};
+ghost use Prim.Native.Nat.{_≤_};
 ghost use lib.Dec.{eqb};
 ghost use lib.ListN.{length, drop};
 ghost use Rattle.kinds.specs.Expect.{_then_, expectByte, expectBytes, expectNumber, expectQuote, className, expectPrimitive, expectNode, expectEncoding, isEmpty, equivalentToStr};
 ghost use Rattle.kinds.specs.Expect as E;
-ghost use Rattle.kinds.specs.Kind.{containerOf, isIndirection};
+ghost use Rattle.kinds.specs.Kind.{isIndirection};
 ghost use Rattle.kinds.specs.Parse.{container, maxU64, maxU8};
 ghost use Rattle.kinds.specs.Primitive.{codeBytes};
-ghost use Rattle.kinds.specs.Sheet.{kindAt, countAt, isContainerKind, labelAt, trees};
-ghost use Rattle.kinds.specs.Tree.{end, node, primitive, isEnd};
+ghost use Rattle.kinds.specs.Sheet.{kindAt, countAt, isContainerKind, trees};
+ghost use Rattle.kinds.specs.Tree.{end, node, primitive};
 ghost use Rattle.kinds.specs.Walk.{NodeAt, TreesAt, KindAndName, KindsAndNames};
-ghost use Rattle.expect.specs.Agree.{ExpectedIs, expectAt, anyObject, expectLeaf, openingByte, opening, closing, afterName, InText, OpenedIs, codeByte, ownByte, levelAfter, OpenedAt};
+ghost use Rattle.expect.specs.Agree.{ExpectedIs, expectAt, anyObject, expectLeaf, openingByte, opening, closing, afterName, InText, OpenedIs, ContainerOpenedAt, codeByte, ownByte, levelAfter, OpenedAt};
 ghost use Rattle.expect.specs.Answer.{compared};
 use kinds::ARRAY;
 use kinds::ATOMIC;
@@ -319,7 +319,7 @@ fn open_container(
     place: usize,
 ) -> Opened
     requires { ⌜ NodeAt (now nodes) at × KindAndName (now nodes) (length (now names)) at × (isContainerKind (kindAt (now nodes) at) ≡ true) ⌝ }
-    ensures { λ r. ⌜ OpenedIs (now (text .entry)) (containerOf (kindAt (now (nodes .entry)) at)) NestingLevel.Within r (λ inner. expectNode (labelAt (now (names .entry)) (now (nodes .entry)) at) level (isEnd (trees (now (names .entry)) (now (nodes .entry)) (countAt (now (nodes .entry)) at - 1) (at + 4))) inner (drop place (now (text .entry)))) ⌝ }
+    ensures { λ r. ⌜ ContainerOpenedAt (now (names .entry)) (now (nodes .entry)) at level (now (text .entry)) place r ⌝ }
 {
     let kind = container_of(nodes[at]);
     let from = nodes[at + 1] as usize;
