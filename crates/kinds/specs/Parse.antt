@@ -3,16 +3,19 @@
 use Prim.Native.Nat.{ℕ, zero, suc, _+_, _-_, _*_, _^_}
 use mathlib.Core.Bool.{Bool, true, false, _&&_}
 use mathlib.Core.List.{List, [], _∷_, _++_}
+use mathlib.Core.Option.{Option·getD}
 use lib.Dec.{leb, eqb}
 use lib.ListN.{length}
 use Rattle.kinds.specs.Byte.{byte, bytes, among, isDigit}
 use Rattle.kinds.specs.Container.{endByte, sameContainer}
 use Rattle.kinds.specs.Name.{verifyName}
+use Rattle.kinds.specs.Refusal.{number, refusedByte}
 use Rattle.kinds.specs.Tree.{Label, Trees, end, node, primitive, bitField, typedBitField, pointer, atomic, array, struct, union, none}
 use Rattle.kinds.specs.declared.ContainerKind.{ContainerKind}
 use Rattle.kinds.specs.declared.ContainerKind.the-variants.{Struct, Union}
 use Rattle.kinds.specs.declared.ErrorKind.{ErrorKind}
 use Rattle.kinds.specs.declared.ErrorKind.the-variants.{UnexpectedEnd, Unknown, UnknownAfterComplex, ExpectedInteger, IntegerTooLarge, WrongEndArray, WrongEndContainer, InvalidIdentifier, NotAllConsumed}
+use Rattle.kinds.specs.declared.Refusal.the-variants.{Parse}
 
 abbrev pub container : ContainerKind → List ℕ → Label
 container Struct s = struct s
@@ -300,17 +303,9 @@ pub data FromStart : Type 0 where
   treeThen : Label → Trees → List ℕ → FromStart
   refusal : ErrorKind → ℕ → FromStart
 
--- A digit stands where a type should begin.
+-- A digit stands where a type should begin: refusal 8, with a digit. Its place says nothing here.
 unfoldable pub unknownDigit : ErrorKind → Bool
-unknownDigit UnexpectedEnd = false
-unknownDigit (Unknown b) = isDigit b
-unknownDigit (UnknownAfterComplex b) = false
-unknownDigit ExpectedInteger = false
-unknownDigit IntegerTooLarge = false
-unknownDigit WrongEndArray = false
-unknownDigit (WrongEndContainer k) = false
-unknownDigit (InvalidIdentifier k) = false
-unknownDigit NotAllConsumed = false
+unknownDigit e = eqb (number (Parse e 0)) 8 && isDigit (Option·getD (refusedByte (Parse e 0)) 0)
 
 unfoldable pub fromStart : ℕ → Encoded → FromStart
 fromStart n (encoded l cs t) = treeThen l cs t

@@ -249,6 +249,9 @@ impl ContainerKind {
     }
 }
 
+// The number of the refusal that reading from the start tells apart: no type starts with this byte.
+pub const UNKNOWN: u64 = 8;
+
 // The table of refusals, as in specs/Refusal.antt: number, place, byte and container, 0 where there is none. A refusal more is its
 // name in an enum, a row here and a row there.
 impl ErrorKind {
@@ -259,7 +262,7 @@ impl ErrorKind {
         let place = at as u64;
         match self {
             ErrorKind::UnexpectedEnd => [7, place, 0, 0],
-            ErrorKind::Unknown(b) => [8, place, wide(b), 0],
+            ErrorKind::Unknown(b) => [UNKNOWN, place, wide(b), 0],
             ErrorKind::UnknownAfterComplex(b) => [9, place, wide(b), 0],
             ErrorKind::ExpectedInteger => [10, place, 0, 0],
             ErrorKind::IntegerTooLarge => [11, place, 0, 0],

@@ -187,3 +187,13 @@ unfolding fromStart startReading startTree startRest sheetWords sheetNames
 start-refused text w ns answer a why to r d z =
     start-read text w ns answer (a .words) (a .names) (P.refusal why to) (r .away) (from-start-is text _ (r .is) ∙ (rw (d, fromStart) refl) ∙ ap (P.refusal why) (place text to (r .within))) z
     (r .words-are) (r .names-are)
+
+-- A refusal leaves the rest equal to the text.
+pub refused-rest : (text w ns : List ℕ) (why : Refusal) → fromStartAnswer text w ns ≡ Refused why → fromStartRest text w ns ≡ text
+unfolding fromStartAnswer fromStartRest answerOr unlessAway startReading startRest
+refused-rest text w ns why = go (turnedAway text w ns) (fromStartOfStr text)
+  where
+    go : (o : Option Refusal) (q : P.FromStart) → answerOr o (startReading q) ≡ Refused why → unlessAway o text (startRest text q) ≡ text
+    go (some r) q e = refl
+    go none (P.treeThen l cs t) e = cc
+    go none (P.FromStart.refusal x at) e = refl

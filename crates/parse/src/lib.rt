@@ -34,10 +34,10 @@ use kinds::POINTER;
 use kinds::PRIMITIVES;
 use kinds::Refusal;
 use kinds::TYPED_BIT_FIELD;
+use kinds::UNKNOWN;
 use names::Name;
 use names::parse_name;
 use numbers::Number;
-use numbers::is_digit;
 use numbers::parse_u64;
 use parser::strip_leading_qualifiers;
 use sheet::HEADER;
@@ -584,14 +584,15 @@ pub fn from_str(text: &[u8], words: &mut [u64], names: &mut [u8]) -> Reading
     }
 }
 
-// A digit stands where a type should begin.
+// A digit stands where a type should begin: refusal 8, with a digit.
 fn unknown_digit(why: ErrorKind) -> bool
     ensures { λ r. ⌜ r ≡ unknownDigit why ⌝ }
 {
-    match why {
-        ErrorKind::Unknown(b) => is_digit(b),
-        _ => false,
+    let row = why.words(0);
+    if row[0] == UNKNOWN {
+        return 48 <= row[2] && row[2] <= 57;
     }
+    false
 }
 
 // The number of a refusal, its place, its byte and the kind word of its container; 0 for what it does not carry.
