@@ -198,13 +198,13 @@ pub extern "C" fn berzhotun_from_start_of_str(
 {
     let mut answer = [0; 4];
     let rest = encoding_box::from_start_of_str(text, words, names, &mut answer);
-    let number = answer[0];
-    if number == 0 {
-        *values = [(text.len() - rest.len()) as u64, 0, 0];
-        return 0;
+    // Less than the whole text is left only by a tree; a tree of no byte has the place 0 among its words.
+    if rest.len() == text.len() {
+        *values = [answer[1], answer[2], answer[3]];
+        return answer[0];
     }
-    *values = [answer[1], answer[2], answer[3]];
-    number
+    *values = [(text.len() - rest.len()) as u64, 0, 0];
+    0
 }
 
 #[no_mangle]
