@@ -16,7 +16,42 @@ const char *const function_names[FUNCTIONS] = {
     "equivalent_to_str", "size", "static_encoding_str_len", "static_encoding_str_array",
 };
 
-uint64_t counts[FUNCTIONS][16], yeses[FUNCTIONS];
+/* What each refusal carries beside its number. A refusal more is a row here and, below, a bit at each function that
+   returns it. */
+enum { NOTHING = 0, PLACE = 1, BYTE = 2, CONTAINER = 4 };
+
+static const uint8_t carried[NUMBERS] = {
+    [BERZHOTUN_TEXT_TOO_LONG] = NOTHING,
+    [BERZHOTUN_LIST_TOO_SHORT] = NOTHING,
+    [BERZHOTUN_BAD_SHEET] = NOTHING,
+    [BERZHOTUN_BAD_NAME] = NOTHING,
+    [BERZHOTUN_OUTPUT_TOO_SHORT] = NOTHING,
+    [BERZHOTUN_SIZE_TOO_LARGE] = NOTHING,
+    [BERZHOTUN_UNEXPECTED_END] = PLACE,
+    [BERZHOTUN_UNKNOWN_BYTE] = PLACE | BYTE,
+    [BERZHOTUN_UNKNOWN_AFTER_COMPLEX] = PLACE | BYTE,
+    [BERZHOTUN_EXPECTED_INTEGER] = PLACE,
+    [BERZHOTUN_INTEGER_TOO_LARGE] = PLACE,
+    [BERZHOTUN_WRONG_END_ARRAY] = PLACE,
+    [BERZHOTUN_WRONG_END_CONTAINER] = PLACE | CONTAINER,
+    [BERZHOTUN_INVALID_IDENTIFIER] = PLACE | CONTAINER,
+    [BERZHOTUN_NOT_ALL_CONSUMED] = PLACE,
+};
+
+/* The numbers that each function may return, a bit each. */
+static const uint64_t returned[FUNCTIONS] = {
+    [FROM_STR] = 0xff87,      /* 0, 1, 2, 7 to 15 */
+    [FROM_START] = 0x7f87,    /* 0, 1, 2, 7 to 14 */
+    [EQUIVALENT] = 0x19,      /* 0, 3, 4 */
+    [EQUIVALENT_BOX] = 0x19,  /* 0, 3, 4 */
+    [EQ] = 0x19,              /* 0, 3, 4 */
+    [MATCHES] = 0x1b,         /* 0, 1, 3, 4 */
+    [SIZE] = 0x59,            /* 0, 3, 4, 6 */
+    [LENGTH] = 0x19,          /* 0, 3, 4 */
+    [PRINT] = 0x39,           /* 0, 3, 4, 5 */
+};
+
+uint64_t counts[FUNCTIONS][NUMBERS], yeses[FUNCTIONS];
 
 static struct room text_room, words_room[2], names_room[2], read_words_room, read_names_room, out_room, answer_room;
 
@@ -115,8 +150,8 @@ static int all_are(const void *list, size_t from, size_t length, uint8_t byte) {
            (bytes[from] == byte && memcmp(bytes + from, bytes + from + 1, length - from - 1) == 0);
 }
 
-static uint64_t ends(uint64_t refusal, uint64_t allowed) {
-    if (refusal > 15 || (allowed >> refusal & 1) == 0) {
+static uint64_t ends(uint64_t refusal) {
+    if (refusal >= NUMBERS || (returned[running] >> refusal & 1) == 0) {
         fail("returned a number that it does not have");
     }
     counts[running][refusal]++;
@@ -125,13 +160,13 @@ static uint64_t ends(uint64_t refusal, uint64_t allowed) {
 
 static void check_values(uint64_t refusal, const uint64_t *values) {
     int accepted_place = refusal == 0 && running == FROM_START;
-    if (values[0] > (refusal >= 7 || accepted_place ? text_length : 0)) {
+    if (values[0] > ((carried[refusal] & PLACE) || accepted_place ? text_length : 0)) {
         fail("gave a place outside of the text");
     }
-    if (values[1] > (refusal == 8 || refusal == 9 ? 255 : 0)) {
+    if (values[1] > (carried[refusal] & BYTE ? 255 : 0)) {
         fail("gave a byte that is none");
     }
-    if ((refusal == 13 || refusal == 14) ? values[2] != 29 && values[2] != 30 : values[2] != 0) {
+    if (carried[refusal] & CONTAINER ? values[2] != BERZHOTUN_STRUCT && values[2] != BERZHOTUN_UNION : values[2] != 0) {
         fail("gave a kind that is none");
     }
 }
@@ -171,8 +206,7 @@ uint64_t call_reader(enum function function, size_t lent_words, size_t lent_name
     size_t words_filled, names_filled;
     running = function;
     refusal = ends((function == FROM_STR ? berzhotun_from_str : berzhotun_from_start_of_str)(
-                       text, text_length, tree_words, lent_words, tree_names, lent_names, values),
-                   function == FROM_STR ? 0xff87 : 0x7f87);
+        text, text_length, tree_words, lent_words, tree_names, lent_names, values));
     if (due != 0 ? refusal != due : refusal == 1 || refusal == 2) {
         fail("did not refuse by the lengths");
     }
@@ -204,8 +238,7 @@ uint64_t call_pair(enum function function, uint64_t *answer) {
                     : function == EQUIVALENT_BOX ? berzhotun_equivalent_to_box
                                                  : berzhotun_eq)(words[0], words_length[0], names[0], names_length[0],
                                                                  words[1], words_length[1], names[1],
-                                                                 names_length[1], lent),
-                   0x19);
+                                                                 names_length[1], lent));
     check_yes_or_no(refusal, *lent);
     *answer = *lent;
     return refusal;
@@ -216,8 +249,7 @@ uint64_t call_matches(uint64_t *answer) {
     uint64_t refusal;
     running = MATCHES;
     refusal = ends(berzhotun_equivalent_to_str(words[0], words_length[0], names[0], names_length[0], text,
-                                               text_length, lent),
-                   0x1b);
+                                               text_length, lent));
     if ((refusal == 1) != (text_length > BERZHOTUN_MAX_TEXT)) {
         fail("did not refuse by the length");
     }
@@ -230,7 +262,7 @@ uint64_t call_size(void) {
     uint64_t *lent = lend_marked(&answer_room, 2 * sizeof(uint64_t));
     uint64_t refusal;
     running = SIZE;
-    refusal = ends(berzhotun_size(words[0], words_length[0], names[0], names_length[0], lent), 0x59);
+    refusal = ends(berzhotun_size(words[0], words_length[0], names[0], names_length[0], lent));
     check_yes_or_no(refusal, lent[0]);
     if (lent[0] == 0 && lent[1] != 0) {
         fail("gave bytes of what has no size");
@@ -242,8 +274,7 @@ uint64_t call_length(uint64_t *answer) {
     uint64_t *lent = lend_marked(&answer_room, sizeof(uint64_t));
     uint64_t refusal;
     running = LENGTH;
-    refusal = ends(berzhotun_static_encoding_str_len(words[0], words_length[0], names[0], names_length[0], lent),
-                   0x19);
+    refusal = ends(berzhotun_static_encoding_str_len(words[0], words_length[0], names[0], names_length[0], lent));
     if (refusal != 0 && *lent != 0) {
         fail("gave a length of what it refused");
     }
@@ -257,8 +288,7 @@ uint64_t call_print(size_t room, struct text *print) {
     uint64_t refusal;
     running = PRINT;
     refusal = ends(berzhotun_static_encoding_str_array(words[0], words_length[0], names[0], names_length[0], out, room,
-                                                       lent),
-                   0x39);
+                                                       lent));
     if (*lent > (refusal == 0 ? room : 0)) {
         fail("gave a length of what it did not write");
     }

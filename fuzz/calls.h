@@ -8,8 +8,11 @@ enum function { FROM_STR, FROM_START, EQUIVALENT, EQUIVALENT_BOX, EQ, MATCHES, S
 
 extern const char *const function_names[FUNCTIONS];
 
+/* Returned numbers are below this, so that a set of them is the bits of a word. */
+enum { NUMBERS = 64 };
+
 /* Calls of each function by returned number, and those answered by yes. */
-extern uint64_t counts[FUNCTIONS][16], yeses[FUNCTIONS];
+extern uint64_t counts[FUNCTIONS][NUMBERS], yeses[FUNCTIONS];
 
 /* Makes the guarded memory and catches faults, which are reported with the call that made them. */
 void calls_begin(void);

@@ -129,7 +129,7 @@ static uint64_t calls_made(void) {
     uint64_t sum = 0;
     int function, number;
     for (function = 0; function < FUNCTIONS; function++) {
-        for (number = 0; number < 16; number++) {
+        for (number = 0; number < NUMBERS; number++) {
             sum += counts[function][number];
         }
     }
@@ -141,7 +141,7 @@ static void report(void) {
     printf("calls by returned number (0 accepted, else the refusal)\n");
     for (function = 0; function < FUNCTIONS; function++) {
         printf("%-26s", function_names[function]);
-        for (number = 0; number < 16; number++) {
+        for (number = 0; number < NUMBERS; number++) {
             if (counts[function][number] != 0) {
                 printf("  %d: %" PRIu64, number, counts[function][number]);
             }
