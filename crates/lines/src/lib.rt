@@ -90,7 +90,7 @@ fn front_words(s: &[u64], n: usize) -> &[u64]
 }
 
 // The word at `i`, or 0 beyond the end.
-fn word_at(words: &[u64], i: usize) -> u64
+pub fn word_at(words: &[u64], i: usize) -> u64
     ensures { λ r. ⌜ r ≡ getD (now (words .entry)) i 0 ⌝ }
 {
     if i < words.len() {

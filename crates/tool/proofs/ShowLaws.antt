@@ -13,7 +13,7 @@ use borrow.Author.Tests.{le-leb, lt-leb, lt-ltb, le-ltb, eq-eqb, ne-eqb, eqb-fal
 use Rattle.kinds.proofs.ListLaws.{unread, unread-end}
 use Rattle.lines.specs.Answer.{until}
 use Rattle.kinds.specs.Print.{decimal}
-use Rattle.tool.specs.Answer.{countOf, shownByte, times, holders, depthOf, lineOf, countText, kindNames, valuesText, rightText, nodeText, byteText, containerText, shownText, shownOrCut, markText, reasons, namedText, refusedText}
+use Rattle.tool.specs.Answer.{countOf, shownByte, times, holders, depthOf, lineOf, countText, kindNames, valuesText, rightText, nodeText, byteText, containerText, shownText, shownOrCut, markText, namedText, refusedBy}
 
 pub counts : (b : ℕ) (s : List ℕ) (i : ℕ) → i < length s → getD s i 0 ≡ b → countOf b (drop i s) ≡ suc (countOf b (drop (i + 1) s))
 unfolding countOf
@@ -134,16 +134,6 @@ node-is words names i last d k m n p q r s = rw (p, q, r, s)
 
 -- ---- The texts of a refusal by cases.
 
-either : (n j k : ℕ) → j ≤ n → n ≤ k → k ≡ j + 1 → (eqb n j || eqb n k) ≡ true
-either n j k h i s = go (eqb n j) refl
-  where
-    go : (t : Bool) → eqb n j ≡ t → (t || eqb n k) ≡ true
-    go true e = refl
-    go false e = let r = eqb-false n j e in eq-eqb n k (omega (arith, r))
-
-neither : (n j k : ℕ) → (n ≡ j → ⊥) → (n ≡ k → ⊥) → (eqb n j || eqb n k) ≡ false
-neither n j k a b = rw (ne-eqb n j a, ne-eqb n k b)
-
 pub byte-itself : (b : ℕ) → 32 < b → b < 127 → b ∷ [] ≡ byteText b
 unfolding byteText
 byte-itself b h k = sym (rw (lt-ltb 32 b h, lt-ltb b 127 k))
@@ -172,33 +162,30 @@ pub text-cut : (text front : List ℕ) → front ≡ take 60 text → 2000 < len
 unfolding shownOrCut
 text-cut text front e h = rw e (sym (rw (lt-leb (length text) 2000 h)))
 
-pub mark-none : (number place : ℕ) → number < 7 → [] ≡ markText number place
+pub mark-none : (carried place : ℕ) → carried ≡ 45 → [] ≡ markText carried place
 unfolding markText
-mark-none number place h = sym (rw (lt-ltb number 7 h))
+mark-none carried place e = sym (rw (eq-eqb carried 45 e))
 
-pub mark-under : (number place : ℕ) → 7 ≤ number → (10 ∷ []) ++ (times place (32 ∷ []) ++ (94 ∷ [])) ≡ markText number place
+pub mark-under : (carried place : ℕ) → (carried ≡ 45 → ⊥) → (10 ∷ []) ++ (times place (32 ∷ []) ++ (94 ∷ [])) ≡ markText carried place
 unfolding markText
-mark-under number place h = sym (rw (le-ltb number 7 h))
+mark-under carried place e = sym (rw (ne-eqb carried 45 e))
 
-module _ (number b container : ℕ) where
-  pub named-byte : 8 ≤ number → number ≤ 9 → byteText b ≡ namedText number b container
+module _ (carried b container : ℕ) where
+  pub named-byte : carried ≡ 98 → byteText b ≡ namedText carried b container
   unfolding namedText
-  named-byte h k = sym (rw (either number 8 9 h k refl))
+  named-byte e = sym (rw (eq-eqb carried 98 e))
 
-  pub named-container : 13 ≤ number → number ≤ 14 → containerText container ≡ namedText number b container
+  pub named-container : (carried ≡ 98 → ⊥) → carried ≡ 99 → containerText container ≡ namedText carried b container
   unfolding namedText
-  named-container h k =
-      let i : number ≡ 8 → ⊥ = λ e. absurd (omega (arith, e)) in
-      let j : number ≡ 9 → ⊥ = λ e. absurd (omega (arith, e)) in
-      sym (rw (neither number 8 9 i j, either number 13 14 h k refl))
+  named-container d e = sym (rw (ne-eqb carried 98 d, eq-eqb carried 99 e))
 
-  pub named-none : (number ≡ 8 → ⊥) → (number ≡ 9 → ⊥) → (number ≡ 13 → ⊥) → (number ≡ 14 → ⊥) → [] ≡ namedText number b container
+  pub named-none : (carried ≡ 98 → ⊥) → (carried ≡ 99 → ⊥) → [] ≡ namedText carried b container
   unfolding namedText
-  named-none h i j k = sym (rw (neither number 8 9 h i, neither number 13 14 j k))
+  named-none d e = sym (rw (ne-eqb carried 98 d, ne-eqb carried 99 e))
 
-pub refused-is : (text why : List ℕ) → shownOrCut text ++
-    (markText (getD why 0 0) (getD why 1 0) ++ ((10 ∷ 114 ∷ 101 ∷ 102 ∷ 117 ∷ 115 ∷ 101 ∷ 100 ∷ 32 ∷ 40 ∷ []) ++
-    (decimal (getD why 0 0) ++ ((41 ∷ 58 ∷ 32 ∷ []) ++ (lineOf (getD why 0 0) reasons ++ namedText (getD why 0 0) (getD why 2 0) (getD why 3 0))))))
-    ≡ refusedText text why
-unfolding refusedText
-refused-is text why = refl
+pub refused-is : (line text why reason : List ℕ) (carried : ℕ) → carried ≡ getD line 0 0 → reason ≡ drop (until 32 line + 1) line → shownOrCut text ++
+    (markText carried (getD why 1 0) ++ ((10 ∷ 114 ∷ 101 ∷ 102 ∷ 117 ∷ 115 ∷ 101 ∷ 100 ∷ 32 ∷ 40 ∷ []) ++
+    (decimal (getD why 0 0) ++ ((41 ∷ 58 ∷ 32 ∷ []) ++ (reason ++ namedText carried (getD why 2 0) (getD why 3 0))))))
+    ≡ refusedBy line text why
+unfolding refusedBy
+refused-is line text why reason carried p q = rw (p, q)

@@ -83,32 +83,34 @@ containerText kind = cond (eqb kind 30) (bytes "union") (bytes "struct")
 unfoldable pub shownOrCut : List ℕ → List ℕ
 shownOrCut text = cond (leb (length text) 2000) (shownText text) (shownText (take 60 text) ++ bytes "...")
 
--- A line with a mark under the place; a refusal up to 6 has no place.
-unfoldable pub markText : ℕ → ℕ → List ℕ
-markText number place = cond (ltb number 7) [] (bytes "\n" ++ (times place (bytes " ") ++ bytes "^"))
-
--- Why an input was turned away, a line for each of document 01's numbers.
+-- Why an input was turned away, a line for each of document 01's numbers. A line says first what the refusal carries (`-` nothing, `^` a place, `b` a
+-- place and a byte, `c` a place and a container) and then the reason, up to the byte or container that it names. A refusal more is a line here.
 unfoldable pub reasons : List ℕ
 reasons =
-    bytes "\nthe text has more than 2,000 bytes\nthe lists are too short for the tree\nthe lists hold no tree\n"
-    ++ (bytes "a name is neither ? nor letters, digits and underscores\nthe output is too short for the text\nthe size is above 2^64 - 1 bytes\n"
-    ++ (bytes "the text ends where another byte must stand\nno type starts with \nf, d or D must follow j, not \na digit must stand here\n"
-    ++ (bytes "a number is above 2^64 - 1, or a bitfield's size above 255\nno ] follows the array's item\n"
-    ++ bytes "the text ends inside the \nneither ? nor letters, digits and underscores name the \nbytes remain after the type")))
+    bytes "-\n- the text has more than 2,000 bytes\n- the lists are too short for the tree\n- the lists hold no tree\n"
+    ++ (bytes "- a name is neither ? nor letters, digits and underscores\n- the output is too short for the text\n- the size is above 2^64 - 1 bytes\n"
+    ++ (bytes "^ the text ends where another byte must stand\nb no type starts with \nb f, d or D must follow j, not \n^ a digit must stand here\n"
+    ++ (bytes "^ a number is above 2^64 - 1, or a bitfield's size above 255\n^ no ] follows the array's item\n"
+    ++ bytes "c the text ends inside the \nc neither ? nor letters, digits and underscores name the \n^ bytes remain after the type")))
+
+-- A line with a mark under the place, unless the refusal has none.
+unfoldable pub markText : ℕ → ℕ → List ℕ
+markText carried place = cond (eqb carried (byte "-")) [] (bytes "\n" ++ (times place (bytes " ") ++ bytes "^"))
 
 -- The byte or the container that a refusal names.
 unfoldable pub namedText : ℕ → ℕ → ℕ → List ℕ
-namedText number b container =
-    cond (eqb number 8 || eqb number 9) (byteText b)
-    (cond (eqb number 13 || eqb number 14) (containerText container) [])
+namedText carried b container = cond (eqb carried (byte "b")) (byteText b) (cond (eqb carried (byte "c")) (containerText container) [])
 
--- The text, a mark under the refusal's place if it has one, and the reason.
-unfoldable pub refusedText : List ℕ → List ℕ → List ℕ
-refusedText text why =
+-- A refusal by its line of `reasons`: the text, a mark under the place if there is one, and the reason.
+unfoldable pub refusedBy : List ℕ → List ℕ → List ℕ → List ℕ
+refusedBy line text why =
     shownOrCut text
-    ++ (markText (getD why 0 0) (getD why 1 0)
+    ++ (markText (getD line 0 0) (getD why 1 0)
     ++ (bytes "\nrefused ("
     ++ (decimal (getD why 0 0)
     ++ (bytes "): "
-    ++ (lineOf (getD why 0 0) reasons
-    ++ namedText (getD why 0 0) (getD why 2 0) (getD why 3 0))))))
+    ++ (drop (until (byte " ") line + 1) line
+    ++ namedText (getD line 0 0) (getD why 2 0) (getD why 3 0))))))
+
+unfoldable pub refusedText : List ℕ → List ℕ → List ℕ
+refusedText text why = refusedBy (lineOf (getD why 0 0) reasons) text why

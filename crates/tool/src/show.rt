@@ -3,35 +3,13 @@ ghost use mathlib.Core.Path.{_≡_};
 ghost use mathlib.Core.List.{[], _∷_};
 ghost use lib.ListN.{take, drop, getD};
 ghost use Rattle.lines.specs.Answer.{Put};
-ghost use Rattle.tool.specs.Answer.{countOf, shownByte, shownText, times, depthOf, lineOf, countText, kindNames, valuesText, rightText, nodeText, byteText, containerText, shownOrCut, markText, reasons, namedText, refusedText};
+ghost use Rattle.tool.specs.Answer.{countOf, shownByte, shownText, times, depthOf, lineOf, countText, kindNames, valuesText, rightText, nodeText, byteText, containerText, shownOrCut, markText, namedText, refusedBy, refusedText};
 use kinds::ARRAY;
 use kinds::BIT_FIELD;
 use kinds::MAX_TEXT;
 use kinds::STRUCT;
 use kinds::TYPED_BIT_FIELD;
 use kinds::UNION;
-
-// Document 01's numbers of the refusals that name a byte or a container.
-const UNKNOWN: u64 = 8;
-
-const UNKNOWN_AFTER_COMPLEX: u64 = 9;
-
-const WRONG_END_CONTAINER: u64 = 13;
-
-const INVALID_IDENTIFIER: u64 = 14;
-
-// The first number of a refusal that has a place.
-const FIRST_PLACED: u64 = 7;
-
-// The word at `i`, or 0 beyond the end.
-fn word_at(words: &[u64], i: usize) -> u64
-    ensures { λ r. ⌜ r ≡ getD (now (words .entry)) i 0 ⌝ }
-{
-    if i < words.len() {
-        return words[i];
-    }
-    0
-}
 
 // At most `n` items of `s` from `from` on.
 fn part(s: &[u8], from: usize, n: usize) -> &[u8]
@@ -116,7 +94,7 @@ fn depth(nodes: &[u64], i: u16) -> usize
     let mut n = 0;
     let mut j = 0;
     while j < i {
-        let count = word_at(nodes, 4 * (j as usize) + 3);
+        let count = lines::word_at(nodes, 4 * (j as usize) + 3);
         if ((i - j) as u64) < count {
             n += 1;
         }
@@ -189,9 +167,9 @@ pub fn put_node(out: &mut [u8], nodes: &[u64], names: &[u8], i: u16, last: u16) 
     let space = lines::put_bytes(out, number, b" ");
     let to = put_times(out, space, b"  ", depth(nodes, i));
     let at = 4 * (i as usize);
-    let kind = word_at(nodes, at);
-    let first = word_at(nodes, at + 1);
-    let second = word_at(nodes, at + 2);
+    let kind = lines::word_at(nodes, at);
+    let first = lines::word_at(nodes, at + 1);
+    let second = lines::word_at(nodes, at + 2);
     let values = put_kind(out, to, kind);
     put_values(out, values, names, kind, first, second)
 }
@@ -227,11 +205,21 @@ fn put_text(out: &mut [u8], at: usize, text: &[u8]) -> usize
     lines::put_bytes(out, to, b"...")
 }
 
-// A line with a mark under the place; a refusal up to 6 has no place.
-fn put_mark(out: &mut [u8], at: usize, number: u64, place: u64) -> usize
-    ensures { λ r. ⌜ Put (now (out .entry)) at (markText number place) (now (out .exit)) r ⌝ }
+// What a refusal carries, by the first byte of its line of reasons; 0 of an empty line.
+fn carried_by(line: &[u8]) -> u8
+    ensures { λ r. ⌜ r ≡ getD (now (line .entry)) 0 0 ⌝ }
 {
-    if number < FIRST_PLACED {
+    if 0 < line.len() {
+        return line[0];
+    }
+    0
+}
+
+// A line with a mark under the place, unless the refusal has none.
+fn put_mark(out: &mut [u8], at: usize, carried: u8, place: u64) -> usize
+    ensures { λ r. ⌜ Put (now (out .entry)) at (markText carried place) (now (out .exit)) r ⌝ }
+{
+    if carried == b'-' {
         return at;
     }
     let line = lines::put_bytes(out, at, b"\n");
@@ -239,49 +227,54 @@ fn put_mark(out: &mut [u8], at: usize, number: u64, place: u64) -> usize
     lines::put_bytes(out, to, b"^")
 }
 
-// Why an input was turned away, by document 01's number, up to the byte or container that the refusal names.
-fn put_reason(out: &mut [u8], at: usize, number: u64) -> usize
-    ensures { λ r. ⌜ Put (now (out .entry)) at (lineOf number reasons) (now (out .exit)) r ⌝ }
+// The byte or the container that a refusal names.
+fn put_named(out: &mut [u8], at: usize, carried: u8, byte: u64, container: u64) -> usize
+    ensures { λ r. ⌜ Put (now (out .entry)) at (namedText carried byte container) (now (out .exit)) r ⌝ }
 {
-    let table = b"\n\
-        the text has more than 2,000 bytes\n\
-        the lists are too short for the tree\n\
-        the lists hold no tree\n\
-        a name is neither ? nor letters, digits and underscores\n\
-        the output is too short for the text\n\
-        the size is above 2^64 - 1 bytes\n\
-        the text ends where another byte must stand\n\
-        no type starts with \n\
-        f, d or D must follow j, not \n\
-        a digit must stand here\n\
-        a number is above 2^64 - 1, or a bitfield's size above 255\n\
-        no ] follows the array's item\n\
-        the text ends inside the \n\
-        neither ? nor letters, digits and underscores name the \n\
-        bytes remain after the type";
-    lines::put_bytes(out, at, line_of(table, number))
+    if carried == b'b' {
+        return put_byte(out, at, byte);
+    }
+    if carried == b'c' {
+        return put_container(out, at, container);
+    }
+    at
 }
 
-// The byte or the container that a refusal names.
-fn put_named(out: &mut [u8], at: usize, number: u64, byte: u64, container: u64) -> usize
-    ensures { λ r. ⌜ Put (now (out .entry)) at (namedText number byte container) (now (out .exit)) r ⌝ }
+// The same by the refusal's line of the reasons below.
+fn put_reason(out: &mut [u8], text: &[u8], why: &[u64; 4], line: &[u8]) -> usize
+    ensures { λ r. ⌜ Put (now (out .entry)) 0 (refusedBy (now (line .entry)) (now (text .entry)) (now (why .entry))) (now (out .exit)) r ⌝ }
 {
-    match number {
-        UNKNOWN | UNKNOWN_AFTER_COMPLEX => put_byte(out, at, byte),
-        WRONG_END_CONTAINER | INVALID_IDENTIFIER => put_container(out, at, container),
-        _ => at,
-    }
+    let carried = carried_by(line);
+    let shown = put_text(out, 0, text);
+    let mark = put_mark(out, shown, carried, why[1]);
+    let to = lines::put_bytes(out, mark, b"\nrefused (");
+    let number = lines::put_number(out, to, why[0]);
+    let reason = lines::put_bytes(out, number, b"): ");
+    let named = lines::put_bytes(out, reason, lines::rest(line, b' '));
+    put_named(out, named, carried, why[2], why[3])
 }
 
 // The text, a mark under the refusal's place if it has one, and the reason.
 pub fn put_refused(out: &mut [u8], text: &[u8], why: &[u64; 4]) -> usize
     ensures { λ r. ⌜ Put (now (out .entry)) 0 (refusedText (now (text .entry)) (now (why .entry))) (now (out .exit)) r ⌝ }
 {
-    let shown = put_text(out, 0, text);
-    let mark = put_mark(out, shown, why[0], why[1]);
-    let to = lines::put_bytes(out, mark, b"\nrefused (");
-    let number = lines::put_number(out, to, why[0]);
-    let reason = lines::put_bytes(out, number, b"): ");
-    let named = put_reason(out, reason, why[0]);
-    put_named(out, named, why[0], why[2], why[3])
+    // A line for each of document 01's numbers: what the refusal carries (`-` nothing, `^` a place, `b` a place and a byte, `c` a place and a
+    // container), and the reason, up to the byte or container that it names. A refusal more is a line here.
+    let reasons = b"-\n\
+        - the text has more than 2,000 bytes\n\
+        - the lists are too short for the tree\n\
+        - the lists hold no tree\n\
+        - a name is neither ? nor letters, digits and underscores\n\
+        - the output is too short for the text\n\
+        - the size is above 2^64 - 1 bytes\n\
+        ^ the text ends where another byte must stand\n\
+        b no type starts with \n\
+        b f, d or D must follow j, not \n\
+        ^ a digit must stand here\n\
+        ^ a number is above 2^64 - 1, or a bitfield's size above 255\n\
+        ^ no ] follows the array's item\n\
+        c the text ends inside the \n\
+        c neither ? nor letters, digits and underscores name the \n\
+        ^ bytes remain after the type";
+    put_reason(out, text, why, line_of(reasons, why[0]))
 }

@@ -8,7 +8,7 @@ use Rattle.tool.proofs.show.put_mark.Tie as tie
 returns : tie.Need-returns
 returns c =
     let c2 = c .before .before in
-    put-same (mark-none (c2 .args .number) (c2 .args .place) (c .if1 .taken)) (put-none _ _)
+    put-same (mark-none (c2 .args .carried) (c2 .args .place) (c .if1 .taken)) (put-none _ _)
 
 returns-2 : tie.Need-returns-2
 returns-2 c =
@@ -17,7 +17,7 @@ returns-2 c =
     let c12 = c7 .before .before .before .before .before in
     let c15 = c12 .before .before .before in
     let c17 = c15 .before .before in
-    put-same (mark-under (c17 .args .number) (c17 .args .place) (c15 .if1 .left))
+    put-same (mark-under (c17 .args .carried) (c17 .args .place) (c15 .if1 .left))
     (put-append _ _ (c12 .put-bytes .ensures) (put-append _ _ (c7 .put-times .ensures) (c2 .put-bytes2 .ensures)))
 
 pub put-mark-spec : {M : Type 1} → statement M
