@@ -1,5 +1,5 @@
 -- The two readings (encoding_box.rs): what they answer, and what the lent lists hold after (01, "The sheet" and "Why an input is turned away").
-use Prim.Native.Nat.{ℕ, _+_, _*_, _-_}
+use Prim.Native.Nat.{ℕ, _+_, _-_}
 use mathlib.Core.Path.{_≡_}
 use mathlib.Core.Bool.{Bool, cond, _&&_}
 use mathlib.Core.List.{List, [], _∷_, _++_}
