@@ -590,6 +590,7 @@ fn unknown_digit(why: ErrorKind) -> bool
 {
     let row = why.words(0);
     if row[0] == UNKNOWN {
+        // the byte, from '0' to '9'
         return 48 <= row[2] && row[2] <= 57;
     }
     false

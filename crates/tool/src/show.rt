@@ -240,7 +240,7 @@ fn put_named(out: &mut [u8], at: usize, carried: u8, byte: u64, container: u64) 
     at
 }
 
-// The same by the refusal's line of the reasons below.
+// What `put_refused` puts, by the refusal's line of its reasons.
 fn put_reason(out: &mut [u8], text: &[u8], why: &[u64; 4], line: &[u8]) -> usize
     ensures { λ r. ⌜ Put (now (out .entry)) 0 (refusedBy (now (line .entry)) (now (text .entry)) (now (why .entry))) (now (out .exit)) r ⌝ }
 {
