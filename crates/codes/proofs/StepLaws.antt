@@ -1,4 +1,4 @@
--- Laws of one step of reading at a place: a byte of fuel, what a byte begins, and the closer of an array.
+-- Laws of one step of reading at a place: a byte of fuel, what a byte begins, and the closers of an array and of a container.
 use Prim.Native.Nat.{ℕ, zero, suc, _+_, _≤_, _<_}
 use mathlib.Core.Path.{_≡_, refl, sym, ap, _∙_}
 use mathlib.Core.List.{List, []}
@@ -10,12 +10,14 @@ use lib.ListN.{length, drop, getD, length-drop}
 use borrow.Author.Tests.{lt-ltb, ltb-true, eqb-true, eq-eqb}
 use Rattle.kinds.proofs.ListLaws.{unread, unread-end}
 use Rattle.kinds.proofs.TableLaws.{both}
+use Rattle.kinds.specs.Container.{endByte, sameContainer}
 use Rattle.kinds.specs.Parse as R
-use Rattle.kinds.specs.Parse.{maxU64, start, begin, encoding, refused, parseInner, parseItems}
+use Rattle.kinds.specs.Parse.{maxU64, start, inSingles, singles, inOthers, others, begin, encoding, refused, parseInner, parseItems}
 use Rattle.kinds.specs.Tree.{Label, Trees, end, node, array}
 use Rattle.kinds.specs.declared.ContainerKind.{ContainerKind}
+use Rattle.kinds.specs.declared.ContainerKind.the-variants.{Struct, Union}
 use Rattle.kinds.specs.declared.ErrorKind.the-variants.{WrongEndArray}
-use Rattle.codes.specs.Answer.{closed}
+use Rattle.codes.specs.Answer.{closed, closesFields}
 
 pub parse-step : (text : List ℕ) (at g : ℕ) → at < length text
     → parseInner (suc g) (drop at text) ≡ begin (getD text at 0) (start (getD text at 0)) (drop (at + 1) text) (λ t. parseInner g t) (λ k t. parseItems g k t)
@@ -75,3 +77,20 @@ closes-not text len c cs to e = elim (decLt to (length text)) [
   | yes l ↦ ap (R.closeItem len c cs) (unread text to l) ∙ (rw (not-closed text to l e, R.closeItem) refl) ∙ sym (ap (refused WrongEndArray) (unread text to l))
   | no l ↦ ap (R.closeItem len c cs) (unread-end text to (omega arith)) ∙ sym (ap (refused WrongEndArray) (unread-end text to (omega arith)))
 ]
+
+-- ---- The closer of a container.
+
+closer-starts : (k : ContainerKind) → start (endByte k) ≡ R.closeContainer k
+unfolding start inSingles singles inOthers others
+closer-starts Struct = refl
+closer-starts Union = refl
+
+pub same-self : (k : ContainerKind) → sameContainer k k ≡ true
+same-self Struct = refl
+same-self Union = refl
+
+pub closes-in : (text : List ℕ) (at : ℕ) (kind : ContainerKind) → closesFields text at kind ≡ true → at < length text
+closes-in text at kind e = ltb-true at (length text) (both (ltb at (length text)) (eqb (getD text at 0) (endByte kind)) e .0)
+
+pub closes-starts : (text : List ℕ) (at : ℕ) (kind : ContainerKind) → closesFields text at kind ≡ true → start (getD text at 0) ≡ R.closeContainer kind
+closes-starts text at kind e = ap start (eqb-true _ _ (both (ltb at (length text)) (eqb (getD text at 0) (endByte kind)) e .1)) ∙ closer-starts kind

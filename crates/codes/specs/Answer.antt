@@ -5,9 +5,11 @@ use mathlib.Core.List.{List}
 use lib.Dec.{leb, ltb, eqb}
 use lib.ListN.{length, drop, getD}
 use Rattle.kinds.specs.Byte.{byte}
+use Rattle.kinds.specs.Container.{endByte}
 use Rattle.kinds.specs.Parse as R
 use Rattle.kinds.specs.Parse.{Start, single, complex, object, bits, indirection, openArray, closeArray, openContainer, closeContainer, nothing, start, begin, empty, encoding, containerEnd, arrayEnd, refused, itemsRefused}
 use Rattle.kinds.specs.Tree.{Label, Trees, end, node, kind, primitive, bitField, typedBitField, pointer, atomic, array, struct, union, none}
+use Rattle.kinds.specs.declared.ContainerKind.{ContainerKind}
 use Rattle.kinds.specs.declared.ErrorKind.the-variants.{UnexpectedEnd}
 use Rattle.parser.specs.Place.{placeOf}
 use Rattle.codes.specs.declared.Token.{Token}
@@ -36,6 +38,10 @@ isIndirection b = eqb b (byte "^") || eqb b (byte "A")
 -- The item of an array is closed: `]` stands at `to`.
 abbrev pub closed : List ℕ → ℕ → Bool
 closed text to = ltb to (length text) && eqb (getD text to 0) (byte "]")
+
+-- The container's own closer stands at `to`.
+abbrev pub closesFields : List ℕ → ℕ → ContainerKind → Bool
+closesFields text to kind = ltb to (length text) && eqb (getD text to 0) (endByte kind)
 
 -- Something with parts begins: a pointer, an atomic, an array or a container.
 unfoldable pub hasParts : Start → Bool

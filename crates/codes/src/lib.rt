@@ -7,7 +7,7 @@ ghost use lib.Dec.{leb, ltb, eqb};
 ghost use Rattle.kinds.specs.Parse.{maxU64, maxU8, parseNumber, parseComplex, parseQuoted, parseObject, parseBitField, parseBits, start};
 ghost use Rattle.kinds.specs.Container.{sameContainer};
 ghost use Rattle.parser.specs.Run.{runEnd};
-ghost use Rattle.codes.specs.Answer.{codeOf, isCode, isIndirection, closed, tokenOf, tokenAt};
+ghost use Rattle.codes.specs.Answer.{codeOf, isCode, isIndirection, closed, closesFields, tokenOf, tokenAt};
 use kinds::ContainerKind;
 use kinds::ErrorKind;
 use kinds::PRIMITIVES;
@@ -229,6 +229,13 @@ pub fn closes_item(text: &[u8], to: usize) -> bool
     ensures { λ r. ⌜ r ≡ closed (now (text .entry)) to ⌝ }
 {
     to < text.len() && text[to] == b']'
+}
+
+// The container's own closer stands at `to`.
+pub fn closes_fields(text: &[u8], to: usize, kind: ContainerKind) -> bool
+    ensures { λ r. ⌜ r ≡ closesFields (now (text .entry)) to kind ⌝ }
+{
+    to < text.len() && text[to] == kind.end_byte()
 }
 
 pub fn same_container(a: ContainerKind, b: ContainerKind) -> bool

@@ -5,7 +5,7 @@ use mathlib.Core.List.{List, [], _∷_}
 use mathlib.Core.Bool.{Bool, true, false, _&&_, _||_, not, false≢true}
 use mathlib.Core.Logic.{inl, inr}
 use lib.Dec.{eqb}
-use Rattle.kinds.proofs.TableLaws.{everyBelow, passBelow}
+use Rattle.kinds.proofs.TableLaws.{everyBelow, passBelow, each}
 use Rattle.kinds.specs.Byte.{byte, bytes, among, isDigit}
 use Rattle.kinds.specs.Parse.{singles, others, inOthers, inSingles, start, leaf, parseComplex, parseObject, parseNumber, parseBits, parseName, held, item, contained, begin}
 use Rattle.kinds.specs.Parse.{nextItem, parseInner, parse, qualifiers, isQualifier, stripLeadingQualifiers, encodingOrNone, parseEncodingOrNone, whole, fromStr}
@@ -17,7 +17,7 @@ use Rattle.kinds.specs.declared.NestingLevel.the-variants.{Top}
 use Rattle.agreement.specs.ReadTree as A
 use Rattle.agreement.specs.ReadTree.{readTree}
 use Rattle.agreement.proofs.Agreement.{reads-back}
-use Rattle.agreement.proofs.ByteLaws.{each, _also_}
+use Rattle.agreement.proofs.ByteLaws.{_also_}
 use Rattle.documents.specs.Guide as G
 use Rattle.documents.specs.Guide.{Meaning, Types, only, code, encode, isNone, isOne, defined, isType}
 use Rattle.documents.specs.Translation.{label, trees, withoutLongDouble, countsFit, withoutBlock, MeantBy}

@@ -5,11 +5,11 @@ use mathlib.Core.List.{List, [], _∷_, _++_}
 use mathlib.Core.Bool.{Bool, true, false}
 use mathlib.Core.Logic.{_↔_}
 use lib.ListN.{length}
+use Rattle.kinds.proofs.TableLaws.{each}
 use Rattle.kinds.specs.Byte.{among}
 use Rattle.kinds.specs.Parse.{Encoded, encoded, notEncoded, whole, qualifiers, isQualifier, stripLeadingQualifiers, parseEncodingOrNone, fromStr}
 use Rattle.agreement.specs.ReadTree as A
 use Rattle.agreement.specs.ReadTree.{readTree}
-use Rattle.agreement.proofs.ByteLaws.{each}
 use Rattle.documents.specs.Guide.{Qualifier, const, «in», inout, out, bycopy, byref, oneway, letter, letters}
 
 is-letter : (q : Qualifier) → isQualifier (letter q) ≡ true

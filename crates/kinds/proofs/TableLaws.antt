@@ -1,12 +1,12 @@
 -- Tests of which both hold; a rule of a table, proved at all of its entries by one computed test; tests on lists.
 use Prim.Native.Nat.{ℕ, zero, suc, _<_}
-use mathlib.Core.Path.{_≡_, refl, ap₂}
-use mathlib.Core.Bool.{Bool, true, false, _&&_, false≢true}
+use mathlib.Core.Path.{_≡_, refl, sym, ap₂, subst}
+use mathlib.Core.Bool.{Bool, true, false, _&&_, _||_, false≢true}
 use mathlib.Core.List.{List, [], _∷_}
 use native.Mathlib.Omega.{arith}
 use lib.Dec.{eqb}
 use borrow.Author.Tests.{eqb-true, eqb-false, eq-eqb}
-use Rattle.kinds.specs.Byte.{sameBytes}
+use Rattle.kinds.specs.Byte.{among, sameBytes}
 
 pub both-left : (a b : Bool) → (a && b) ≡ true → a ≡ true
 both-left true b h = refl
@@ -23,6 +23,16 @@ both a b h = (both-left a b h, both-right a b h)
 abbrev pub Each : (ℕ → Type 0) → List ℕ → Type 0
 Each P [] = Unit {0}
 Each P (x ∷ xs) = P x × Each P xs
+
+-- What holds of each member of a list holds of a byte among them.
+pub each : (P : ℕ → Type 0) (s : List ℕ) → Each P s → (b : ℕ) → among b s ≡ true → P b
+unfolding among
+each P [] a b h = absurd (false≢true h)
+each P (x ∷ s) a b h = go (eqb b x) refl h (λ k. each P s (a .1) b k)
+  where
+    go : (t : Bool) → eqb b x ≡ t → (t || among b s) ≡ true → (among b s ≡ true → P b) → P b
+    go true e k rec = subst P (sym (eqb-true b x e)) (a .0)
+    go false e k rec = rec k
 
 -- The test passes at each number below `n`.
 unfoldable pub everyBelow : (ℕ → Bool) → ℕ → Bool

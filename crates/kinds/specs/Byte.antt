@@ -29,3 +29,8 @@ sameBytes (x ∷ s) (y ∷ t) = eqb x y && sameBytes s t
 
 unfoldable pub isDigit : ℕ → Bool
 isDigit b = leb (byte "0") b && leb b (byte "9")
+
+-- A text begins with a digit.
+unfoldable pub startsDigit : List ℕ → Bool
+startsDigit [] = false
+startsDigit (b ∷ s) = isDigit b

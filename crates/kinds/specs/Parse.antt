@@ -21,9 +21,12 @@ abbrev pub container : ContainerKind → List ℕ → Label
 container Struct s = struct s
 container Union s = union s
 
--- The largest numbers of 64 and of 8 bits.
+-- The largest numbers of 64, of 32 and of 8 bits.
 abbrev pub maxU64 : ℕ
 maxU64 = 2 ^ 64 - 1
+
+abbrev pub maxU32 : ℕ
+maxU32 = 2 ^ 32 - 1
 
 abbrev pub maxU8 : ℕ
 maxU8 = 255

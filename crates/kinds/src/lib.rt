@@ -6,6 +6,7 @@ ghost use Rattle.kinds.specs.Name.{isNameByte, verifyName};
 ghost use Rattle.kinds.specs.Primitive.{kindOf, codeBytes, code, isObject, equivalent, sizeOf, primitiveSize};
 ghost use Rattle.kinds.specs.Container.{startByte, endByte, prefixByte};
 ghost use Rattle.kinds.specs.Sheet.{isContainerKind};
+ghost use Rattle.kinds.specs.Parse.{unknownDigit};
 ghost use Rattle.kinds.specs.Refusal.{number, containerWord, values, words};
 ghost use mathlib.Core.Option.{some};
 
@@ -117,7 +118,7 @@ pub enum ErrorKind {
     NotAllConsumed,
 }
 
-// Why an input is turned away: document 01's numbers 1 to 6, and 7 to 15 with their place.
+// Why an input is turned away: document 01's numbers 1 to 6, and 7 to 15 with their place; those of signatures, 16 and 17 with their place, and 18.
 pub enum Refusal {
     TextTooLong,
     ListTooShort,
@@ -126,6 +127,9 @@ pub enum Refusal {
     OutputTooShort,
     SizeTooLarge,
     Parse(ErrorKind, usize),
+    ExpectedOffset(usize),
+    OffsetTooLarge(usize),
+    EmptySignature,
 }
 
 // What a comparison answers.
@@ -250,7 +254,7 @@ impl ContainerKind {
 }
 
 // The number of the refusal that reading from the start tells apart: no type starts with this byte.
-pub const UNKNOWN: u64 = 8;
+const UNKNOWN: u64 = 8;
 
 // The table of refusals, as in specs/Refusal.antt: number, place, byte and container, 0 where there is none. A refusal more is its
 // name in an enum, a row here and a row there.
@@ -286,6 +290,9 @@ impl Refusal {
             Refusal::OutputTooShort => [5, 0, 0, 0],
             Refusal::SizeTooLarge => [6, 0, 0, 0],
             Refusal::Parse(e, at) => e.words(at),
+            Refusal::ExpectedOffset(at) => [16, at as u64, 0, 0],
+            Refusal::OffsetTooLarge(at) => [17, at as u64, 0, 0],
+            Refusal::EmptySignature => [18, 0, 0, 0],
         }
     }
 
@@ -304,6 +311,18 @@ impl Refusal {
         let row = self.words();
         [row[1], row[2], row[3]]
     }
+}
+
+// A digit stands where a type should begin: refusal 8, with a digit.
+pub fn unknown_digit(why: ErrorKind) -> bool
+    ensures { λ r. ⌜ r ≡ unknownDigit why ⌝ }
+{
+    let row = why.words(0);
+    if row[0] == UNKNOWN {
+        // the byte, from '0' to '9'
+        return 48 <= row[2] && row[2] <= 57;
+    }
+    false
 }
 
 impl Primitive {

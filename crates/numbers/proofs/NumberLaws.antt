@@ -1,6 +1,6 @@
 -- Laws of the digits at a place of a text, and where a number ends.
 use Prim.Native.Nat.{ℕ, _+_, _*_, _-_, _≤_, _<_}
-use mathlib.Core.Path.{_≡_, refl, sym, ap, _∙_}
+use mathlib.Core.Path.{_≡_, refl, sym, ap, subst, _∙_}
 use mathlib.Core.List.{List, [], _∷_}
 use mathlib.Core.Bool.{Bool, true, false}
 use native.Mathlib.Omega.{arith}
@@ -15,7 +15,7 @@ use Rattle.kinds.specs.Parse as R
 use Rattle.kinds.specs.Parse.{value, noNumber, moreDigits, bounded, parseNumber}
 use Rattle.kinds.specs.declared.ErrorKind.{ErrorKind}
 use Rattle.kinds.specs.declared.ErrorKind.the-variants.{UnexpectedEnd, ExpectedInteger, IntegerTooLarge}
-use Rattle.parser.proofs.RestLaws.{RestOf, rest-all, rest-later, unread-at, place-of-drop}
+use Rattle.parser.proofs.RestLaws.{RestOf, rest-all, rest-later, rest-shorter, unread-at, place-of-drop}
 use Rattle.numbers.specs.Answer.{numberAt}
 use Rattle.parser.specs.Run.{after}
 use Rattle.numbers.specs.declared.Number.{Number}
@@ -127,6 +127,32 @@ left-number limit (b ∷ s) = go (isDigit b) (left-bounded limit (b ∷ s) (more
     go : (d : Bool) → LeftOf (b ∷ s) (bounded limit (moreDigits 0 (b ∷ s))) → LeftOf (b ∷ s) (elim d [ true ↦ bounded limit (moreDigits 0 (b ∷ s)) | false ↦ noNumber ExpectedInteger (b ∷ s) ])
     go true h = h
     go false h = rest-all
+
+-- A number takes a digit at least.
+abbrev Shorter : List ℕ → R.Number → Type 0
+Shorter s (value n t) = length t < length s
+Shorter s (noNumber e t) = Unit {0}
+
+shorter-bounded : (limit b : ℕ) (s : List ℕ) (q : R.Number) → LeftOf s q → Shorter (b ∷ s) (bounded limit q)
+unfolding bounded
+shorter-bounded limit b s (value n t) r = go (leb n limit)
+  where
+    go : (d : Bool) → Shorter (b ∷ s) (elim d [ true ↦ value n t | false ↦ noNumber IntegerTooLarge t ])
+    go true = let h = rest-shorter r in omega arith
+    go false = tt
+shorter-bounded limit b s (noNumber e t) r = tt
+
+shorter-number : (limit : ℕ) (s : List ℕ) → Shorter s (parseNumber limit s)
+unfolding parseNumber
+shorter-number limit [] = tt
+shorter-number limit (b ∷ s) = go (isDigit b) refl
+  where
+    go : (d : Bool) → isDigit b ≡ d → Shorter (b ∷ s) (elim d [ true ↦ bounded limit (moreDigits 0 (b ∷ s)) | false ↦ noNumber ExpectedInteger (b ∷ s) ])
+    go true e = rw (digits-more 0 b s e) (shorter-bounded limit b s (moreDigits (0 * 10 + (b - 48)) s) (left-digits (0 * 10 + (b - 48)) s))
+    go false e = tt
+
+pub value-shorter : (limit : ℕ) (s : List ℕ) (n : ℕ) (t : List ℕ) → parseNumber limit s ≡ value n t → length t < length s
+value-shorter limit s n t e = subst (Shorter s) e (shorter-number limit s)
 
 -- Of an answer: what was read, what is unread after it, and that its place is at or after `at`, within the text.
 abbrev pub NumberIs : List ℕ → ℕ → Number → R.Number → Type 0

@@ -3,7 +3,7 @@ ghost use mathlib.Core.Path.{_≡_};
 ghost use Prim.Native.Nat.{_≤_};
 ghost use lib.ListN.{drop};
 ghost use Rattle.kinds.specs.Byte.{isDigit};
-ghost use Rattle.kinds.specs.Parse.{maxU64, maxU8, parseNumber};
+ghost use Rattle.kinds.specs.Parse.{maxU64, maxU32, maxU8, parseNumber};
 ghost use Rattle.parser.specs.Run.{runEnd};
 ghost use Rattle.numbers.specs.Answer.{numberAt};
 use kinds::ErrorKind;
@@ -40,7 +40,7 @@ fn chomp_digits(text: &[u8], at: usize) -> usize
     i
 }
 
-// Every number is read here: `parse_u64` and `parse_u8` by their limits.
+// Every number is read here: `parse_u64`, `parse_u32` and `parse_u8` by their limits.
 fn parse_number(text: &[u8], at: usize, limit: u64) -> Number
     requires { ⌜ 9 ≤ limit ⌝ }
     ensures { λ r. ⌜ r ≡ numberAt (now (text .entry)) (parseNumber limit (drop at (now (text .entry)))) ⌝ }
@@ -73,6 +73,13 @@ pub fn parse_u64(text: &[u8], at: usize) -> Number
     ensures { λ r. ⌜ r ≡ numberAt (now (text .entry)) (parseNumber maxU64 (drop at (now (text .entry)))) ⌝ }
 {
     parse_number(text, at, 18446744073709551615)
+}
+
+// A number of 32 bits.
+pub fn parse_u32(text: &[u8], at: usize) -> Number
+    ensures { λ r. ⌜ r ≡ numberAt (now (text .entry)) (parseNumber maxU32 (drop at (now (text .entry)))) ⌝ }
+{
+    parse_number(text, at, 4294967295)
 }
 
 // A number of 8 bits.

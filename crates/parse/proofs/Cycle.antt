@@ -7,7 +7,6 @@ use native.Mathlib.Nat.{add-zero}
 use native.Mathlib.Omega.{arith}
 use lib.ListN.{length, drop, getD, length-drop, length-append}
 use lib.Seq.{sets}
-use lib.Dec.{ltb, eqb}
 use Rattle.kinds.specs.Parse as R
 use Rattle.kinds.specs.Container.{endByte, sameContainer}
 use Rattle.kinds.specs.Parse.{start, begin, encoding, refused, parseInner, parseItems, held, item, inSingles, singles, inOthers, others, maxU64}
@@ -15,7 +14,7 @@ use Rattle.kinds.specs.Sheet.{nodes, namesOf, first, second}
 use Rattle.kinds.specs.Tree.{Label, Trees, end, node, count, pointer, atomic, array, none, kind, name}
 use Rattle.parse.specs.Agree.{Lists, lists, Bound, ParsedIs, Simple, Reads, Ready, FoundBound, FoundIs, Frame, Kept, ItemsIs, ItemsReads, ItemsFound, ItemsBound, NamedIs, NameFound, ItemsWithin}
 use Rattle.parse.specs.Answer.{kindWord}
-use Rattle.parse.specs.Out.{After, AfterItems, pickList, pickParsed, pickItems, nodePut, noneUnder, holdOut, holdWords, itemOut, itemWords, containOut, containWords, closesFields, endOut}
+use Rattle.parse.specs.Out.{After, AfterItems, pickList, pickParsed, pickItems, nodePut, noneUnder, holdOut, holdWords, itemOut, itemWords, containOut, containWords, endOut}
 use Rattle.parse.specs.Room.{slack, closes}
 use Rattle.kinds.specs.declared.ContainerKind.{ContainerKind}
 use Rattle.kinds.specs.declared.ContainerKind.the-variants.{Struct, Union}
@@ -26,13 +25,11 @@ use Rattle.parse.specs.declared.Parsed.{Parsed}
 use Rattle.parse.specs.declared.Parsed.the-variants.{Empty, Encoding, ContainerEnd, ArrayEnd, Refused}
 use Rattle.kinds.specs.declared.ErrorKind.{ErrorKind}
 use Rattle.kinds.specs.declared.ErrorKind.the-variants.{Unknown, WrongEndArray, WrongEndContainer}
-use borrow.Author.Tests.{eqb-true, ltb-true}
 use Rattle.kinds.proofs.LayoutLaws.{nodes-length}
 use Rattle.kinds.proofs.ListLaws.{unread-end}
-use Rattle.kinds.proofs.TableLaws.{both as both-true}
-use Rattle.codes.specs.Answer.{closed}
+use Rattle.codes.specs.Answer.{closed, closesFields}
 use Rattle.codes.specs.declared.Token.the-variants as T
-use Rattle.codes.proofs.StepLaws.{parse-step, parse-nil, begins, begins-held, begins-item, next-is, fuel-on, closed-in, closed-is, closes-it, closes-not}
+use Rattle.codes.proofs.StepLaws.{parse-step, parse-nil, begins, begins-held, begins-item, next-is, fuel-on, closed-in, closed-is, closes-it, closes-not, same-self, closes-in, closes-starts}
 use Rattle.parse.proofs.Stores.{sets-append, sets-front-append, drop-sets}
 use Rattle.parse.proofs.Sheets.{slack-open, slack-closed, slack-end, slack-le, simple-token}
 
@@ -488,24 +485,11 @@ container-words Struct s m = (refl, refl, refl, refl)
 container-words Union s m = (refl, refl, refl, refl)
 
 -- The container's own closer ends its fields.
-closer-starts : (k : ContainerKind) → start (endByte k) ≡ R.closeContainer k
-unfolding start inSingles singles inOthers others
-closer-starts Struct = refl
-closer-starts Union = refl
-
-same-self : (k : ContainerKind) → sameContainer k k ≡ true
-same-self Struct = refl
-same-self Union = refl
-
-pub closes-in : (text : List ℕ) (at : ℕ) (kind : ContainerKind) → closesFields text at kind ≡ true → at < length text
-closes-in text at kind e = ltb-true at (length text) (both-true (ltb at (length text)) (eqb (getD text at 0) (endByte kind)) e .0)
-
 pub items-closed : (text : List ℕ) (at : ℕ) (kind : ContainerKind) (n m : ℕ) (b : Lists) → closesFields text at kind ≡ true → ItemsReads text at kind n m b b (Read (at + 1) n m)
 unfolding begin
 items-closed text at kind n m b e =
-    let d = both-true (ltb at (length text)) (eqb (getD text at 0) (endByte kind)) e in
     let h : at < length text = closes-in text at kind e in
-    let st : start (getD text at 0) ≡ R.closeContainer kind = ap start (eqb-true _ _ (d .1)) ∙ closer-starts kind in
+    let st = closes-starts text at kind e in
     let s = simple-token text at n m (b .words) h (T.ContainerEnd kind (at + 1)) (record { bound = (refl, st); says = λ inner fields. begins text at st inner fields }) in
     end-container text at kind n m b b kind (at + 1) (reads-simple text at n m (b .words) (b .words) (b .names) (ContainerEnd kind (at + 1)) h s) true (same-self kind)
 

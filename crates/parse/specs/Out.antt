@@ -1,9 +1,9 @@
 -- What the private functions that end a reading step answer and write, as functions of what was read.
 use Prim.Native.Nat.{ℕ, _+_, _*_, _-_, _≤_}
-use mathlib.Core.Bool.{Bool, true, false, cond, _&&_}
+use mathlib.Core.Bool.{Bool, true, false, cond}
 use mathlib.Core.List.{List, [], _∷_, _++_}
-use lib.ListN.{length, drop, getD, replicate}
-use lib.Dec.{ltb, eqb}
+use lib.ListN.{drop, replicate}
+use lib.Dec.{eqb}
 use lib.Seq.{sets}
 use Rattle.kinds.specs.Container.{endByte, sameContainer}
 use Rattle.kinds.specs.declared.ContainerKind.{ContainerKind}
@@ -19,10 +19,6 @@ use Rattle.parse.specs.declared.Parsed.{Parsed}
 use Rattle.parse.specs.declared.Parsed.the-variants.{Empty, Encoding, ContainerEnd, ArrayEnd, Refused}
 use Rattle.parse.specs.declared.Items.{Items}
 use Rattle.parse.specs.declared.Items.the-variants.{Read, Refused as NoItems}
-
--- The container's own closer stands at `to`.
-abbrev pub closesFields : List ℕ → ℕ → ContainerKind → Bool
-closesFields text to kind = ltb to (length text) && eqb (getD text to 0) (endByte kind)
 
 -- The words with node `n` put, where there is room for it.
 abbrev pub nodePut : List ℕ → ℕ → ℕ → ℕ → ℕ → ℕ → List ℕ

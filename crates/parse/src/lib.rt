@@ -7,7 +7,7 @@ ghost use Prim.Native.Nat.{_+_, _*_, _-_, _≤_, _<_};
 ghost use lib.ListN.{length, drop};
 ghost use lib.Seq.{sets};
 ghost use Rattle.kinds.specs.Sheet.{wordsUsed};
-ghost use Rattle.kinds.specs.Parse.{unknownDigit, parseName, parseNumber, maxU64};
+ghost use Rattle.kinds.specs.Parse.{parseName, parseNumber, maxU64};
 ghost use Rattle.parser.specs.Run.{runEnd};
 ghost use Rattle.numbers.specs.Answer.{numberAt};
 ghost use Rattle.names.specs.Answer.{nameAt};
@@ -15,9 +15,10 @@ ghost use Rattle.codes.specs.Answer.{isIndirection, tokenAt};
 ghost use Rattle.parse.specs.Answer.{used, answerWords, fromStrAnswer, fromStrWords, fromStrNames, fromStartAnswer, fromStartWords, fromStartNames, fromStartRest, EndOf};
 ghost use Rattle.parse.specs.Room.{slack};
 ghost use Rattle.parse.specs.Out.{tokenOut, tokenWords, TokenRoom, After, AfterItems, holdOut, holdWords, indirectionWord, itemOut, itemWords, noneUnder};
-ghost use Rattle.parse.specs.Out.{containOut, containWords, closesFields, endOut, cleared, headed, noneSheet, codeSheet, Fits, encodedOut, encodedWords, encodedNames};
+ghost use Rattle.parse.specs.Out.{containOut, containWords, endOut, cleared, headed, noneSheet, codeSheet, Fits, encodedOut, encodedWords, encodedNames};
 ghost use Rattle.parse.specs.Agree.{NamedIs, Simple, SimpleReady, Ready, OneReady, Reads, ChildReady, Holds, CodesRead, ContainerReady, lists, EncodedIs};
 use codes::Token;
+use codes::closes_fields;
 use codes::closes_item;
 use codes::indirections_end;
 use codes::same_container;
@@ -34,7 +35,7 @@ use kinds::POINTER;
 use kinds::PRIMITIVES;
 use kinds::Refusal;
 use kinds::TYPED_BIT_FIELD;
-use kinds::UNKNOWN;
+use kinds::unknown_digit;
 use names::Name;
 use names::parse_name;
 use numbers::Number;
@@ -391,13 +392,6 @@ fn put_codes(text: &[u8], at: usize, words: &mut [u64], n: usize) -> usize
     i
 }
 
-// The container's own closer stands at `to`.
-fn closes_fields(text: &[u8], to: usize, kind: ContainerKind) -> bool
-    ensures { λ r. ⌜ r ≡ closesFields (now (text .entry)) to kind ⌝ }
-{
-    to < text.len() && text[to] == kind.end_byte()
-}
-
 // A struct or a union, whose opening byte is at `at`. Its closer is looked for before a type is, which spares a call.
 fn parse_container(
     text: &[u8],
@@ -447,15 +441,12 @@ fn parse_container(
     }
 }
 
+// The first `n` words, where there are as many.
 fn clear_words(words: &mut [u64], n: usize)
     requires { ⌜ n ≤ length (now words) ⌝ }
     ensures { λ _. ⌜ now (words .exit) ≡ cleared n (now (words .entry)) ⌝ }
 {
-    let mut i = 0;
-    while i < n {
-        words[i] = 0;
-        i += 1;
-    }
+    sheet::clear_words(&mut words[0..n]);
 }
 
 fn clear_names(names: &mut [u8], n: usize)
@@ -582,18 +573,6 @@ pub fn from_str(text: &[u8], words: &mut [u64], names: &mut [u8]) -> Reading
             }
         }
     }
-}
-
-// A digit stands where a type should begin: refusal 8, with a digit.
-fn unknown_digit(why: ErrorKind) -> bool
-    ensures { λ r. ⌜ r ≡ unknownDigit why ⌝ }
-{
-    let row = why.words(0);
-    if row[0] == UNKNOWN {
-        // the byte, from '0' to '9'
-        return 48 <= row[2] && row[2] <= 57;
-    }
-    false
 }
 
 // The number of a refusal, its place, its byte and the kind word of its container; 0 for what it does not carry.

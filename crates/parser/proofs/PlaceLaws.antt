@@ -92,3 +92,7 @@ end-remains s at h = ap (endOf s) (drop-length (now s) ∙ sym (drop-of-length-l
 pub stripped-remains : (s : RefT (List ℕ)) → remaining (stripQualifiers (newParser s)) ≡ skipQualifiers s
 unfolding remainingAt skipQualifiers
 stripped-remains s = ap (endOf s) (unread-stripped (now s) 0)
+
+pub strip-at-within : (s : List ℕ) (at r : ℕ) → at ≤ length s → r ≡ stripAt s at → r ≤ length s
+unfolding stripAt
+strip-at-within s at r h e = omega (arith, length-drop at s)

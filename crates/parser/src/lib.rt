@@ -72,7 +72,8 @@ fn is_qualifier(b: u8) -> bool
     contains(&QUALIFIERS, b)
 }
 
-fn strip_at(text: &[u8], at: usize) -> usize
+// The place after the qualifiers from `at` on; past the end the place stays.
+pub fn strip_at(text: &[u8], at: usize) -> usize
     ensures { λ r. ⌜ r ≡ stripAt (now (text .entry)) at ⌝ }
 {
     let mut i = at;

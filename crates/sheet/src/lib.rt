@@ -5,7 +5,7 @@ ghost use mathlib.Core.Path.{_≡_};
 ghost use mathlib.Core.Bool.{true, false, _&&_};
 ghost use mathlib.Core.List.{[], _∷_};
 ghost use lib.Dec.{leb, eqb};
-ghost use lib.ListN.{length, take, drop};
+ghost use lib.ListN.{length, take, drop, replicate};
 ghost use Rattle.kinds.specs.Name.{verifyName};
 ghost use Rattle.kinds.specs.Sheet.{kindAt, countAt, isContainerKind, numbers, header};
 ghost use Rattle.sheet.specs.Answer.{checked, checkedNumber, sheetNumber, sooner, both, checkedBoth, checkedBothNumber, sheetsNumber};
@@ -437,4 +437,15 @@ pub fn put_header(words: &mut [u64], nodes: usize, names: usize)
     words[1] = HEADER as u64;
     words[2] = names as u64;
     words[3] = (HEADER + 4 * nodes) as u64;
+}
+
+// Every word becomes 0: a caller lends the part that is to be cleared.
+pub fn clear_words(words: &mut [u64])
+    ensures { λ _. ⌜ now (words .exit) ≡ replicate (length (now (words .entry))) 0 ⌝ }
+{
+    let mut i = 0;
+    while i < words.len() {
+        words[i] = 0;
+        i += 1;
+    }
 }

@@ -20,7 +20,8 @@ use Rattle.parse.specs.declared.Parsed.{Parsed}
 use Rattle.parse.specs.declared.Parsed.the-variants.{Empty, Encoding, ContainerEnd, ArrayEnd, Refused}
 use Rattle.parse.proofs.Parsed.{the-type}
 use Rattle.parse.proofs.Sheets.{slack-some}
-use Rattle.parse.proofs.Cycle.{reads-end, reads-simple, reads-item, reads-no-number, reads-no-name, reads-contained, items-end, items-more, items-closed, closes-in, NotFound}
+use Rattle.codes.proofs.StepLaws.{closes-in}
+use Rattle.parse.proofs.Cycle.{reads-end, reads-simple, reads-item, reads-no-number, reads-no-name, reads-contained, items-end, items-more, items-closed, NotFound}
 use Rattle.parse.proofs.Cycle.{ready-part, room-two, after-parsed, after-items, ready-fields, ready-more, opens-closes}
 use Rattle.parse.proofs.Runs.{ready-codes, ready-run, run-room, after-bound}
 use borrow.Fn.Kinds.{In}
@@ -36,7 +37,7 @@ use Rattle.parse.proofs.parse_one.Kinds as parse-one-kinds
 use Rattle.parse.proofs.+parse_container+parse_inner+parse_one.Lts-parse_one as parse-one-lts
 use Rattle.parse.proofs.run_end.Reads as run-end-reads
 use Rattle.parse.proofs.length_here.Reads as length-here-reads
-use Rattle.parse.proofs.closes_fields.Reads as closes-fields-reads
+use Rattle.codes.proofs.closes_fields.Reads as closes-fields-reads
 use Rattle.parse.proofs.end_items.Reads as end-items-reads
 use Rattle.parse.proofs.parse_simple.Reads as parse-simple-reads
 use Rattle.parse.proofs.put_array.Reads as put-array-reads

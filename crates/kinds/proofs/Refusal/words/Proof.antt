@@ -23,6 +23,15 @@ returns-6 c = rw (c .enum-told6 .given .1)
 returns-7 : tie.Need-returns-7
 returns-7 c = rw (c .before .before .self .given .1, c .words .ensures)
 
+returns-8 : tie.Need-returns-8
+returns-8 c = rw (c .before .self2 .given .1)
+
+returns-9 : tie.Need-returns-9
+returns-9 c = rw (c .before .self3 .given .1)
+
+returns-10 : tie.Need-returns-10
+returns-10 c = rw (c .enum-told7 .given .1)
+
 pub words-spec : {M : Type 1} → statement M
 words-spec =
     tie.close
@@ -35,10 +44,16 @@ words-spec =
     (λ c. search needs)
     (λ c. search needs)
     (λ c κs. search needs)
+    (λ c. search needs)
+    (λ c. search needs)
+    (λ c. search needs)
     returns
     returns-2
     returns-3
     returns-4
     returns-5
     returns-6
-    returns-7)
+    returns-7
+    returns-8
+    returns-9
+    returns-10)

@@ -1,8 +1,8 @@
 use mathlib.Core.Path.{refl}
 use borrow.Author.Needs.{needs}
 use borrow.Author.Tests.{lt-ltb, le-ltb}
-use Rattle.parse.proofs.closes_fields.Statement.{statement}
-use Rattle.parse.proofs.closes_fields.Tie as tie
+use Rattle.codes.proofs.closes_fields.Statement.{statement}
+use Rattle.codes.proofs.closes_fields.Tie as tie
 
 returns : tie.Need-returns
 returns c = rw (lt-ltb _ _ (c .before .before .if1 .taken), c .end-byte .ensures) refl

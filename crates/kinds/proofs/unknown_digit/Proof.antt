@@ -6,13 +6,13 @@ use lib.Dec.{leb, eqb}
 use lib.ListN.{getD}
 use borrow.Author.Needs.{needs}
 use borrow.Author.Tests.{eq-eqb, ne-eqb, le-leb, lt-leb}
 use Rattle.kinds.specs.Byte.{isDigit}
 use Rattle.kinds.specs.Parse.{unknownDigit}
 use Rattle.kinds.specs.Refusal.{words}
 use Rattle.kinds.specs.declared.ErrorKind.{ErrorKind}
 use Rattle.kinds.specs.declared.Refusal.the-variants.{Parse}
-use Rattle.parse.proofs.unknown_digit.Statement.{statement}
-use Rattle.parse.proofs.unknown_digit.Tie as tie
+use Rattle.kinds.proofs.unknown_digit.Statement.{statement}
+use Rattle.kinds.proofs.unknown_digit.Tie as tie
 
 -- The definition, read off an error's words.
 by-words : (e : ErrorKind) (w : List ℕ) → w ≡ words (Parse e 0) → (eqb (getD w 0 0) 8 && isDigit (getD w 2 0)) ≡ unknownDigit e
