@@ -8,7 +8,7 @@ use native.Mathlib.Omega.{arith}
 use lib.ListN.{getD}
 use lib.Dec.{leb, eqb}
 use borrow.Author.Tests.{ltb-true, leb-true, leb-false, eqb-true, eqb-false, eq-eqb, ne-eqb, not-true}
-use Rattle.kinds.specs.Byte.{byte, bytes, among, sameBytes, isDigit}
+use Rattle.kinds.specs.Byte.{byte, bytes, among, sameBytes, isDigit, startsDigit}
 use Rattle.kinds.specs.Compare.{lengthOrOffset, bits, compareLabels, compareChildren, compareEncodings}
 use Rattle.kinds.specs.Expect.{Expected, remaining, mismatch, _then_, expectByte, expectBytes, expectNumber, expectPrimitive, expectNode, expectEncoding}
 use Rattle.kinds.specs.Parse.{parseNumber, integral}
@@ -18,10 +18,10 @@ use Rattle.kinds.specs.Sound.{validCount}
 use Rattle.agreement.specs.Sound.{isNone, withoutNone, isCloser, closes, afterChildren, clearNode, clear}
 use Rattle.kinds.specs.Tree.{Label, Trees, end, node, primitive, bitField, typedBitField, pointer, atomic, array, struct, union, none, inside, shows, kind, name, isContainer, isEnd, isOne}
 use Rattle.kinds.specs.declared.NestingLevel.{NestingLevel}
-use Rattle.kinds.proofs.TableLaws.{both, Each}
-use Rattle.agreement.proofs.ByteLaws.{each, apart, every, passes, _also_}
+use Rattle.kinds.proofs.TableLaws.{both, Each, each}
+use Rattle.agreement.proofs.ByteLaws.{apart, every, passes, _also_}
 use Rattle.kinds.proofs.ParseLaws.{number-none, within-limit, beyond-limit}
-use Rattle.agreement.proofs.DigitLaws.{startsDigit, read-decimal}
+use Rattle.agreement.proofs.DigitLaws.{read-decimal}
 use Rattle.agreement.proofs.FitLaws.{fitLabel, fit, fit-parts}
 use Rattle.agreement.proofs.FollowLaws.{mayFollow}
 use Rattle.agreement.proofs.RoundTrip.{integrals, isEnd-end, isNone-none, integral-label, ClearTree, clear-parts, print-one}

@@ -8,7 +8,7 @@ use lib.Dec.{eqb}
 use borrow.Author.Tests.{eqb-true, eqb-false, ne-eqb}
 use Rattle.kinds.specs.Byte.{byte, among}
 use Rattle.kinds.specs.Name.{isNameByte, allNameBytes, verifyName}
-use Rattle.kinds.proofs.TableLaws.{both, Each}
+use Rattle.kinds.proofs.TableLaws.{both}
 
 infixr 20 _also_
 infixl 20 _next_
@@ -31,16 +31,6 @@ below P (suc n) a i h = go (eqb i n) refl (λ k. below P n (a .0) i k)
     go : (t : Bool) → eqb i n ≡ t → (i < n → P i) → P i
     go true e rec = subst P (sym (eqb-true i n e)) (a .1)
     go false e rec = rec (omega (arith, eqb-false i n e))
-
--- What holds of each member of a list holds of a byte among them.
-pub each : (P : ℕ → Type 0) (s : List ℕ) → Each P s → (b : ℕ) → among b s ≡ true → P b
-unfolding among
-each P [] a b h = absurd (false≢true h)
-each P (x ∷ s) a b h = go (eqb b x) refl h (λ k. each P s (a .1) b k)
-  where
-    go : (t : Bool) → eqb b x ≡ t → (t || among b s) ≡ true → (among b s ≡ true → P b) → P b
-    go true e k rec = subst P (sym (eqb-true b x e)) (a .0)
-    go false e k rec = rec k
 
 -- Two bytes that a test tells apart.
 pub apart : (test : ℕ → Bool) (b c : ℕ) → test b ≡ true → test c ≡ false → eqb b c ≡ false

@@ -6,20 +6,15 @@ use mathlib.Core.Bool.{Bool, true, false, false≢true}
 use native.Mathlib.Omega.{arith}
 use lib.Dec.{ltb}
 use borrow.Author.Tests.{ltb-true, ltb-false, lt-ltb, le-ltb, le-leb}
-use Rattle.kinds.specs.Byte.{byte, isDigit}
+use Rattle.kinds.specs.Byte.{byte, isDigit, startsDigit}
 use Rattle.kinds.specs.Parse.{value, moreDigits, bounded, parseNumber}
 use Rattle.kinds.specs.Print.{digits, decimal}
 
-digit-byte : (n : ℕ) → n < 10 → isDigit (byte "0" + n) ≡ true
+pub digit-byte : (n : ℕ) → n < 10 → isDigit (byte "0" + n) ≡ true
 unfolding isDigit
 digit-byte n h = rw (le-leb (byte "0") (byte "0" + n) (omega arith), le-leb (byte "0" + n) (byte "9") (omega arith))
 
--- Whether a text begins with a digit.
-unfoldable pub startsDigit : List ℕ → Bool
-startsDigit [] = false
-startsDigit (b ∷ s) = isDigit b
-
-digits-stop : (n : ℕ) (r : List ℕ) → startsDigit r ≡ false → moreDigits n r ≡ value n r
+pub digits-stop : (n : ℕ) (r : List ℕ) → startsDigit r ≡ false → moreDigits n r ≡ value n r
 unfolding moreDigits startsDigit
 digits-stop n [] h = refl
 digits-stop n (b ∷ s) h = rw (h, moreDigits)
@@ -59,7 +54,7 @@ pub decimal-start : (n : ℕ) (r : List ℕ) → startsDigit (decimal n ++ r) �
 unfolding decimal
 decimal-start n r = digits-start (suc n) n [] r (omega arith)
 
-number-start : (limit : ℕ) (s : List ℕ) → startsDigit s ≡ true → parseNumber limit s ≡ bounded limit (moreDigits 0 s)
+pub number-start : (limit : ℕ) (s : List ℕ) → startsDigit s ≡ true → parseNumber limit s ≡ bounded limit (moreDigits 0 s)
 unfolding startsDigit parseNumber
 number-start limit [] h = absurd (false≢true h)
 number-start limit (b ∷ s) h = rw (h, parseNumber)

@@ -5,7 +5,7 @@ use mathlib.Core.List.{List, [], _∷_, _++_, append-assoc}
 use mathlib.Core.Bool.{Bool, true, false, _&&_, not}
 use lib.Dec.{eqb}
 use borrow.Author.Tests.{ltb-true, not-true}
-use Rattle.kinds.specs.Byte.{byte, bytes, among, isDigit}
+use Rattle.kinds.specs.Byte.{byte, bytes, among, isDigit, startsDigit}
 use Rattle.kinds.specs.Container.{endByte}
 use Rattle.kinds.specs.Parse.{integral}
 use Rattle.kinds.specs.Primitive.{codes, code}
@@ -16,7 +16,6 @@ use Rattle.kinds.specs.declared.ContainerKind.the-variants.{Struct, Union}
 use Rattle.kinds.specs.declared.NestingLevel.{NestingLevel}
 use Rattle.kinds.proofs.TableLaws.{both}
 use Rattle.agreement.proofs.ByteLaws.{below, every, passes}
-use Rattle.agreement.proofs.DigitLaws.{startsDigit}
 use Rattle.agreement.proofs.FitLaws.{fitLabel, fit, fit-parts}
 
 -- The bytes that may follow a tree in a print: those that begin a type, and the closers.

@@ -7,7 +7,7 @@ use native.Mathlib.Omega.{arith}
 use lib.ListN.{length}
 use lib.Dec.{eqb}
 use borrow.Author.Tests.{leb-true, eqb-true, not-true}
-use Rattle.kinds.specs.Byte.{byte, among, sameBytes}
+use Rattle.kinds.specs.Byte.{byte, among, sameBytes, startsDigit}
 use Rattle.kinds.specs.Compare.{lengthOrOffset, bits, compareLabels, compareChildren, compareEncodings}
 use Rattle.kinds.specs.Container.{endByte, startByte}
 use Rattle.kinds.specs.Expect.{Expected, remaining, mismatch, _then_, expectByte, expectBytes, orElse, expectNumber, skipItems, expectFields, expectContainer, expectNode, expectEncoding}
@@ -25,7 +25,6 @@ use Rattle.kinds.specs.declared.NestingLevel.{NestingLevel}
 use Rattle.kinds.specs.declared.NestingLevel.the-variants.{Top, Within, Bottom}
 use Rattle.kinds.proofs.TableLaws.{both}
 use Rattle.agreement.proofs.ByteLaws.{apart, lacks}
-use Rattle.agreement.proofs.DigitLaws.{startsDigit}
 use Rattle.agreement.proofs.FitLaws.{fitLabel, fit, fit-parts}
 use Rattle.agreement.proofs.FollowLaws.{mayFollow, no-digit, closer-follows, bracket-follows, trees-follow}
 use Rattle.agreement.proofs.RoundTrip.{lacks-equals, lacks-closer, body, container-text, array-text, read-back}

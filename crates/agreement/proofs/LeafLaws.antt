@@ -6,7 +6,7 @@ use mathlib.Core.Bool.{Bool, true, false, _&&_, _||_, not, and-false, and-true, 
 use native.Mathlib.Omega.{arith}
 use lib.Dec.{leb, ltb, eqb}
 use borrow.Author.Tests.{ltb-true, leb-true, eqb-true, eq-eqb, ne-eqb, not-true}
-use Rattle.kinds.specs.Byte.{byte, bytes, among, sameBytes, isDigit}
+use Rattle.kinds.specs.Byte.{byte, bytes, among, sameBytes, isDigit, startsDigit}
 use Rattle.kinds.specs.Compare.{lengthOrOffset, bits, compareLabels, compareChildren, compareEncodings}
 use Rattle.kinds.specs.Expect.{Expected, remaining, mismatch, _then_, expectByte, expectBytes, orElse, expectNumber, className, expectPrimitive, expectNode, expectEncoding}
 use Rattle.kinds.specs.Parse.{maxU64, maxU8, integral}
@@ -17,9 +17,9 @@ use Rattle.agreement.specs.Sound.{isIntegral, isNone, isCloser, closes, 
 use Rattle.kinds.specs.Tree.{Trees, end, node, primitive, bitField, typedBitField, kind, name, isContainer}
 use Rattle.kinds.specs.declared.NestingLevel.{NestingLevel}
 use Rattle.kinds.specs.declared.NestingLevel.the-variants.{Top}
-use Rattle.kinds.proofs.TableLaws.{both}
-use Rattle.agreement.proofs.ByteLaws.{each, every, passes, _also_}
-use Rattle.agreement.proofs.DigitLaws.{startsDigit, decimal-start}
+use Rattle.kinds.proofs.TableLaws.{both, each}
+use Rattle.agreement.proofs.ByteLaws.{every, passes, _also_}
+use Rattle.agreement.proofs.DigitLaws.{decimal-start}
 use Rattle.agreement.proofs.FitLaws.{fitLabel}
 use Rattle.agreement.proofs.FollowLaws.{mayFollow, no-digit, startsTyped, no-typed, startsQuote, no-quote}
 use Rattle.agreement.proofs.RoundTrip.{integrals, code-no-digit, isEnd-end, integral-child, typed-text, typed-child}

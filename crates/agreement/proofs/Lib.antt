@@ -10,6 +10,9 @@ pub mod OpeningLaws
 pub mod PrintsAlike
 pub mod RoundTrip
 pub mod FollowLaws
+pub mod CutLaws
+pub mod CutLeaves
+pub mod FuelLaws
 pub mod ReadLaws
 pub mod ShownLaws
 pub mod FitLaws

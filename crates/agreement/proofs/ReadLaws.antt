@@ -160,7 +160,7 @@ digits-ok (b ∷ s) n = go (isDigit b) refl (λ m. digits-ok s m)
     go true e r = rw (e, moreDigits) (longer b s (moreDigits (n * 10 + (b - byte "0")) s) (r (n * 10 + (b - byte "0"))))
     go false e r = rw (e, moreDigits) (omega arith)
 
-abbrev NumberOk : ℕ → List ℕ → Number → Type 0
+abbrev pub NumberOk : ℕ → List ℕ → Number → Type 0
 NumberOk limit s (value n t) = (leb n limit ≡ true) × (length t < length s)
 NumberOk limit s (noNumber e t) = Unit {0}
 
@@ -173,21 +173,21 @@ bounded-ok limit b s (value n t) h = go (leb n limit) refl
     go false e = rw (e, bounded) tt
 bounded-ok limit b s (noNumber e t) h = tt
 
-first-digit : (b : ℕ) (s : List ℕ) → isDigit b ≡ true → moreDigits 0 (b ∷ s) ≡ moreDigits (0 * 10 + (b - byte "0")) s
+pub digit-read : (n b : ℕ) → isDigit b ≡ true → (s : List ℕ) → moreDigits n (b ∷ s) ≡ moreDigits (n * 10 + (b - byte "0")) s
 unfolding moreDigits
-first-digit b s e = rw (e, moreDigits)
+digit-read n b e s = rw (e, moreDigits)
 
-number-ok : (limit : ℕ) (s : List ℕ) → NumberOk limit s (parseNumber limit s)
+pub number-ok : (limit : ℕ) (s : List ℕ) → NumberOk limit s (parseNumber limit s)
 unfolding parseNumber
 number-ok limit [] = tt
 number-ok limit (b ∷ s) = go (isDigit b) refl
   where
     go : (t : Bool) → isDigit b ≡ t → NumberOk limit (b ∷ s) (parseNumber limit (b ∷ s))
-    go true e = rw (e, parseNumber) (rw (first-digit b s e) (bounded-ok limit b s (moreDigits (0 * 10 + (b - byte "0")) s) (digits-ok s (0 * 10 + (b - byte "0")))))
+    go true e = rw (e, parseNumber) (rw (digit-read 0 b e s) (bounded-ok limit b s (moreDigits (0 * 10 + (b - byte "0")) s) (digits-ok s (0 * 10 + (b - byte "0")))))
     go false e = rw (e, parseNumber) tt
 
 -- A name of good bytes, and what is left has room beside it.
-abbrev NamedOk : ℕ → Named → Type 0
+abbrev pub NamedOk : ℕ → Named → Type 0
 NamedOk n (named m t) = (verifyName m ≡ true) × (length m + length t ≤ n)
 NamedOk n (unnamed e t) = Unit {0}
 
@@ -199,7 +199,7 @@ check-ok k m here next n h = go (verifyName m) refl
     go true e = rw (e, checkName) (e, h)
     go false e = rw (e, checkName) tt
 
-name-ok : (k : ContainerKind) (s m : List ℕ) (n : ℕ) → length m + length s ≤ n → NamedOk n (parseName k m s)
+pub name-ok : (k : ContainerKind) (s m : List ℕ) (n : ℕ) → length m + length s ≤ n → NamedOk n (parseName k m s)
 unfolding parseName
 name-ok k [] m n h = tt
 name-ok k (b ∷ s) m n h = go (eqb b (byte "=")) refl (eqb b (endByte k)) refl (λ j. name-ok k s (m ++ (b ∷ [])) n j)
@@ -212,20 +212,20 @@ name-ok k (b ∷ s) m n h = go (eqb b (byte "=")) refl (eqb b (endByte k)) refl 
 
 -- ---- What is read of a text `s`, and what is left of it.
 
-record Found (s : List ℕ) (l : Label) (cs : Trees) (t : List ℕ) : Type 0 where
+pub record Found (s : List ℕ) (l : Label) (cs : Trees) (t : List ℕ) : Type 0 where
   node-ok : (validLabel l && validCount l cs) ≡ true
   below-ok : valid cs ≡ true
   name-good : goodName l ≡ true
   names-good : goodNames cs ≡ true
-  on : length t < length s
+  pub on : length t < length s
   few-nodes : suc (count cs) + (length t + opens t) ≤ length s + opens s
   few-names : length (name l) + length (namesOf cs) + length t ≤ length s
 
-record Closed (s t : List ℕ) : Type 0 where
+pub record Closed (s t : List ℕ) : Type 0 where
   no-spare : opens s ≡ 0
   next : suc (length t) ≡ length s
 
-abbrev Well : List ℕ → Parsed → Type 0
+abbrev pub Well : List ℕ → Parsed → Type 0
 Well s empty = length s ≡ 0
 Well s (encoding l cs t) = Found s l cs t
 Well s (containerEnd k t) = Closed s t
@@ -481,7 +481,7 @@ next-well k s more w (refused e t) h = tt
 mutual
   unfolding parseInner parseItems
 
-  well : (f : ℕ) (s : List ℕ) → length s + length s ≤ f → Well s (parseInner f s)
+  pub well : (f : ℕ) (s : List ℕ) → length s + length s ≤ f → Well s (parseInner f s)
   well zero s h = omega arith
   well (suc f) [] h = refl
   well (suc f) (b ∷ s) h =

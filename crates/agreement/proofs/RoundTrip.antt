@@ -7,7 +7,7 @@ use native.Mathlib.Omega.{arith}
 use lib.ListN.{length, length-append}
 use lib.Dec.{leb, eqb}
 use borrow.Author.Tests.{ltb-true, leb-true, le-leb, not-true}
-use Rattle.kinds.specs.Byte.{byte, bytes, among, isDigit}
+use Rattle.kinds.specs.Byte.{byte, bytes, among, isDigit, startsDigit}
 use Rattle.kinds.specs.Container.{startByte, endByte}
 use Rattle.kinds.specs.Level.{showsFields}
 use Rattle.kinds.specs.Name.{isNameByte, verifyName}
@@ -23,25 +23,25 @@ use Rattle.kinds.specs.declared.ContainerKind.{ContainerKind}
 use Rattle.kinds.specs.declared.ContainerKind.the-variants.{Struct, Union}
 use Rattle.kinds.specs.declared.NestingLevel.{NestingLevel}
 use Rattle.kinds.specs.declared.NestingLevel.the-variants.{Top, Within, Bottom}
-use Rattle.kinds.proofs.TableLaws.{both}
-use Rattle.agreement.proofs.ByteLaws.{below, each, lacks, name-lacks, _also_, _next_}
+use Rattle.kinds.proofs.TableLaws.{both, each}
+use Rattle.agreement.proofs.ByteLaws.{below, lacks, name-lacks, _also_, _next_}
 use Rattle.kinds.proofs.ParseLaws.{within-limit, name-checked}
-use Rattle.agreement.proofs.DigitLaws.{startsDigit, decimal-start, read-decimal}
+use Rattle.agreement.proofs.DigitLaws.{decimal-start, read-decimal}
 use Rattle.agreement.proofs.FitLaws.{fitLabel, fit, fit-parts}
 use Rattle.agreement.proofs.FollowLaws.{mayFollow, no-digit, startsTyped, no-typed, startsQuote, no-quote, closer-follows, bracket-follows, trees-follow}
 
-plain-object : (r : List ℕ) → unknownNext r ≡ false → startsQuote r ≡ false → parseObject r ≡ encoding (primitive 19) end r
+pub plain-object : (r : List ℕ) → unknownNext r ≡ false → startsQuote r ≡ false → parseObject r ≡ encoding (primitive 19) end r
 unfolding parseObject unknownNext startsQuote leaf
 plain-object [] u q = refl
 plain-object (b ∷ r) u q = rw (u, q, parseObject)
 
-read-primitive : (f : ℕ) (r : List ℕ) → mayFollow r ≡ true → (p : ℕ) → p < 24 → not (eqb p 19 && unknownNext r) ≡ true → parseInner (suc f) (code p ++ r) ≡ encoding (primitive p) end r
+pub read-primitive : (f : ℕ) (r : List ℕ) → startsQuote r ≡ false → (p : ℕ) → p < 24 → not (eqb p 19 && unknownNext r) ≡ true → parseInner (suc f) (code p ++ r) ≡ encoding (primitive p) end r
 unfolding code codes parseInner begin start inSingles inOthers singles others leaf parseComplex parseObject
 read-primitive f r h p l =
     below (λ q. not (eqb q 19 && unknownNext r) ≡ true → parseInner (suc f) (code q ++ r) ≡ encoding (primitive q) end r) 24
     (tt next (λ _. refl) next (λ _. refl) next (λ _. refl) next (λ _. refl) next (λ _. refl) next (λ _. refl) next (λ _. refl) next (λ _. refl) next (λ _. refl) next (λ _. refl)
     next (λ _. refl) next (λ _. refl) next (λ _. refl) next (λ _. refl) next (λ _. refl) next (λ _. refl) next (λ _. refl) next (λ _. refl) next (λ _. refl)
-    next (λ u. plain-object r (not-true (unknownNext r) u) (no-quote r h)) next (λ _. refl) next (λ _. refl) next (λ _. refl) next (λ _. refl))
+    next (λ u. plain-object r (not-true (unknownNext r) u) h) next (λ _. refl) next (λ _. refl) next (λ _. refl) next (λ _. refl))
     p
     l
 
@@ -49,7 +49,7 @@ small-bits : (n : ℕ) (s : List ℕ) → n ≤ maxU8 → untyped n s ≡ encodi
 unfolding untyped leaf
 small-bits n s h = rw (le-leb n maxU8 h, untyped)
 
-not-typed : (n : ℕ) (r : List ℕ) → startsTyped r ≡ false → parseBitField n r ≡ untyped n r
+pub not-typed : (n : ℕ) (r : List ℕ) → startsTyped r ≡ false → parseBitField n r ≡ untyped n r
 unfolding startsTyped startsDigit parseBitField
 not-typed n [] h = refl
 not-typed n (b ∷ []) h = refl
@@ -63,7 +63,7 @@ read-untyped f n r l h = rw (read-decimal maxU64 n r (no-digit r h), within-limi
 unfoldable pub integrals : List ℕ
 integrals = 0 ∷ 1 ∷ 2 ∷ 3 ∷ 4 ∷ 5 ∷ 6 ∷ 7 ∷ 8 ∷ 9 ∷ 16 ∷ []
 
-is-typed : (o b : ℕ) (t : List ℕ) → integral b ≡ true → startsDigit t ≡ true → parseBitField o (b ∷ t) ≡ typed o (singleKind (start b)) (parseNumber maxU8 t)
+pub is-typed : (o b : ℕ) (t : List ℕ) → integral b ≡ true → startsDigit t ≡ true → parseBitField o (b ∷ t) ≡ typed o (singleKind (start b)) (parseNumber maxU8 t)
 unfolding startsDigit parseBitField
 is-typed o b [] i h = absurd (false≢true h)
 is-typed o b (c ∷ s) i h = rw (i, h, parseBitField)
@@ -272,7 +272,7 @@ unfolding item closeItem
 item-read k cs first o v r f = child-read (λ s p t. item k p ≡ encoding (array k) t r) cs first o v (byte "]" ∷ r) f (bracket-follows r) (λ s m xs. refl) (item-none k r f)
 
 -- A primitive prints a byte at least.
-code-length : (r : List ℕ) (p : ℕ) → p < 24 → length r < length (code p ++ r)
+pub code-length : (r : List ℕ) (p : ℕ) → p < 24 → length r < length (code p ++ r)
 unfolding code codes
 code-length r p = below (λ q. length r < length (code q ++ r)) 24 ((((((((((((((((((((((((tt, n), n), n), n), n), n), n), n), n), n), n), n), n), m), m), m), n), n), n), n), m), n), n), n) p
   where
@@ -286,7 +286,7 @@ tree-read-primitive : (p : ℕ) (cs : Trees) → TreeRead (primitive p) cs
 unfolding fitLabel validCount printNode clearNode shown keep
 tree-read-primitive p cs v r zero a b g c o h n = absurd (omega (arith, code-length r p (ltb-true p 24 a)))
 tree-read-primitive p cs v r (suc f) a b g c o h n = rw (isEnd-end cs b)
-    (read-primitive f r h p (ltb-true p 24 a) (both (not (eqb p 19 && unknownNext r)) (clear v cs (afterChildren (primitive p) r)) c .0))
+    (read-primitive f r (no-quote r h) p (ltb-true p 24 a) (both (not (eqb p 19 && unknownNext r)) (clear v cs (afterChildren (primitive p) r)) c .0))
 
 open-fields : (k : ContainerKind) (s : List ℕ) (cs : Trees) → FieldsRead cs → (r : List ℕ) (f : ℕ) → verifyName s ≡ true → fit cs ≡ true → (withoutNone cs && clear Within cs (endByte k ∷ r)) ≡ true
     → 2 * length (startByte k ∷ (s ++ (byte "=" ∷ (print Within cs ++ (endByte k ∷ r))))) ≤ suc f
@@ -307,7 +307,7 @@ open-hidden k s r (suc (suc f)) a n =
     open-named k (suc (suc f)) (s ++ (endByte k ∷ r)) s (endByte k ∷ r) (name-only k [] s r (lacks-equals s a) (lacks-closer k s a) ∙ name-checked k s (endByte k ∷ r) (endByte k ∷ r) a)
     ∙ ap (contained k s) (fields-read-end f k r)
 
-tree-read-container : (k : ContainerKind) (s : List ℕ) (cs : Trees) → FieldsRead cs → (v : NestingLevel) (r : List ℕ) (f : ℕ) → verifyName s ≡ true → fit cs ≡ true
+pub tree-read-container : (k : ContainerKind) (s : List ℕ) (cs : Trees) → FieldsRead cs → (v : NestingLevel) (r : List ℕ) (f : ℕ) → verifyName s ≡ true → fit cs ≡ true
     → cond (showsFields v) (withoutNone cs && clear Within cs (endByte k ∷ r)) true ≡ true → 2 * length (printNode (container k s) v (print Within cs) ++ r) ≤ f
     → parseInner f (printNode (container k s) v (print Within cs) ++ r) ≡ encoding (container k s) (keep (showsFields v) (shown Within cs)) r
 unfolding body keep
@@ -341,10 +341,12 @@ array-item : (f n : ℕ) (t : List ℕ) → n ≤ maxU64 → startsDigit t ≡ f
 unfolding parseInner begin start inSingles inOthers singles others
 array-item f n t h d = rw (read-decimal maxU64 n t d ∙ within-limit maxU64 n t h, begin)
 
-tree-read-array : (n : ℕ) (cs : Trees) → FirstRead cs → TreeRead (array n) cs
-unfolding fitLabel validCount clearNode afterChildren keep
-tree-read-array n cs first v r zero a b g c o h m = absurd (omega (arith, ap length (array-text n v (print v cs) r)))
-tree-read-array n cs first v r (suc f) a b g c o h m =
+-- Whatever follows the bracket.
+pub tree-read-array : (n : ℕ) (cs : Trees) → FirstRead cs → (v : NestingLevel) (r : List ℕ) (f : ℕ) → fitLabel (array n) ≡ true → isOne cs ≡ true → fit cs ≡ true → ClearTree (array n) v cs r
+    → 2 * length (printNode (array n) v (print v cs) ++ r) ≤ f → parseInner f (printNode (array n) v (print v cs) ++ r) ≡ encoding (array n) (shown v cs) r
+unfolding fitLabel clearNode afterChildren
+tree-read-array n cs first v r zero a b g c m = absurd (omega (arith, ap length (array-text n v (print v cs) r)))
+tree-read-array n cs first v r (suc f) a b g c m =
     let t = print v cs ++ (byte "]" ∷ r) in
     rw (array-text n v (print v cs) r)
     (array-item f n t (leb-true n maxU64 a) (no-digit t (trees-follow v cs (byte "]" ∷ r) g (bracket-follows r)))
@@ -360,7 +362,7 @@ tree-read pointer cs first many v r zero a b g c o h m = absurd (omega arith)
 tree-read pointer cs first many v r (suc f) a b g c o h m = held-read pointer cs first b (inside pointer v) r f h g c (omega arith)
 tree-read atomic cs first many v r zero a b g c o h m = absurd (omega arith)
 tree-read atomic cs first many v r (suc f) a b g c o h m = held-read atomic cs first b (inside atomic v) r f h g c (omega arith)
-tree-read (array n) cs first many v r f a b g c o h m = tree-read-array n cs first v r f a b g c o h m
+tree-read (array n) cs first many v r f a b g c o h m = tree-read-array n cs first v r f a b g c m
 tree-read (struct s) cs first many v r f a b g c o h m = tree-read-container Struct s cs many v r f a g c m
 tree-read (union s) cs first many v r f a b g c o h m = tree-read-container Union s cs many v r f a g c m
 tree-read none cs first many v r f a b g c o h m = absurd (true≢false o)

@@ -17,9 +17,8 @@ use Rattle.kinds.specs.Sound.{validLabel, validCount, valid}
 use Rattle.kinds.specs.Tree.{Label, Trees, end, node, primitive, bitField, typedBitField, pointer, atomic, array, struct, union, none, isEnd, kind, isContainer, inside, shows, keep, shown}
 use Rattle.kinds.specs.declared.NestingLevel.{NestingLevel}
 use Rattle.kinds.specs.declared.NestingLevel.the-variants.{Top, Within, Bottom}
-use Rattle.kinds.proofs.TableLaws.{both}
+use Rattle.kinds.proofs.TableLaws.{both, each}
 use Rattle.agreement.specs.ShownAlike.{ShownAlike}
-use Rattle.agreement.proofs.ByteLaws.{each}
 
 -- Only a container at the bottom hides its fields.
 hidden : (P : Label → NestingLevel → Type 0) → ((s : List ℕ) → P (struct s) Bottom) → ((s : List ℕ) → P (union s) Bottom) → (l : Label) (v : NestingLevel) → shows l v ≡ false → P l v
