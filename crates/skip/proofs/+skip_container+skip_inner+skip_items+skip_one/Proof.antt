@@ -1,5 +1,5 @@
 use mathlib.Core.List.{[], _∷_}
-use mathlib.Core.Path.{refl}
+use mathlib.Core.Path.{refl, sym, _∙_}
 use native.Mathlib.Omega.{arith}
 use borrow.Author.Needs.{needs}
 use denote.Enum.Declared.{tagOf}
@@ -12,13 +12,14 @@ use Rattle.numbers.proofs.NumberLaws.{number-is}
 use Rattle.names.proofs.NameLaws.{name-is}
 use Rattle.codes.specs.Answer.{isCode, isIndirection}
 use Rattle.codes.proofs.CodeLaws.{starts, without-parts, not-indirection}
+use Rattle.codes.proofs.StepLaws.{closes-in}
 use Rattle.codes.proofs.TokenLaws.{token-is}
 use Rattle.skip.specs.Skips.{SkipsItems}
 use Rattle.skip.specs.declared.Skipped.{Skipped}
 use Rattle.skip.specs.declared.Skipped.the-variants.{Empty, Encoding, ContainerEnd, ArrayEnd, Refused}
-use Rattle.skip.specs.declared.SkippedFields.{SkippedFields}
+use Rattle.skip.specs.declared.SkippedPart.{SkippedPart}
 use Rattle.skip.proofs.Skipped.{the-type}
-use Rattle.skip.proofs.SkipLaws.{skips-end, skips-run, skips-no-number, skips-item, skips-no-name, skips-contained, skips-token, NotPassed, skipped-end, skipped-more, skipped-codes}
+use Rattle.skip.proofs.SkipLaws.{skips-end, skips-run, skips-no-number, skips-item, skips-no-name, skips-contained, skips-token, NotPassed, skipped-end, skipped-more, skipped-closed, skipped-codes}
 use Prim.Native.Nat.{ℕ, _+_, _*_, _-_, _≤_, _<_}
 use borrow.Fn.Kinds.{In}
 use borrow.Fn.PlainCycle.{Measures, is, falls, and}
@@ -34,6 +35,7 @@ use Rattle.skip.proofs.+skip_container+skip_inner+skip_items+skip_one.L
 use Rattle.skip.proofs.skip_one.Reads as skip-one
 use Rattle.skip.proofs.skip_one.Kinds as skip-one-kinds
 use Rattle.skip.proofs.+skip_container+skip_inner+skip_items+skip_one.Lts-skip_one as skip-one-lts
+use Rattle.codes.proofs.closes_fields.Reads as closes-fields-reads
 use Rattle.codes.proofs.codes_end.Reads as codes-end-reads
 use Rattle.codes.proofs.indirections_end.Reads as indirections-end-reads
 use Rattle.codes.proofs.token_at.Reads as token-at-reads
@@ -53,7 +55,7 @@ not-passed Empty h = tt
 not-passed (Encoding to) h = miss (0 ∷ 2 ∷ 3 ∷ 4 ∷ []) 1 tt h
 not-passed (ContainerEnd k to) h = tt
 not-passed (ArrayEnd to) h = tt
-not-passed Refused h = tt
+not-passed (Refused why to) h = tt
 
 abbrev μ-skip-container : Measures 1 skip-container-kinds.ps ℕ
 μ-skip-container κs a = 4 * (length (a .0 .now) - a .1 .0)
@@ -130,6 +132,8 @@ abbrev skip-items-claims : ℕ → skip-items-lts.Claims
 skip-items-claims t = (
   codes-end-reads.Asked,
   codes-end-reads.Learnt,
+  closes-fields-reads.Asked,
+  closes-fields-reads.Learnt,
   skip-inner-below t,
   skip-inner.Post,
   end-skipped-reads.Asked,
@@ -165,12 +169,12 @@ skip-container-skip-items-requires t c κs =
 
 skip-container-returns : (t : ℕ) → skip-container-lts.Need-returns (skip-container-claims t) (skip-container-at t) skip-container.Post
 skip-container-returns t c =
-    let n = c .before .before in
+    let n = c .before .before .before in
     let p = n .before .before .pre .1 in
     let a = n .before .before .args in
     let at = p .at-place in
-    let r = rw (c .enum-told .given .1) at (name-is (a .text .now) (a .at + 1) _ _ (omega arith) (n .parse-name .ensures)) in
-    skips-no-name _ _ at _ (p .opens) _ _ (r .0)
+    let r = rw (c .before .why .given .1) at (name-is (a .text .now) (a .at + 1) _ _ (omega arith) (n .parse-name .ensures)) in
+    skips-no-name _ _ at _ (p .opens) _ _ (r .1) (r .0)
 
 skip-container-returns-2 : (t : ℕ) → skip-container-lts.Need-returns-2 (skip-container-claims t) (skip-container-at t) skip-container.Post
 skip-container-returns-2 t c =
@@ -205,7 +209,7 @@ skip-inner-returns-2 t c =
     skips-run _ _ _ (rw (whole (p .args .text .now)) at (c .before .skip-one .ensures)) _ _ r (c .skip-held2 .ensures)
 
 abbrev skip-items-Inv-loop : skip-items-lts.InvT-loop
-skip-items-Inv-loop text at kind to₀ to = (at ≤ to) × ((to ≤ length text) × ((i : SkippedFields) → SkipsItems text to kind i → SkipsItems text at kind i))
+skip-items-Inv-loop text at kind to₀ to = (at ≤ to) × ((to ≤ length text) × ((i : SkippedPart) → SkipsItems text to kind i → SkipsItems text at kind i))
 
 abbrev skip-items-μ-loop : skip-items-lts.MeasureT-loop
 skip-items-μ-loop text at kind to₀ to = length text - to
@@ -215,34 +219,48 @@ skip-items-loop-holds t c = (omega arith, (c .before .pre .1, λ i s. s))
 
 skip-items-skip-inner-requires : (t : ℕ) → skip-items-lts.Need-skip-inner-requires (skip-items-claims t) (skip-items-at t) skip-items.Post skip-items-Inv-loop skip-items-μ-loop
 skip-items-skip-inner-requires t c κs =
-    let l = c .before .before in
+    let l = c .before .before .before .before in
     let p = l .before .before in
-    let r = run-to isCode _ _ _ (l .loop .inv .1 .0) (c .before .codes-end .ensures) in
+    let r = run-to isCode _ _ _ (l .loop .inv .1 .0) (c .before .before .before .codes-end .ensures) in
     rw (whole (p .args .text .now)) (omega (arith, p .pre .0, l .loop .inv .0, r .onward), r .within)
+
+skip-items-add-t9 : (t : ℕ) → skip-items-lts.Need-add-t9 (skip-items-claims t) (skip-items-at t) skip-items.Post skip-items-Inv-loop skip-items-μ-loop
+skip-items-add-t9 t c =
+    let p = c .before .before .before .before .before in
+    omega (arith, closes-in (p .args .text .now) (c .before .before .codes-end .result) (p .args .kind) (sym (c .before .closes-fields .ensures) ∙ c .if1 .taken), p .good .0)
+
+skip-items-returns : (t : ℕ) → skip-items-lts.Need-returns (skip-items-claims t) (skip-items-at t) skip-items.Post skip-items-Inv-loop skip-items-μ-loop
+skip-items-returns t c =
+    let v = c .before .before .before .loop .inv in
+    let x = run-to isCode _ _ _ (v .1 .0) (c .before .before .codes-end .ensures) in
+    v .1 .1 _ (skipped-codes _ _ _ _ (skipped-closed _ _ _ (sym (c .before .closes-fields .ensures) ∙ c .if1 .taken)) _ x)
 
 skip-items-loop-less : (t : ℕ) → skip-items-lts.Need-loop-less (skip-items-claims t) (skip-items-at t) skip-items.Post skip-items-Inv-loop skip-items-μ-loop
 skip-items-loop-less t c =
     let i = c .before .before .before in
-    let l = i .before .before .before in
-    let x = run-to isCode _ _ _ (l .loop .inv .1 .0) (i .before .before .codes-end .ensures) in
+    let e = i .before .before .before .before in
+    let l = e .before in
+    let x = run-to isCode _ _ _ (l .loop .inv .1 .0) (e .codes-end .ensures) in
     let r = rw (whole (l .before .before .args .text .now)) at (rw (c .before .s .given .1) at (i .skip-inner .ensures)) in
     omega (arith, r .bound, x .onward)
 
 skip-items-loop-again : (t : ℕ) → skip-items-lts.Need-loop-again (skip-items-claims t) (skip-items-at t) skip-items.Post skip-items-Inv-loop skip-items-μ-loop
 skip-items-loop-again t c =
     let i = c .before .before .before in
-    let l = i .before .before .before in
+    let e = i .before .before .before .before in
+    let l = e .before in
     let v = l .loop .inv in
-    let x = run-to isCode _ _ _ (v .1 .0) (i .before .before .codes-end .ensures) in
+    let x = run-to isCode _ _ _ (v .1 .0) (e .codes-end .ensures) in
     let r = rw (whole (l .before .before .args .text .now)) at (rw (c .before .s .given .1) at (i .skip-inner .ensures)) in
     (omega (arith, r .bound, x .onward, v .0), (r .bound .1, λ j s. v .1 .1 j (skipped-codes _ _ _ _ (skipped-more _ _ _ _ _ r s) _ x)))
 
-skip-items-returns : (t : ℕ) → skip-items-lts.Need-returns (skip-items-claims t) (skip-items-at t) skip-items.Post skip-items-Inv-loop skip-items-μ-loop
-skip-items-returns t c =
+skip-items-returns-2 : (t : ℕ) → skip-items-lts.Need-returns-2 (skip-items-claims t) (skip-items-at t) skip-items.Post skip-items-Inv-loop skip-items-μ-loop
+skip-items-returns-2 t c =
     let i = c .before .before in
-    let l = i .before .before .before in
+    let e = i .before .before .before .before in
+    let l = e .before in
     let v = l .loop .inv in
-    let x = run-to isCode _ _ _ (v .1 .0) (i .before .before .codes-end .ensures) in
+    let x = run-to isCode _ _ _ (v .1 .0) (e .codes-end .ensures) in
     let r = rw (whole (l .before .before .args .text .now)) at (i .skip-inner .ensures) in
     let none = not-passed (i .skip-inner .result) (c .before .match .keys2) in
     v .1 .1 _ (skipped-codes _ _ _ _ (skipped-end _ _ _ (i .skip-inner .result) _ none r (c .end-skipped .ensures)) _ x)
@@ -276,11 +294,11 @@ skip-one-skip-container-requires-2 t c κs =
 skip-one-returns : (t : ℕ) → skip-one-lts.Need-returns (skip-one-claims t) (skip-one-at t) skip-one.Post
 unfolding start inSingles singles inOthers others
 skip-one-returns t c =
-    let u = c .before .before in
+    let u = c .before .before .before in
     let p = u .before .before .before .before in
     let at = p .pre .1 .at-place in
-    let n = rw (c .enum-told .given .1) at (number-is (p .args .text .now) _ (p .args .at + 1) _ (omega arith) (u .parse-u64 .ensures)) in
-    skips-no-number _ _ at _ _ (starts _ 91 (u .before .match .keys1) refl) (n .0)
+    let n = rw (c .before .why .given .1) at (number-is (p .args .text .now) _ (p .args .at + 1) _ (omega arith) (u .parse-u64 .ensures)) in
+    skips-no-number _ _ at _ _ (n .1 .1) (starts _ 91 (u .before .match .keys1) refl) (n .0)
 
 skip-one-returns-2 : (t : ℕ) → skip-one-lts.Need-returns-2 (skip-one-claims t) (skip-one-at t) skip-one.Post
 unfolding start inSingles singles inOthers others
@@ -336,6 +354,9 @@ pub +skip-container+skip-inner+skip-items+skip-one-spec : {M : Type 1} → state
     skip-items-μ-loop
     (skip-items-loop-holds t)
     (λ c κs. search needs)
+    (λ c κs. search needs)
+    (skip-items-add-t9 t)
+    (skip-items-returns t)
     (λ c. search needs)
     (λ c. search needs)
     (λ c. search needs)
@@ -344,7 +365,7 @@ pub +skip-container+skip-inner+skip-items+skip-one-spec : {M : Type 1} → state
     (skip-items-loop-less t)
     (skip-items-loop-again t)
     (λ c κs. search needs)
-    (skip-items-returns t))
+    (skip-items-returns-2 t))
     λ t. skip-one-lts.spec (skip-one-claims t) (skip-one-at t) skip-one.Post
     (skip-one-shared-slice-read-b t)
     (skip-one-add-parse-u64 t)

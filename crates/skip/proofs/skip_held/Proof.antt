@@ -20,7 +20,7 @@ returns-5 : tie.Need-returns-5
 returns-5 c = rw (c .enum-told3 .given .1, ne-eqb _ _ (c .before .before .if1 .left)) refl
 
 returns-6 : tie.Need-returns-6
-returns-6 c = rw (c .enum-told4 .given .1, ne-eqb _ _ (c .before .before .if1 .left)) refl
+returns-6 c = rw (c .before .s2 .given .1, ne-eqb _ _ (c .before .before .before .if1 .left)) refl
 
 pub skip-held-spec : {M : Type 1} → statement M
 skip-held-spec =

@@ -19,13 +19,7 @@ returns-5 : tie.Need-returns-5
 returns-5 c = rw (c .before .t5 .given .1) refl
 
 returns-6 : tie.Need-returns-6
-returns-6 c = search needs
-
-returns-7 : tie.Need-returns-7
-returns-7 c = search needs
-
-returns-8 : tie.Need-returns-8
-returns-8 c = search needs
+returns-6 c = rw (c .before .t6 .given .1) refl
 
 pub skip-token-spec : {M : Type 1} → statement M
 skip-token-spec =
@@ -45,5 +39,5 @@ skip-token-spec =
     returns-4
     returns-5
     returns-6
-    returns-7
-    returns-8)
+    (λ c. search needs)
+    (λ c. search needs))
