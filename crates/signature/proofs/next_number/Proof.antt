@@ -1,0 +1,41 @@
+use mathlib.Core.Path.{sym, _∙_}
+use Rattle.kinds.specs.Parse.{maxU32}
+use Rattle.numbers.proofs.NumberLaws.{number-is}
+use Rattle.signature.proofs.EntryLaws.{number-read, number-large, number-missing}
+use borrow.Author.Needs.{needs}
+use Rattle.signature.proofs.next_number.Statement.{statement}
+use Rattle.signature.proofs.next_number.Tie as tie
+
+returns : tie.Need-returns
+returns c =
+    let n = c .before .before .before in
+    let p = n .before .before in
+    let r = rw (c .before .number .given .1) at (number-is (p .args .text .now) maxU32 (p .args .at) _ (p .pre .1) (n .parse-u32 .ensures)) in
+    number-read _ _ (p .pre .1) _ _ _ (r .1 .1) (r .0)
+
+returns-2 : tie.Need-returns-2
+returns-2 c =
+    let n = c .before .before .before .before .before in
+    let p = n .before .before in
+    let r = rw (c .before .before .before .to .given .1) at (number-is (p .args .text .now) maxU32 (p .args .at) _ (p .pre .1) (n .parse-u32 .ensures)) in
+    number-large _ _ (p .pre .1) _ _ (r .1 .1) (r .0) (sym (c .before .starts-digit .ensures) ∙ c .if1 .taken)
+
+returns-3 : tie.Need-returns-3
+returns-3 c =
+    let n = c .before .before .before .before .before in
+    let p = n .before .before in
+    let r = rw (c .before .before .before .to .given .1) at (number-is (p .args .text .now) maxU32 (p .args .at) _ (p .pre .1) (n .parse-u32 .ensures)) in
+    number-missing _ _ (p .pre .1) _ _ (r .1 .1) (r .0) (sym (c .before .starts-digit .ensures) ∙ c .if1 .left)
+
+pub next-number-spec : {M : Type 1} → statement M
+next-number-spec =
+    tie.close
+    (tie.spec
+    (λ c κs. search needs)
+    (λ c. search needs)
+    (λ c. search needs)
+    (λ c. search needs)
+    (λ c κs. search needs)
+    returns
+    returns-2
+    returns-3)
