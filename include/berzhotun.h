@@ -42,8 +42,8 @@
  * WHAT THE CALLER MUST RESPECT. Nothing in C can test it, and the proof takes it as given:
  *  - each pointer is valid for the length that goes with it (or for the count in brackets), aligned
  *    for its type, and not NULL, even where the length is 0;
- *  - a list that is written (words, names and values of a reading, out, answer) overlaps no other
- *    list of the same call. Lists that are only read may: a tree can be compared with itself;
+ *  - a list that is written (words, names, list and values of a reading, out, answer) overlaps no
+ *    other list of the same call. Lists that are only read may: a tree can be compared with itself;
  *  - no other thread writes to a lent list during the call, nor reads one that is written. Beyond
  *    that any number of threads may call: the functions keep nothing from call to call;
  *  - 512 KiB of stack are free. The functions call themselves once for each level of nesting, of
@@ -72,6 +72,11 @@ extern "C" {
 /* The words and name bytes that reading a text of `text_len` bytes needs, and fills. */
 #define BERZHOTUN_WORDS_FOR(text_len) (4 + 4 * ((size_t)(text_len) + 1))
 #define BERZHOTUN_NAMES_FOR(text_len) ((size_t)(text_len))
+
+/* The most numbers of a signature's list, and those that reading a signature of `text_len` bytes
+ * needs, and fills: three a type, each of which has a byte and a digit at least. */
+#define BERZHOTUN_MAX_SIGNATURE 3000
+#define BERZHOTUN_SIGNATURE_FOR(text_len) (3 * ((size_t)(text_len) / 2))
 
 /* The kinds of nodes, each with its code in a text. */
 #define BERZHOTUN_CHAR 0u                 /* c */
@@ -107,7 +112,8 @@ extern "C" {
 #define BERZHOTUN_UNION 30u               /* (Name=ii), or (Name) */
 #define BERZHOTUN_NONE 31u                /* no type at all: no byte */
 
-/* The refusals. Those up to 6 carry only their number; the others also a place, which is named. */
+/* The refusals. Those up to 6, and 18, carry only their number; the others also a place, which is
+   named. */
 
 /* The text has more than 2,000 bytes. */
 #define BERZHOTUN_TEXT_TOO_LONG 1u
@@ -124,7 +130,7 @@ extern "C" {
 /* A needed byte is missing after `j`, `b`, `[` or inside quotes. Place: the text's end. */
 #define BERZHOTUN_UNEXPECTED_END 7u
 /* No type starts with the byte, or it closes where a type, or another closing byte, must stand.
-   Place: right behind the byte. Byte: that byte. */
+   Place: right behind the byte; but in a signature a digit's own. Byte: that byte. */
 #define BERZHOTUN_UNKNOWN_BYTE 8u
 /* A byte other than f, d and D after `j`. Place: that of the byte. Byte: that byte. */
 #define BERZHOTUN_UNKNOWN_AFTER_COMPLEX 9u
@@ -141,6 +147,12 @@ extern "C" {
 #define BERZHOTUN_INVALID_IDENTIFIER 14u
 /* Bytes remain after the type. Place: where they begin. */
 #define BERZHOTUN_NOT_ALL_CONSUMED 15u
+/* In a signature another byte than a digit, or the end, follows a type. Place: there. */
+#define BERZHOTUN_EXPECTED_OFFSET 16u
+/* In a signature a number above 4,294,967,295 follows a type. Place: right behind its digits. */
+#define BERZHOTUN_OFFSET_TOO_LARGE 17u
+/* The signature has no byte. */
+#define BERZHOTUN_EMPTY_SIGNATURE 18u
 
 /*
  * Reads the whole text as one type. Leading bytes among r n N o O R V (const, in, inout and so on)
@@ -169,11 +181,41 @@ uint64_t berzhotun_from_str(const uint8_t *text, size_t text_len, uint64_t *word
  *
  * Where reading would be refused by 8 because of a digit, it accepts instead, with the tree None
  * and the place right behind that digit. So of `16@` the digit 1 is eaten, and of `{x=5c` all but
- * `c`: pass over the numbers of a signature before you ask for the next type.
+ * `c`: for a whole signature, with its numbers, ask berzhotun_signature.
  */
 uint64_t berzhotun_from_start_of_str(const uint8_t *text, size_t text_len, uint64_t *words,
                                      size_t words_len, uint8_t *names, size_t names_len,
                                      uint64_t values[3]);
+
+/*
+ * Reads a whole method signature, as `v24@0:8@16`: a type, then a decimal number (its place in the
+ * call's frame), in turn until the text ends. The list gets three numbers for each type: where it
+ * begins, how many bytes it has, both with its leading bytes among r n N o O R V, and its number.
+ * So of `v24@0:8@16` the list is
+ *
+ *     0 1 24,  3 1 0,  5 1 8,  7 1 16,  and 0 three times
+ *
+ * The types' bytes are the caller's own text: each can be read as a whole text, or compared with a
+ * tree by berzhotun_equivalent_to_str. Digits belong to the type as far as it takes them: of `b168`
+ * all do, and no number follows. A number may have zeros in front.
+ *
+ * Reads   text[0 .. text_len].
+ * Writes  values[0 .. 3]; and, unless it refuses by 1 or 2, the first
+ *         BERZHOTUN_SIGNATURE_FOR(text_len) numbers of the list, all of them: those that the types
+ *         do not fill become 0. What lies beyond is left as it was.
+ * 0       values are the count of types, 1 or more, and 0 and 0.
+ * Refuses 1 if text_len is above 2,000; else 2 if list_len is below
+ *         BERZHOTUN_SIGNATURE_FOR(text_len): both leave the list as it was. Else 18 if text_len is
+ *         0. In these three cases values are 0 0 0. Else 7 to 14, 16 or 17, for the first reason
+ *         that reading from left to right meets: the list becomes 0 as far as above, and values are
+ *         the place, the byte (refusals 8 and 9, otherwise 0) and the kind (refusals 13 and 14,
+ *         otherwise 0).
+ *
+ * A digit where a type must begin, also behind a pointer, in an array or in a record, is refused by
+ * 8, and here alone the place is that of the byte itself.
+ */
+uint64_t berzhotun_signature(const uint8_t *text, size_t text_len, uint64_t *list, size_t list_len,
+                             uint64_t values[3]);
 
 /*
  * Compares two trees by levels. Object, Block and Class are equivalent to each other, every other

@@ -11,6 +11,8 @@ use Rattle.helper.specs.declared.Sized.the-variants as S
 use Rattle.parse.specs.Answer.{fromStartRest}
 use Rattle.parse.specs.declared.Reading.{Reading}
 use Rattle.parse.specs.declared.Reading.the-variants as G
+use Rattle.signature.specs.declared.SignatureReading.{SignatureReading}
+use Rattle.signature.specs.declared.SignatureReading.the-variants as I
 use Rattle.static_str.specs.declared.Printed.{Printed}
 use Rattle.static_str.specs.declared.Printed.the-variants as P
 
@@ -56,3 +58,12 @@ readValues place (G.Refused r) = values r
 -- The place where the rest begins.
 abbrev pub restPlace : List ℕ → List ℕ → List ℕ → ℕ
 restPlace text words names = length text - length (fromStartRest text words names)
+
+abbrev pub signatureNumber : SignatureReading → ℕ
+signatureNumber (I.Entries k) = 0
+signatureNumber (I.Refused r) = number r
+
+-- The count of entries and zeros, or the refusal's place, byte and container.
+abbrev pub signatureValues : SignatureReading → List ℕ
+signatureValues (I.Entries k) = k ∷ 0 ∷ 0 ∷ []
+signatureValues (I.Refused r) = values r

@@ -6,11 +6,13 @@ ghost use lib.ListN.{length};
 ghost use Rattle.parse.specs.Answer.{fromStrAnswer, fromStrWords, fromStrNames, fromStartAnswer, fromStartWords, fromStartNames};
 ghost use Rattle.expect.specs.Answer.{compared};
 ghost use Rattle.helper.specs.Answer.{sizeAnswer, compareAnswer};
+ghost use Rattle.signature.specs.Answer.{signatureAnswer, signatureList};
 ghost use Rattle.static_str.specs.Answer.{encodingLen, encodingArray, encodingOutput};
-ghost use Rattle.berzhotun.specs.Answer.{sizeNumber, sizeValues, compareNumber, compareValues, printNumber, printValues, readNumber, readValues, restPlace};
+ghost use Rattle.berzhotun.specs.Answer.{sizeNumber, sizeValues, compareNumber, compareValues, printNumber, printValues, readNumber, readValues, restPlace, signatureNumber, signatureValues};
 use helper::Sized;
 use kinds::Compared;
 use parse::Reading;
+use signature::SignatureReading;
 use static_str::Printed;
 
 // A comparison's answer as numbers.
@@ -83,6 +85,23 @@ fn give_reading(reading: Reading, values: &mut [u64; 3]) -> u64
             0
         }
         Reading::Refused(why) => {
+            *values = why.values();
+            why.number()
+        }
+    }
+}
+
+// A signature's answer as numbers.
+fn give_signature(reading: SignatureReading, values: &mut [u64; 3]) -> u64
+    ensures returns { λ r. ⌜ r ≡ signatureNumber reading ⌝ }
+    ensures answers { λ _. ⌜ now (values .exit) ≡ signatureValues reading ⌝ }
+{
+    match reading {
+        SignatureReading::Entries(k) => {
+            *values = [k as u64, 0, 0];
+            0
+        }
+        SignatureReading::Refused(why) => {
             *values = why.values();
             why.number()
         }
@@ -218,4 +237,13 @@ pub extern "C" fn berzhotun_equivalent_to_str(
     ensures answers { λ _. ⌜ now (answer .exit) ≡ compareValues (compared (now (words .entry)) (now (names .entry)) (now (text .entry))) ⌝ }
 {
     give_compared(encoding::equivalent_to_str(words, names, text), answer)
+}
+
+#[no_mangle]
+pub extern "C" fn berzhotun_signature(text: &[u8], list: &mut [u64], values: &mut [u64; 3]) -> u64
+    ensures returns { λ r. ⌜ r ≡ signatureNumber (signatureAnswer (now (text .entry)) (now (list .entry))) ⌝ }
+    ensures answers { λ _. ⌜ now (values .exit) ≡ signatureValues (signatureAnswer (now (text .entry)) (now (list .entry))) ⌝ }
+    ensures fills { λ _. ⌜ now (list .exit) ≡ signatureList (now (text .entry)) (now (list .entry)) ⌝ }
+{
+    give_signature(signature::parse_signature(text, list), values)
 }
