@@ -9,6 +9,7 @@ use libc::STDOUT_FILENO;
 use lines::Decoded;
 use parse::Reading;
 use sheet::MAX_WORDS;
+use signature::SignatureReading;
 use static_str::Printed;
 
 // The most bytes of questions, of a text in one, which may be longer than any that is read, and of an answer.
@@ -131,6 +132,30 @@ fn answer_start(text: &[u8], words: &mut [u64], names: &mut [u8], out: &mut [u8]
     lines::put_marked(out, byte, b' ', answer[3])
 }
 
+// The three numbers of each entry.
+fn put_entries(out: &mut [u8], at: usize, list: &[u64], n: u16) -> usize {
+    let mut to = at;
+    let mut k = 0;
+    while k < n {
+        let i = 3 * (k as usize);
+        let start = lines::put_marked(out, to, b' ', lines::word_at(list, i));
+        let size = lines::put_marked(out, start, b',', lines::word_at(list, i + 1));
+        to = lines::put_marked(out, size, b',', lines::word_at(list, i + 2));
+        k += 1;
+    }
+    to
+}
+
+fn answer_signature(text: &[u8], list: &mut [u64], out: &mut [u8]) -> usize {
+    match signature::parse_signature(text, list) {
+        SignatureReading::Refused(why) => put_refused(out, b"no ", why),
+        SignatureReading::Entries(n) => {
+            let at = lines::put_bytes(out, 0, b"ok");
+            put_entries(out, at, list, (n % 65536) as u16)
+        }
+    }
+}
+
 fn answer_size(words: &[u64], names: &[u8], out: &mut [u8]) -> usize {
     match encoding::size(words, names) {
         Sized::Refused(why) => put_refused(out, b"refused ", why),
@@ -174,6 +199,9 @@ fn is_reading(question: &[u8]) -> bool {
     if check::same(question, b"read") {
         return true;
     }
+    if check::same(question, b"signature") {
+        return true;
+    }
     check::same(question, b"start")
 }
 
@@ -190,6 +218,9 @@ fn answer_reading(
     };
     if check::same(question, b"start") {
         return answer_start(lines::front(text, n), words, names, out);
+    }
+    if check::same(question, b"signature") {
+        return answer_signature(lines::front(text, n), words, out);
     }
     answer_read(lines::front(text, n), words, names, out)
 }

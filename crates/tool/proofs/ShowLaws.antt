@@ -13,7 +13,8 @@ use borrow.Author.Tests.{le-leb, lt-leb, lt-ltb, le-ltb, eq-eqb, ne-eqb, eqb-fal
 use Rattle.kinds.proofs.ListLaws.{unread, unread-end}
 use Rattle.lines.specs.Answer.{until}
 use Rattle.kinds.specs.Print.{decimal}
-use Rattle.tool.specs.Answer.{countOf, shownByte, times, holders, depthOf, lineOf, countText, kindNames, valuesText, rightText, nodeText, byteText, containerText, shownText, shownOrCut, markText, namedText, refusedBy}
+use Rattle.tool.specs.Answer.{countOf, shownByte, times, holders, depthOf, lineOf, countText, kindNames, valuesText, rightText, nodeText, columnText, entryText}
+use Rattle.tool.specs.Answer.{byteText, containerText, shownText, shownOrCut, markText, namedText, refusedBy}
 
 pub counts : (b : ℕ) (s : List ℕ) (i : ℕ) → i < length s → getD s i 0 ≡ b → countOf b (drop i s) ≡ suc (countOf b (drop (i + 1) s))
 unfolding countOf
@@ -131,6 +132,12 @@ pub node-is : (words names : List ℕ) (i last d k m n : ℕ) → d ≡ depthOf 
     ≡ nodeText words names i last
 unfolding nodeText
 node-is words names i last d k m n p q r s = rw (p, q, r, s)
+
+pub entry-is : (text list piece : List ℕ) (k m n v : ℕ) → piece ≡ take n (drop m text)
+    → m ≡ getD list (3 * k) 0 → n ≡ getD list (3 * k + 1) 0 → v ≡ getD list (3 * k + 2) 0
+    → rightText k 1000 ++ (columnText m 10000 ++ (columnText n 100000 ++ (columnText v 1000000000 ++ ((32 ∷ 32 ∷ []) ++ shownText piece)))) ≡ entryText text list k
+unfolding entryText
+entry-is text list piece k m n v o p q r = rw (o, p, q, r)
 
 -- ---- The texts of a refusal by cases.
 

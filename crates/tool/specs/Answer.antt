@@ -72,6 +72,20 @@ nodeText w names i last =
     ++ (lineOf (getD w (4 * i) 0) kindNames
     ++ valuesText names (getD w (4 * i) 0) (getD w (4 * i + 1) 0) (getD w (4 * i + 2) 0))))
 
+-- A number of a table, two columns behind what stands before it.
+unfoldable pub columnText : ℕ → ℕ → List ℕ
+columnText n widest = bytes "  " ++ rightText n widest
+
+-- The line of entry `k` of a signature, of which the list has three numbers: its own number, the type's start, its length, its number, and its bytes.
+unfoldable pub entryText : List ℕ → List ℕ → ℕ → List ℕ
+entryText text list k =
+    rightText k 1000
+    ++ (columnText (getD list (3 * k) 0) 10000
+    ++ (columnText (getD list (3 * k + 1) 0) 100000
+    ++ (columnText (getD list (3 * k + 2) 0) 1000000000
+    ++ (bytes "  "
+    ++ shownText (take (getD list (3 * k + 1) 0) (drop (getD list (3 * k) 0) text))))))
+
 -- The byte that a refusal names: itself, or its number where it does not show.
 unfoldable pub byteText : ℕ → List ℕ
 byteText b = cond (ltb 32 b && ltb b 127) (b ∷ []) (bytes "byte " ++ decimal b)
@@ -83,7 +97,7 @@ containerText kind = cond (eqb kind 30) (bytes "union") (bytes "struct")
 unfoldable pub shownOrCut : List ℕ → List ℕ
 shownOrCut text = cond (leb (length text) 2000) (shownText text) (shownText (take 60 text) ++ bytes "...")
 
--- Why an input was turned away, a line for each of document 01's numbers. A line says first what the refusal carries (`-` nothing, `^` a place, `b` a
+-- Why an input was turned away, a line for each number of a refusal. A line says first what the refusal carries (`-` nothing, `^` a place, `b` a
 -- place and a byte, `c` a place and a container) and then the reason, up to the byte or container that it names. A refusal more is a line here.
 unfoldable pub reasons : List ℕ
 reasons =
@@ -91,7 +105,8 @@ reasons =
     ++ (bytes "- a name is neither ? nor letters, digits and underscores\n- the output is too short for the text\n- the size is above 2^64 - 1 bytes\n"
     ++ (bytes "^ the text ends where another byte must stand\nb no type starts with \nb f, d or D must follow j, not \n^ a digit must stand here\n"
     ++ (bytes "^ a number is above 2^64 - 1, or a bitfield's size above 255\n^ no ] follows the array's item\n"
-    ++ bytes "c the text ends inside the \nc neither ? nor letters, digits and underscores name the \n^ bytes remain after the type")))
+    ++ (bytes "c the text ends inside the \nc neither ? nor letters, digits and underscores name the \n^ bytes remain after the type\n"
+    ++ bytes "^ no digit follows the type\n^ the number is above 4294967295\n- the signature is empty"))))
 
 -- A line with a mark under the place, unless the refusal has none.
 unfoldable pub markText : ℕ → ℕ → List ℕ

@@ -11,6 +11,7 @@ use libc::STDOUT_FILENO;
 use parse::Reading;
 use sheet::Checked;
 use sheet::MAX_WORDS;
+use signature::SignatureReading;
 use static_str::Printed;
 
 // The most bytes of commands from standard input.
@@ -21,6 +22,9 @@ const MAX_ARGUMENT: usize = 4096;
 
 // The most bytes of a line that is written.
 const MAX_LINE: usize = 8192;
+
+// The most numbers that a signature uses: three for each entry.
+const MAX_NUMBERS: usize = 3 * (MAX_TEXT / 2);
 
 fn say(s: &[u8]) {
     io::write_all(STDOUT_FILENO, s);
@@ -61,6 +65,10 @@ fn say_usage(to: i32) {
     io::write_all(
         to,
         b"       berzhotun match A TEXT      whether the tree of A is equivalent to TEXT\n",
+    );
+    io::write_all(
+        to,
+        b"       berzhotun signature TEXT    the types of a method's signature with their numbers, a line each\n",
     );
     io::write_all(
         to,
@@ -237,6 +245,30 @@ fn answer_compare(all: bool, a: &[u8], b: &[u8]) {
     }
 }
 
+fn say_entry(text: &[u8], list: &[u64], k: u16) {
+    let mut out = [0u8; MAX_LINE];
+    let at = show::put_entry(&mut out, text, list, k);
+    say_line(&mut out, at);
+}
+
+// A table of `n` entries; its head has the columns of `show::put_entry`.
+fn say_entries(text: &[u8], list: &[u64], n: u16) {
+    say(b"item  start  length      number  type\n");
+    let mut k = 0;
+    while k < n {
+        say_entry(text, list, k);
+        k += 1;
+    }
+}
+
+fn answer_signature(text: &[u8]) {
+    let mut list = [0u64; MAX_NUMBERS];
+    match signature::parse_signature(text, &mut list) {
+        SignatureReading::Refused(why) => say_refused(text, &why.words()),
+        SignatureReading::Entries(n) => say_entries(text, &list, (n % 65536) as u16),
+    }
+}
+
 // How many texts a command takes; 0 where there is no such command.
 fn texts_of(command: &[u8]) -> usize {
     if check::same(command, b"read") {
@@ -260,6 +292,9 @@ fn texts_of(command: &[u8]) -> usize {
     if check::same(command, b"match") {
         return 2;
     }
+    if check::same(command, b"signature") {
+        return 1;
+    }
     0
 }
 
@@ -277,8 +312,10 @@ fn answer_known(command: &[u8], a: &[u8], b: &[u8]) {
         answer_compare(false, a, b);
     } else if check::same(command, b"compare-all") {
         answer_compare(true, a, b);
-    } else {
+    } else if check::same(command, b"match") {
         answer_match(a, b);
+    } else {
+        answer_signature(a);
     }
 }
 

@@ -1,9 +1,10 @@
-// What is shown of a tree and of a refusal, put into a lent output from a place on; each answers the next place.
+// What is shown of a tree, of a signature and of a refusal, put into a lent output from a place on; each answers the next place.
 ghost use mathlib.Core.Path.{_≡_};
 ghost use mathlib.Core.List.{[], _∷_};
 ghost use lib.ListN.{take, drop, getD};
 ghost use Rattle.lines.specs.Answer.{Put};
-ghost use Rattle.tool.specs.Answer.{countOf, shownByte, shownText, times, depthOf, lineOf, countText, kindNames, valuesText, rightText, nodeText, byteText, containerText, shownOrCut, markText, namedText, refusedBy, refusedText};
+ghost use Rattle.tool.specs.Answer.{countOf, shownByte, shownText, times, depthOf, lineOf, countText, kindNames, valuesText, rightText, nodeText, columnText, entryText};
+ghost use Rattle.tool.specs.Answer.{byteText, containerText, shownOrCut, markText, namedText, refusedBy, refusedText};
 use kinds::ARRAY;
 use kinds::BIT_FIELD;
 use kinds::MAX_TEXT;
@@ -174,6 +175,30 @@ pub fn put_node(out: &mut [u8], nodes: &[u64], names: &[u8], i: u16, last: u16) 
     put_values(out, values, names, kind, first, second)
 }
 
+// A number of a table, two columns behind what stands before it.
+fn put_column(out: &mut [u8], at: usize, n: u64, widest: u64) -> usize
+    ensures { λ r. ⌜ Put (now (out .entry)) at (columnText n widest) (now (out .exit)) r ⌝ }
+{
+    let to = lines::put_bytes(out, at, b"  ");
+    put_right(out, to, n, widest)
+}
+
+// The line of entry `k` of a signature: `k`, the type's start, length and number, each in a column that is wide enough for all of them and for its head,
+// and the type's bytes.
+pub fn put_entry(out: &mut [u8], text: &[u8], list: &[u64], k: u16) -> usize
+    ensures { λ r. ⌜ Put (now (out .entry)) 0 (entryText (now (text .entry)) (now (list .entry)) k) (now (out .exit)) r ⌝ }
+{
+    let at = 3 * (k as usize);
+    let first = lines::word_at(list, at);
+    let size = lines::word_at(list, at + 1);
+    let item = put_right(out, 0, k as u64, 1000);
+    let start = put_column(out, item, first, 10000);
+    let length = put_column(out, start, size, 100000);
+    let number = put_column(out, length, lines::word_at(list, at + 2), 1000000000);
+    let to = lines::put_bytes(out, number, b"  ");
+    put_shown(out, to, part(text, first as usize, size as usize))
+}
+
 // The byte that a refusal names: itself, or its number where it does not show.
 fn put_byte(out: &mut [u8], at: usize, byte: u64) -> usize
     ensures { λ r. ⌜ Put (now (out .entry)) at (byteText byte) (now (out .exit)) r ⌝ }
@@ -258,7 +283,7 @@ fn put_reason(out: &mut [u8], text: &[u8], why: &[u64; 4], line: &[u8]) -> usize
 pub fn put_refused(out: &mut [u8], text: &[u8], why: &[u64; 4]) -> usize
     ensures { λ r. ⌜ Put (now (out .entry)) 0 (refusedText (now (text .entry)) (now (why .entry))) (now (out .exit)) r ⌝ }
 {
-    // A line for each of document 01's numbers: what the refusal carries (`-` nothing, `^` a place, `b` a place and a byte, `c` a place and a
+    // A line for each number of a refusal: what the refusal carries (`-` nothing, `^` a place, `b` a place and a byte, `c` a place and a
     // container), and the reason, up to the byte or container that it names. A refusal more is a line here.
     let reasons = b"-\n\
         - the text has more than 2,000 bytes\n\
@@ -275,6 +300,9 @@ pub fn put_refused(out: &mut [u8], text: &[u8], why: &[u64; 4]) -> usize
         ^ no ] follows the array's item\n\
         c the text ends inside the \n\
         c neither ? nor letters, digits and underscores name the \n\
-        ^ bytes remain after the type";
+        ^ bytes remain after the type\n\
+        ^ no digit follows the type\n\
+        ^ the number is above 4294967295\n\
+        - the signature is empty";
     put_reason(out, text, why, line_of(reasons, why[0]))
 }
