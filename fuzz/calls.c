@@ -12,7 +12,7 @@
 enum { OUT_ROOM = 1 << 16 };
 
 const char *const function_names[FUNCTIONS] = {
-    "from_str", "from_start_of_str", "equivalent_to", "equivalent_to_box", "eq",
+    "from_str", "from_start_of_str", "signature", "equivalent_to", "equivalent_to_box", "eq",
     "equivalent_to_str", "size", "static_encoding_str_len", "static_encoding_str_array",
 };
 
@@ -36,12 +36,16 @@ static const uint8_t carried[NUMBERS] = {
     [BERZHOTUN_WRONG_END_CONTAINER] = PLACE | CONTAINER,
     [BERZHOTUN_INVALID_IDENTIFIER] = PLACE | CONTAINER,
     [BERZHOTUN_NOT_ALL_CONSUMED] = PLACE,
+    [BERZHOTUN_EXPECTED_OFFSET] = PLACE,
+    [BERZHOTUN_OFFSET_TOO_LARGE] = PLACE,
+    [BERZHOTUN_EMPTY_SIGNATURE] = NOTHING,
 };
 
 /* The numbers that each function may return, a bit each. */
 static const uint64_t returned[FUNCTIONS] = {
     [FROM_STR] = 0xff87,      /* 0, 1, 2, 7 to 15 */
     [FROM_START] = 0x7f87,    /* 0, 1, 2, 7 to 14 */
+    [SIGNATURE] = 0x77f87,    /* 0, 1, 2, 7 to 14, 16 to 18 */
     [EQUIVALENT] = 0x19,      /* 0, 3, 4 */
     [EQUIVALENT_BOX] = 0x19,  /* 0, 3, 4 */
     [EQ] = 0x19,              /* 0, 3, 4 */
@@ -53,7 +57,8 @@ static const uint64_t returned[FUNCTIONS] = {
 
 uint64_t counts[FUNCTIONS][NUMBERS], yeses[FUNCTIONS];
 
-static struct room text_room, words_room[2], names_room[2], read_words_room, read_names_room, out_room, answer_room;
+static struct room text_room, words_room[2], names_room[2], read_words_room, read_names_room, list_room, out_room,
+    answer_room;
 
 /* The lists as they are lent. */
 static const uint8_t *text, *names[2];
@@ -76,13 +81,13 @@ static void show_sheet(int which) {
 void fail(const char *what) {
     size_t i;
     printf("%s: %s\n", function_names[running], what);
-    if (running == FROM_STR || running == FROM_START || running == MATCHES) {
+    if (running <= SIGNATURE || running == MATCHES) {
         printf(" t:");
         for (i = 0; i < text_length; i++) {
             printf("%02x", text[i]);
         }
     }
-    if (running != FROM_STR && running != FROM_START) {
+    if (running > SIGNATURE) {
         show_sheet(0);
     }
     if (running == EQUIVALENT || running == EQUIVALENT_BOX || running == EQ) {
@@ -115,6 +120,7 @@ void calls_begin(void) {
     }
     read_words_room = room_to_write((BERZHOTUN_WORDS_FOR(TEXT_ROOM) + 4) * sizeof(uint64_t));
     read_names_room = room_to_write(TEXT_ROOM + 4);
+    list_room = room_to_write((BERZHOTUN_SIGNATURE_FOR(TEXT_ROOM) + 4) * sizeof(uint64_t));
     out_room = room_to_write(OUT_ROOM);
     answer_room = room_to_write(4 * sizeof(uint64_t));
 }
@@ -159,8 +165,12 @@ static uint64_t ends(uint64_t refusal) {
 }
 
 static void check_values(uint64_t refusal, const uint64_t *values) {
-    int accepted_place = refusal == 0 && running == FROM_START;
-    if (values[0] > ((carried[refusal] & PLACE) || accepted_place ? text_length : 0)) {
+    /* Accepted, a place or a count of types. */
+    size_t most = running == FROM_START ? text_length : running == SIGNATURE ? text_length / 2 : 0;
+    if (refusal != 0) {
+        most = carried[refusal] & PLACE ? text_length : 0;
+    }
+    if (values[0] > most) {
         fail("gave a place outside of the text");
     }
     if (values[1] > (carried[refusal] & BYTE ? 255 : 0)) {
@@ -220,6 +230,50 @@ uint64_t call_reader(enum function function, size_t lent_words, size_t lent_name
     check_written(tree_words, refusal == 0 ? tree_words[3] * sizeof(uint64_t) : 0, words_filled,
                   lent_words * sizeof(uint64_t));
     check_written(tree_names, refusal == 0 ? tree_words[2] : 0, names_filled, lent_names);
+    return refusal;
+}
+
+/* The types and the digits behind each follow each other from the first byte of the signature to its last. */
+static void check_entries(const struct entries *entries) {
+    size_t at = 0, i;
+    for (i = 0; i < entries->count; i++) {
+        const uint64_t *entry = entries->numbers + 3 * i;
+        size_t digits;
+        if (entry[0] != at || entry[1] == 0 || entry[1] > text_length - at || entry[2] > UINT32_MAX) {
+            fail("gave a type that is not where the signature has one");
+        }
+        digits = at += entry[1];
+        while (at < text_length && text[at] >= '0' && text[at] <= '9') {
+            at++;
+        }
+        if (at == digits) {
+            fail("gave a type without a number");
+        }
+    }
+    if (at != text_length || entries->count == 0) {
+        fail("did not take the whole signature");
+    }
+}
+
+uint64_t call_signature(size_t lent_numbers, struct entries *entries) {
+    size_t needed = BERZHOTUN_SIGNATURE_FOR(text_length);
+    uint64_t *list = lend_marked(&list_room, lent_numbers * sizeof(uint64_t));
+    uint64_t *values = lend_marked(&answer_room, 3 * sizeof(uint64_t));
+    uint64_t refusal;
+    uint64_t due = text_length > BERZHOTUN_MAX_TEXT ? 1 : lent_numbers < needed ? 2 : text_length == 0 ? 18 : 0;
+    running = SIGNATURE;
+    refusal = ends(berzhotun_signature(text, text_length, list, lent_numbers, values));
+    if (due != 0 ? refusal != due : refusal == 1 || refusal == 2 || refusal == 18) {
+        fail("did not refuse by the lengths");
+    }
+    check_values(refusal, values);
+    entries->count = refusal == 0 ? values[0] : 0;
+    memcpy(entries->numbers, list, 3 * entries->count * sizeof(uint64_t));
+    if (refusal == 0) {
+        check_entries(entries);
+    }
+    check_written(list, 3 * entries->count * sizeof(uint64_t), due != 0 ? 0 : needed * sizeof(uint64_t),
+                  lent_numbers * sizeof(uint64_t));
     return refusal;
 }
 

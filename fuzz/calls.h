@@ -1,10 +1,13 @@
-/* The nine functions, each called in guarded memory and held to its contract. */
+/* The ten functions, each called in guarded memory and held to its contract. */
 #ifndef CALLS_H
 #define CALLS_H
 
 #include "inputs.h"
 
-enum function { FROM_STR, FROM_START, EQUIVALENT, EQUIVALENT_BOX, EQ, MATCHES, SIZE, LENGTH, PRINT, FUNCTIONS };
+/* Those up to SIGNATURE take a text alone, the others a sheet first. */
+enum function {
+    FROM_STR, FROM_START, SIGNATURE, EQUIVALENT, EQUIVALENT_BOX, EQ, MATCHES, SIZE, LENGTH, PRINT, FUNCTIONS
+};
 
 extern const char *const function_names[FUNCTIONS];
 
@@ -23,6 +26,14 @@ void lend_sheet(int which, const struct sheet *sheet);
 
 /* Each returns the refusal. A reading is lent so many words and name bytes; if accepted, its tree is put in `tree`. */
 uint64_t call_reader(enum function function, size_t lent_words, size_t lent_names, struct sheet *tree);
+
+/* A signature is lent so many numbers; if accepted, those of its types are put in `entries`. */
+struct entries {
+    uint64_t numbers[BERZHOTUN_MAX_SIGNATURE];
+    size_t count;
+};
+uint64_t call_signature(size_t lent_numbers, struct entries *entries);
+
 uint64_t call_pair(enum function function, uint64_t *answer);
 uint64_t call_matches(uint64_t *answer);
 uint64_t call_size(void);

@@ -1,5 +1,5 @@
 /*
- * The deepest trees and texts through all nine functions, each call on a stack of its own with a page below it
+ * The deepest trees and texts through all ten functions, each call on a stack of its own with a page below it
  * that may not be touched. Prints the most stack that each function took.
  *
  *     deep [KIBIBYTES]    512 unless said otherwise
@@ -19,6 +19,7 @@ static struct room stack;
 static size_t most[FUNCTIONS];
 static struct sheet tree, spare;
 static struct text text, print;
+static struct entries entries;
 
 /* One call of a function with what is lent; whether it was accepted. */
 static uint64_t call(enum function function) {
@@ -27,6 +28,8 @@ static uint64_t call(enum function function) {
     case FROM_STR:
     case FROM_START:
         return call_reader(function, BERZHOTUN_WORDS_FOR(text.length), BERZHOTUN_NAMES_FOR(text.length), &spare);
+    case SIGNATURE:
+        return call_signature(BERZHOTUN_SIGNATURE_FOR(text.length), &entries);
     case EQUIVALENT:
     case EQUIVALENT_BOX:
     case EQ:
@@ -172,6 +175,33 @@ static void run_texts(void) {
     }
 }
 
+/* A signature of one type; it must be accepted if so said. */
+static void run_signature(const char *open, const char *middle, const char *close, size_t times, int accepted) {
+    text.length = 0;
+    repeat(open, times);
+    repeat(middle, 1);
+    repeat(close, times);
+    repeat("0", 1);
+    lend_text(&text);
+    if (call_on_stack(SIGNATURE) != 0 && accepted) {
+        fail("refused a deep type");
+    }
+}
+
+static void run_signatures(void) {
+    run_signature("^", "i", "", 1998, 1);
+    run_signature("A", "i", "", 1998, 1);
+    run_signature("^", "", "", 1999, 0);
+    run_signature("[1", "", "", 1000, 0);
+    run_signature("[1", "i", "]", 666, 1);
+    run_signature("{R=", "", "", 666, 0);
+    run_signature("{R=", "i", "}", 499, 1);
+    run_signature("(R=", "i", ")", 499, 1);
+    run_signature("[1^", "i", "]", 499, 1);
+    run_signature("{R=^", "i", "}", 399, 1);
+    run_signature("{R=[1", "i", "]}", 285, 1);
+}
+
 int main(int count, char **arguments) {
     size_t kibibytes = count > 1 ? strtoul(arguments[1], NULL, 10) : 512;
     int function;
@@ -183,9 +213,10 @@ int main(int count, char **arguments) {
     stack = room_to_write(kibibytes << 10);
     run_chains();
     run_texts();
+    run_signatures();
     for (function = 0; function < FUNCTIONS; function++) {
         printf("%-26s %4zu KiB at most\n", function_names[function], (most[function] + 1023) >> 10);
     }
-    printf("the deepest trees and texts: a stack of %zu KiB is enough for each\n", kibibytes);
+    printf("the deepest trees, texts and signatures: a stack of %zu KiB is enough for each\n", kibibytes);
     return 0;
 }

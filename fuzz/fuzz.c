@@ -1,5 +1,5 @@
 /*
- * Random bytes, texts and sheets through all nine functions. The memory behind and before each lent list may not
+ * Random bytes, texts and sheets through all ten functions. The memory behind and before each lent list may not
  * be touched, lists that are only to be read cannot be written, and what each call wrote is looked at.
  *
  *     fuzz COUNT [SEED]    at least COUNT calls
@@ -85,6 +85,26 @@ static void read_input(void) {
     }
 }
 
+/* A signature; one of its types, cut out, is a text that whole-text reading takes. */
+static void take_signature(void) {
+    static struct entries entries;
+    static struct text piece;
+    static struct sheet tree;
+    const uint64_t *entry;
+    random_signature(&input);
+    lend_text(&input);
+    if (call_signature(length_around(BERZHOTUN_SIGNATURE_FOR(input.length)), &entries) != 0) {
+        return;
+    }
+    entry = entries.numbers + 3 * random_below(entries.count);
+    piece.length = entry[1];
+    memcpy(piece.bytes, input.bytes + entry[0], piece.length);
+    lend_text(&piece);
+    if (call_reader(FROM_STR, BERZHOTUN_WORDS_FOR(piece.length), piece.length, &tree) != 0) {
+        fail("refused a type of a signature");
+    }
+}
+
 static void print_first(void) {
     uint64_t length, refusal = call_length(&length), printed;
     size_t room = length + random_below(3);
@@ -113,6 +133,7 @@ static void compare_both(void) {
 
 static void round_of_calls(void) {
     uint64_t answer;
+    take_signature();
     random_text(&input);
     read_input();
     lend_two();

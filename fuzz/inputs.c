@@ -168,6 +168,66 @@ void random_text(struct text *text) {
     }
 }
 
+static void put_offset(struct text *text) {
+    static const char *const numbers[] = {
+        "0", "8", "16", "24", "136", "008", "", "+8", "4294967295", "4294967296", "00000000004294967295",
+        "18446744073709551616",
+    };
+    put_all(text, numbers[random_below(random_below(32) == 0 ? 12 : 5)]);
+}
+
+/* A type as methods have it, or any, and its number. */
+static void put_entry(struct text *text) {
+    static const char *const types[] = {
+        "v", "@", ":", "i", "d", "q", "B", "^v", "*", "#", "@?", "^{Rate=id}", "{Rate=id}", "@\"Rate\"", "(U=if)", "[4c]",
+    };
+    if (random_below(8) == 0) {
+        put(text, (uint8_t) "rnNoORV"[random_below(7)]);
+    }
+    if (random_below(8) == 0) {
+        put_type(text, 3);
+    } else {
+        put_all(text, types[random_below(16)]);
+    }
+    put_offset(text);
+}
+
+/* Around the limit of 2,000 bytes, of as many types as can be, or of any. */
+static void long_signature(struct text *text) {
+    size_t limit = 1990 + random_below(20);
+    int shortest = random_below(2) == 0;
+    while (text->length + 20 < limit) {
+        if (shortest) {
+            put_all(text, "i0");
+        } else {
+            put_entry(text);
+        }
+    }
+    put(text, 'v');
+    while (text->length < limit) {
+        put(text, '0');
+    }
+}
+
+void random_signature(struct text *text) {
+    size_t form = random_below(1024), i;
+    if (form < 128) {
+        random_text(text);
+        return;
+    }
+    text->length = 0;
+    if (form == 128) {
+        long_signature(text);
+        return;
+    }
+    for (i = random_below(6); i < 6; i++) {
+        put_entry(text);
+    }
+    if (random_below(3) == 0) {
+        spoil(text);
+    }
+}
+
 static uint64_t odd_number(uint64_t number) {
     static const uint64_t numbers[] = {0, 1, 4, 24, 25, 28, 29, 30, 31, 32, 255, 256, 2000, 2001, 8008, UINT64_MAX};
     switch (random_below(4)) {

@@ -29,6 +29,9 @@ size_t random_below(size_t limit);
 /* Any bytes, bytes that encodings use, well-formed texts and spoilt ones; one in 1,024 is long. */
 void random_text(struct text *text);
 
+/* Types with numbers behind them, well-formed and spoilt, and any text; one in 1,024 is long. */
+void random_signature(struct text *text);
+
 /* Changes a word, a name byte or a length. */
 void damage(struct sheet *sheet);
 

@@ -3,6 +3,7 @@
 use std::str::FromStr;
 
 use crate::helper::NestingLevel;
+use crate::parse::Parser;
 use crate::plain;
 use crate::sheet::{STRUCT, UNION};
 use crate::static_str::{static_encoding_str_array, static_encoding_str_len};
@@ -33,6 +34,61 @@ pub fn read_start(text: &str) -> Result<(EncodingBox, usize), Refusal> {
             Err(refusal(&error))
         }
     }
+}
+
+/// A type of a signature: where it begins and how many bytes it has, both with its qualifiers, and
+/// the number behind it.
+#[derive(Clone, Copy, Debug, PartialEq)]
+pub struct Entry {
+    pub start: u64,
+    pub length: u64,
+    pub number: u64,
+}
+
+/// A whole signature as request N1 has it: each type is read by the crate's parser, the numbers
+/// between them here.
+pub fn signature(text: &str) -> Result<Vec<Entry>, Refusal> {
+    if text.is_empty() {
+        return Err(placed(18, 0));
+    }
+    let mut entries = Vec::new();
+    let mut start = 0;
+    while start < text.len() {
+        let length = type_length(&text[start..]).map_err(|refusal| in_signature(refusal, start))?;
+        let behind = &text[start + length..];
+        let digits = behind.bytes().take_while(u8::is_ascii_digit).count();
+        if digits == 0 {
+            return Err(placed(16, start + length));
+        }
+        let end = start + length + digits;
+        let number: u32 = behind[..digits].parse().map_err(|_| placed(17, end))?;
+        entries.push(Entry { start: start as u64, length: length as u64, number: number.into() });
+        start = end;
+    }
+    Ok(entries)
+}
+
+/// How many bytes the type at the start of the text has, as reading from the start reads it, but
+/// that a digit where a type should begin is refused.
+fn type_length(text: &str) -> Result<usize, Refusal> {
+    let mut parser = Parser::new(text);
+    parser.strip_leading_qualifiers();
+    match parser.parse_encoding_or_none() {
+        Ok(_) => Ok(text.len() - parser.remaining().len()),
+        Err(kind) => Err(refusal(&ParseError::new(parser, kind))),
+    }
+}
+
+/// Places count from the signature's first byte. The crate is behind the byte that it does not know;
+/// for a digit the request wants the digit's own place.
+fn in_signature(refusal: Refusal, start: usize) -> Refusal {
+    let is_digit = (u64::from(b'0')..=u64::from(b'9')).contains(&refusal.byte);
+    let back = u64::from(refusal.number == 8 && is_digit);
+    Refusal { place: start as u64 + refusal.place - back, ..refusal }
+}
+
+fn placed(number: u64, place: usize) -> Refusal {
+    Refusal { number, place: place as u64, byte: 0, kind: 0 }
 }
 
 /// The error's fields are private; its Debug text shows them:

@@ -8,6 +8,7 @@ use std::time::Instant;
 use crate::ask;
 use crate::helper::NestingLevel;
 use crate::library::{self, Sheet};
+use crate::parse::Parser;
 use crate::static_str::static_encoding_str_array;
 use crate::trees::{Arena, Tree};
 use crate::Encoding;
@@ -26,7 +27,11 @@ pub fn run() -> bool {
         bench_reading(&name, &text);
         bench_matching(&name, &tree);
     }
+    for (name, text) in signatures() {
+        bench_signature(name, &text);
+    }
     bench_growth();
+    bench_signature_growth();
     true
 }
 
@@ -54,6 +59,34 @@ fn long_record(length: usize) -> String {
     }
     let left = length - 1 - text.len();
     text + &"i".repeat(left) + "}"
+}
+
+fn signatures() -> Vec<(&'static str, String)> {
+    vec![
+        ("a method", "v24@0:8@16".to_string()),
+        ("a method with records", METHOD.to_string()),
+        ("a long signature", long_signature(2000)),
+        ("the most types", "i0".repeat(1000)),
+    ]
+}
+
+const METHOD: &str = "{Rate=id}72@0:8{Point=dd}16^{Band=s^v}32@\"NSDate\"40r*48@?56^@64";
+
+/// A signature of exactly so many bytes, of the same mixture at every length.
+fn long_signature(length: usize) -> String {
+    let entries = [
+        "v24", "@0", ":8", "{Rate=id}16", "q32", "^{Band=s}40", "@\"NSDate\"48", "r*56", "@?64", "{Point=dd}72", "^i88",
+        "[4c]96", "B100", "^^{Q}104",
+    ];
+    let mut text = String::new();
+    for entry in entries.iter().cycle() {
+        if text.len() + entry.len() + 2 > length {
+            break;
+        }
+        text += entry;
+    }
+    let left = length - text.len();
+    text + "i" + &"0".repeat(left - 1)
 }
 
 fn bench_tree(name: &str, tree: &Tree) {
@@ -127,6 +160,45 @@ fn bench_matching(name: &str, tree: &Tree) {
     line(name, "equivalent_to_str", theirs, ours);
 }
 
+fn bench_signature(name: &str, text: &str) {
+    let mut list = vec![0; 3 * (text.len() / 2)];
+    let mut entries = Vec::with_capacity(text.len() / 2);
+    let types = ask::signature(text).expect("a signature that reads").len();
+    let name = format!("{name}: {} bytes, {types} types", text.len());
+    let ours = || library::signature(black_box(text.as_bytes()), &mut list).0;
+    line(&name, "signature", || crate_signature(black_box(text), &mut entries), ours);
+}
+
+/// The crate's parser, type after type, with a plain loop over the digits between them. The entries have
+/// room before the clock runs.
+fn crate_signature(text: &str, entries: &mut Vec<[u64; 3]>) -> bool {
+    entries.clear();
+    let mut start = 0;
+    while start < text.len() {
+        let mut parser = Parser::new(&text[start..]);
+        parser.strip_leading_qualifiers();
+        if parser.parse_encoding_or_none().is_err() {
+            return false;
+        }
+        let end = text.len() - parser.remaining().len();
+        let mut at = end;
+        let mut number: u64 = 0;
+        while let Some(digit) = text.as_bytes().get(at).filter(|byte| byte.is_ascii_digit()) {
+            number = number * 10 + u64::from(digit - b'0');
+            if number > u64::from(u32::MAX) {
+                return false;
+            }
+            at += 1;
+        }
+        if at == end {
+            return false;
+        }
+        entries.push([start as u64, (end - start) as u64, number]);
+        start = at;
+    }
+    true
+}
+
 fn crate_read(text: &str) -> bool {
     text.parse::<crate::EncodingBox>().is_ok()
 }
@@ -145,6 +217,21 @@ fn bench_growth() {
         let (mut words, mut names) = (vec![0; 8 + 4 * text.len()], vec![0; text.len()]);
         let ours = || library::from_str(black_box(text.as_bytes()), &mut words, &mut names).0;
         let (theirs, ours) = times(|| crate_read(black_box(&text)), ours);
+        let bytes = text.len() as f64;
+        println!("| {} | {:.2} | {:.2} | {:.2} |", text.len(), theirs / bytes, ours / bytes, theirs / ours);
+    }
+}
+
+/// The same of signatures.
+fn bench_signature_growth() {
+    println!();
+    println!("| signature, bytes | crate, ns a byte | ours, ns a byte | ratio |");
+    println!("|---:|---:|---:|---:|");
+    for text in [long_signature(20), long_signature(200), long_signature(2000)] {
+        let mut list = vec![0; 3 * (text.len() / 2)];
+        let mut entries = Vec::with_capacity(text.len() / 2);
+        let ours = || library::signature(black_box(text.as_bytes()), &mut list).0;
+        let (theirs, ours) = times(|| crate_signature(black_box(&text), &mut entries), ours);
         let bytes = text.len() as f64;
         println!("| {} | {:.2} | {:.2} | {:.2} |", text.len(), theirs / bytes, ours / bytes, theirs / ours);
     }

@@ -6,6 +6,8 @@
 //!     diff reads SEED COUNT     random, well-formed and spoilt texts: both readings
 //!     diff match LENGTH         every text up to that length over fewer bytes, against small trees
 //!     diff texts SEED COUNT     tree against text
+//!     diff short-signatures LENGTH  every signature up to that length over some bytes
+//!     diff signatures SEED COUNT    random, well-formed and spoilt signatures
 //!     diff all SEED COUNT       each of these, with lengths 3 and 4
 //!     diff stack KIBIBYTES      the deepest trees and texts on a stack of that size
 //!     diff bench                times, as ratios to the crate's
@@ -13,7 +15,7 @@
 //! The exit status is 0 if there was no difference, 1 if there was one, 2 if the call makes no sense.
 
 use crate::report::run as run_all;
-use crate::{bench, run_reads, run_sheets, run_texts, run_trees, stack};
+use crate::{bench, run_reads, run_sheets, run_signatures, run_texts, run_trees, stack};
 
 pub fn run() -> i32 {
     let arguments: Vec<String> = std::env::args().skip(1).collect();
@@ -27,11 +29,13 @@ pub fn run() -> i32 {
         (Some("reads"), Some(&[seed, count])) => reads(seed, count),
         (Some("match"), Some(&[length])) => short_match(length as usize),
         (Some("texts"), Some(&[seed, count])) => texts(seed, count),
+        (Some("short-signatures"), Some(&[length])) => short_signatures(length as usize),
+        (Some("signatures"), Some(&[seed, count])) => signatures(seed, count),
         (Some("stack"), Some(&[kibibytes])) => stack::run(kibibytes as usize),
         (Some("bench"), Some(&[])) => bench::run(),
         _ => {
-            eprintln!("usage: diff trees|sheets|reads|texts|all SEED COUNT");
-            eprintln!("       diff short|match LENGTH, diff stack KIBIBYTES, diff bench");
+            eprintln!("usage: diff trees|sheets|reads|texts|signatures|all SEED COUNT");
+            eprintln!("       diff short|match|short-signatures LENGTH, diff stack KIBIBYTES, diff bench");
             return 2;
         }
     };
@@ -46,6 +50,8 @@ fn all(seed: u64, count: u64) -> bool {
     same &= reads(seed, count);
     same &= short_match(4);
     same &= texts(seed, count);
+    same &= short_signatures(3);
+    same &= signatures(seed, count);
     same
 }
 
@@ -77,4 +83,15 @@ fn reads(seed: u64, count: u64) -> bool {
 fn texts(seed: u64, count: u64) -> bool {
     let mut check = run_texts::Check::new();
     run_all("texts", run_texts::inputs(seed, count), |case, tally| check.case(case, tally))
+}
+
+fn short_signatures(length: usize) -> bool {
+    let mut check = run_signatures::Check::new();
+    let inputs = run_signatures::short_inputs(length);
+    run_all("short-signatures", inputs, |case, tally| check.case(case, tally))
+}
+
+fn signatures(seed: u64, count: u64) -> bool {
+    let mut check = run_signatures::Check::new();
+    run_all("signatures", run_signatures::inputs(seed, count), |case, tally| check.case(case, tally))
 }

@@ -107,6 +107,13 @@ mod exported {
             text_len: usize,
             answer: *mut u64,
         ) -> u64;
+        pub fn berzhotun_signature(
+            text: *const u8,
+            text_len: usize,
+            list: *mut u64,
+            list_len: usize,
+            values: *mut u64,
+        ) -> u64;
     }
 }
 
@@ -235,6 +242,21 @@ pub fn from_start_of_str(text: &[u8], words: &mut [u64], names: &mut [u8]) -> Re
             words.len(),
             names.as_mut_ptr(),
             names.len(),
+            values.as_mut_ptr(),
+        )
+    };
+    (refusal, values)
+}
+
+pub fn signature(text: &[u8], list: &mut [u64]) -> Reply {
+    let mut values = [MARK; 4];
+    // SAFETY: as in `pair`.
+    let refusal = unsafe {
+        exported::berzhotun_signature(
+            text.as_ptr(),
+            text.len(),
+            list.as_mut_ptr(),
+            list.len(),
             values.as_mut_ptr(),
         )
     };

@@ -10,6 +10,7 @@
 //!     question                     answer
 //!     read TEXT                    ok SHEET | no NUMBER PLACE BYTE KIND
 //!     start TEXT                   ok SHEET PLACE | no NUMBER PLACE BYTE KIND
+//!     signature TEXT               ok and, for each type, START,LENGTH,NUMBER after a space | no ...
 //!     equivalent TREE TREE         yes | no                  (equivalent_to)
 //!     equivalent-box TREE TREE     yes | no                  (equivalent_to_box)
 //!     equal TREE TREE              two of yes | no           (==: Encoding with box, box with Encoding)
@@ -19,9 +20,9 @@
 //!     length TREE                  N                         (static_encoding_str_len)
 //!     print TREE                   t:HEX                     (static_encoding_str_array)
 //!
-//! NUMBER is document 01's refusal; PLACE, BYTE and KIND (29 struct, 30 union) are 0 where it
-//! carries none. PLACE after `ok` is where the rest begins. A sheet in an answer has the words
-//! and name bytes that are used and no more. Other answers to any question:
+//! NUMBER is the refusal of document 01, or of request N1; PLACE, BYTE and KIND (29 struct, 30
+//! union) are 0 where it carries none. PLACE after `ok` is where the rest begins. A sheet in an
+//! answer has the words and name bytes that are used and no more. Other answers to any question:
 //!
 //!     unread NUMBER PLACE BYTE KIND    a text given as a tree could not be read
 //!     panic                            the crate panicked (a bad name that it came to)
@@ -77,6 +78,7 @@ fn ask(line: &str) -> Result<String, String> {
     match (question, &arguments[..]) {
         ("read", [text]) => Ok(read(&text_of(text)?)),
         ("start", [text]) => Ok(start(&text_of(text)?)),
+        ("signature", [text]) => Ok(signature(&text_of(text)?)),
         ("equivalent", [a, b]) => Ok(equivalent(&tree_of(a)?, &tree_of(b)?)),
         ("equivalent-box", [a, b]) => Ok(equivalent_box(&tree_of(a)?, &tree_of(b)?)),
         ("equal", [a, b]) => Ok(equal(&tree_of(a)?, &tree_of(b)?)),
@@ -99,6 +101,16 @@ fn read(text: &str) -> String {
 fn start(text: &str) -> String {
     match ask::read_start(text) {
         Ok((tree, place)) => format!("ok {} {place}", sheet_text(&Tree::from_box(&tree))),
+        Err(refusal) => format!("no {}", refusal_text(&refusal)),
+    }
+}
+
+fn signature(text: &str) -> String {
+    match ask::signature(text) {
+        Ok(entries) => entries.iter().fold("ok".to_string(), |mut answer, entry| {
+            write!(answer, " {},{},{}", entry.start, entry.length, entry.number).unwrap();
+            answer
+        }),
         Err(refusal) => format!("no {}", refusal_text(&refusal)),
     }
 }

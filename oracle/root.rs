@@ -51,6 +51,8 @@ mod run_reads;
 #[cfg(diff)]
 mod run_sheets;
 #[cfg(diff)]
+mod run_signatures;
+#[cfg(diff)]
 mod run_texts;
 #[cfg(diff)]
 mod run_trees;

@@ -8,9 +8,9 @@ use crate::sheet::HEADER;
 use crate::texts::{self, FEW_TOKENS, TOKENS};
 use crate::trees::Tree;
 
-const MOST_TEXT: usize = 2000;
+pub const MOST_TEXT: usize = 2000;
 /// Words and bytes that are looked at beyond what was lent.
-const BEYOND: usize = 8;
+pub const BEYOND: usize = 8;
 
 pub fn inputs(seed: u64, count: u64) -> impl Iterator<Item = Case> {
     let mut random = Random::new(seed);
@@ -179,7 +179,7 @@ impl Check {
 }
 
 /// Whether a list is `start` and then nothing but zeros.
-fn starts_with<T: Copy + PartialEq + Default>(list: &[T], start: &[T]) -> bool {
+pub fn starts_with<T: Copy + PartialEq + Default>(list: &[T], start: &[T]) -> bool {
     list.len() >= start.len()
         && list[..start.len()] == *start
         && list[start.len()..].iter().all(|&item| item == T::default())
@@ -195,7 +195,7 @@ fn outcome_of_start(text: &str, answer: &Result<usize, &Refusal>) -> &'static st
     }
 }
 
-fn count_length(text: &str, tally: &mut Tally) {
+pub fn count_length(text: &str, tally: &mut Tally) {
     let length = match text.len() {
         0 => "0",
         1..=10 => "1 to 10",

@@ -9,7 +9,7 @@ use crate::trees::{Node, Tree};
 
 pub fn run(kibibytes: usize) -> bool {
     let trees = chains();
-    let all_fit = move || trees.iter().all(tree_fits) && texts_fit();
+    let all_fit = move || trees.iter().all(tree_fits) && texts_fit() && signatures_fit();
     let thread = Builder::new().stack_size(kibibytes << 10).spawn(all_fit).expect("a thread");
     let fits = thread.join().unwrap_or(false);
     println!(
@@ -90,5 +90,24 @@ fn texts_fit() -> bool {
         let whole = library::from_str(text.as_bytes(), &mut words, &mut names).0;
         let start = library::from_start_of_str(text.as_bytes(), &mut words, &mut names).0;
         (whole == 0 || whole >= 7) && (start == 0 || start >= 7)
+    })
+}
+
+/// A type nested as deep as a signature of 2,000 bytes allows, closed and not.
+fn signatures_fit() -> bool {
+    let texts = [
+        format!("{}i0", "^".repeat(1998)),
+        format!("{}i0", "A".repeat(1998)),
+        format!("{}0", "^".repeat(1999)),
+        "[1".repeat(1000),
+        "{R=".repeat(666),
+        format!("{}i{}0", "[1".repeat(666), "]".repeat(666)),
+        format!("{}{}0", "{R=".repeat(499), "}".repeat(499)),
+        format!("{}{}0", "(R=".repeat(499), ")".repeat(499)),
+    ];
+    let mut list = vec![0; 3000];
+    texts.iter().all(|text| {
+        let refusal = library::signature(text.as_bytes(), &mut list).0;
+        refusal == 0 || refusal >= 7
     })
 }

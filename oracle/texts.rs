@@ -184,7 +184,7 @@ fn exactly(random: &mut Random, length: usize) -> String {
 }
 
 /// A chain, closed or not.
-fn deep(random: &mut Random, length: usize) -> String {
+pub fn deep(random: &mut Random, length: usize) -> String {
     let (open, close) = random.pick(&[
         ("^", ""),
         ("A", ""),

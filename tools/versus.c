@@ -19,16 +19,18 @@ typedef struct {
     __typeof__(berzhotun_size) *size;
     __typeof__(berzhotun_static_encoding_str_len) *len;
     __typeof__(berzhotun_static_encoding_str_array) *print;
+    __typeof__(berzhotun_signature) *signature; // none in an archive from before it was there
 } Build;
 
 static const char *const whats[] = {"whole-text reading", "reading from the start", "tree against tree", "with all fields",
-                                    "tree against text", "size", "length", "print"};
-enum { WHATS = sizeof whats / sizeof *whats };
+                                    "tree against text", "size", "length", "print", "signature"};
+enum { TEXT = 4, SIGNATURE = sizeof whats / sizeof *whats - 1 };
 
 static uint8_t text[BERZHOTUN_MAX_TEXT + 1], printed[BERZHOTUN_MAX_PRINT], output[BERZHOTUN_MAX_PRINT];
 static size_t text_len, printed_len;
 static uint64_t words[BERZHOTUN_MAX_WORDS], other_words[BERZHOTUN_MAX_WORDS];
 static uint8_t names[BERZHOTUN_MAX_NAMES], other_names[BERZHOTUN_MAX_NAMES];
+static uint64_t list[BERZHOTUN_MAX_SIGNATURE];
 static volatile uint64_t sink;
 
 static void fail(const char *why) {
@@ -48,7 +50,8 @@ static Build load(const char *path) {
     return (Build){symbol(library, "berzhotun_from_str"),          symbol(library, "berzhotun_from_start_of_str"),
                    symbol(library, "berzhotun_equivalent_to"),     symbol(library, "berzhotun_eq"),
                    symbol(library, "berzhotun_equivalent_to_str"), symbol(library, "berzhotun_size"),
-                   symbol(library, "berzhotun_static_encoding_str_len"), symbol(library, "berzhotun_static_encoding_str_array")};
+                   symbol(library, "berzhotun_static_encoding_str_len"), symbol(library, "berzhotun_static_encoding_str_array"),
+                   dlsym(library, "berzhotun_signature")};
 }
 
 #define SHEET words, words[3], names, words[2]
@@ -62,10 +65,11 @@ static uint64_t call(const Build *build, int what) {
     case 1: return build->from_start_of_str(text, text_len, LENT, answer);
     case 2: return build->equivalent_to(SHEET, OTHER, answer) + answer[0];
     case 3: return build->eq(SHEET, OTHER, answer) + answer[0];
-    case 4: return build->equivalent_to_str(SHEET, printed, printed_len, answer) + answer[0];
+    case TEXT: return build->equivalent_to_str(SHEET, printed, printed_len, answer) + answer[0];
     case 5: return build->size(SHEET, answer) + answer[0];
     case 6: return build->len(SHEET, answer) + answer[0];
-    default: return build->print(SHEET, output, sizeof output, answer) + answer[0];
+    case 7: return build->print(SHEET, output, sizeof output, answer) + answer[0];
+    default: return build->signature(text, text_len, list, BERZHOTUN_MAX_SIGNATURE, answer) + answer[0];
     }
 }
 
@@ -126,6 +130,23 @@ static const char *shape(int which) {
     }
 }
 
+// The benchmark's signatures.
+static const char *signature(int which) {
+    static const char *const entries[] = {"v24", "@0", ":8", "{Rate=id}16", "q32", "^{Band=s}40", "@\"NSDate\"48", "r*56",
+                                          "@?64", "{Point=dd}72", "^i88", "[4c]96", "B100", "^^{Q}104"};
+    text_len = 0;
+    switch (which) {
+    case 0: return repeat("v24@0:8@16", 1), "4 types";
+    case 1: return repeat("{Rate=id}72@0:8{Point=dd}16^{Band=s^v}32@\"NSDate\"40r*48@?56^@64", 1), "9 types";
+    case 2:
+        for (int i = 0; text_len + strlen(entries[i % 14]) + 2 <= BERZHOTUN_MAX_TEXT; i++) repeat(entries[i % 14], 1);
+        repeat("i", 1);
+        return repeat("0", (int)(BERZHOTUN_MAX_TEXT - text_len)), "330 types";
+    case 3: return repeat("i0", 1000), "1,000 types";
+    default: return NULL;
+    }
+}
+
 int main(int count, char **given) {
     static Build builds[MOST_BUILDS];
     int rounds = count > 1 ? atoi(given[1]) : 0, each = (count - 2) / 2;
@@ -139,7 +160,27 @@ int main(int count, char **given) {
         memcpy(other_names, names, sizeof names);
         if (builds[0].print(SHEET, printed, sizeof printed, answer)) fail("a tree that does not print");
         printed_len = answer[0];
-        for (int what = 0; what < WHATS; what++) row(shape(which), builds, each, rounds, what);
+        for (int what = 0; what < SIGNATURE; what++) row(shape(which), builds, each, rounds, what);
+    }
+    // An empty record passes over the fields of these shapes.
+    static const struct { int shape; const char *name; } passed[] = {{2, "1,188 passed"}, {3, "1,997 passed"}, {5, "nested passed"}};
+    for (int i = 0; i < 3; i++) {
+        uint64_t answer[3];
+        text_len = 0;
+        repeat("{R=}", 1);
+        if (builds[0].from_str(text, text_len, words, BERZHOTUN_MAX_WORDS, names, BERZHOTUN_MAX_NAMES, answer)) fail("a text that does not read");
+        shape(passed[i].shape);
+        printed_len = text_len;
+        memcpy(printed, text, text_len);
+        row(passed[i].name, builds, each, rounds, TEXT);
+    }
+    for (int i = 0; i < 2 * each; i++) {
+        if (!builds[i].signature) return printf("one of the archives has no berzhotun_signature: signatures are left out\n"), 0;
+    }
+    for (int which = 0; signature(which); which++) {
+        uint64_t answer[3];
+        if (builds[0].signature(text, text_len, list, BERZHOTUN_MAX_SIGNATURE, answer)) fail("a signature that does not read");
+        row(signature(which), builds, each, rounds, SIGNATURE);
     }
     return 0;
 }

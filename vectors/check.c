@@ -1,5 +1,4 @@
 /* Reads every text of the list, prints it again, measures it, and compares with what the list says. */
-#include <ctype.h>
 #include <inttypes.h>
 #include <stdio.h>
 #include <stdlib.h>
@@ -37,28 +36,37 @@ static size_t read_start(const char *text) {
     return values[0];
 }
 
-/* A method's signature: types, each with a number behind it. */
-static void check_signature(void) {
-    const char *rest = row.text;
-    int types = 0;
-    while (*rest != '\0') {
-        size_t length = read_start(rest);
-        if (length == 0) {
-            break;
+/* A signature's types and numbers in the list's own form: `d,20|@,0|:,8|i,16`. Reading from the start takes as many
+   bytes of each. */
+static void take_apart(const uint64_t *list, uint64_t types, char *found, size_t room) {
+    size_t length = 0;
+    uint64_t i;
+    for (i = 0; i < types && length < room; i++, list += 3) {
+        if (read_start(row.text + list[0]) != list[1]) {
+            differs("has a type of another length from its start");
         }
-        types++;
-        for (rest += length; isdigit((unsigned char)*rest); rest++) {
-        }
+        length += (size_t)snprintf(found + length, room - length, "%s%.*s,%" PRIu64, i == 0 ? "" : "|", (int)list[1],
+                                   row.text + list[0], list[2]);
     }
+}
+
+static void check_signature(void) {
+    static uint64_t list[BERZHOTUN_MAX_SIGNATURE];
+    char found[512] = "refused";
+    uint64_t values[3];
+    uint64_t refusal = berzhotun_signature((const uint8_t *)row.text, strlen(row.text), list, BERZHOTUN_MAX_SIGNATURE, values);
     counts.signatures++;
-    counts.types += types;
-    if (strcmp(row.outcome, "refused") == 0) {
-        counts.refused++;
-        if (*rest == '\0') {
-            differs("was not refused");
-        }
-    } else if (*rest != '\0' || types != atoi(row.outcome)) {
-        differs("has another count of types");
+    if (refusal == 0) {
+        counts.types += (int)values[0];
+        take_apart(list, values[0], found, sizeof found);
+    } else if (refusal == BERZHOTUN_EXPECTED_OFFSET) {
+        snprintf(found, sizeof found, "refused,%" PRIu64, values[0]);
+    } else if (refusal != BERZHOTUN_UNKNOWN_BYTE) {
+        snprintf(found, sizeof found, "refused by %" PRIu64, refusal);
+    }
+    counts.refused += refusal != 0;
+    if (strcmp(found, row.outcome) != 0) {
+        differs(found);
     }
 }
 
@@ -118,7 +126,7 @@ int main(void) {
             continue;
         }
         counts.rows++;
-        if (strcmp(row.how, "method") == 0) {
+        if (strcmp(row.how, "method") == 0 || strcmp(row.how, "extended") == 0) {
             check_signature();
         } else {
             check_type();

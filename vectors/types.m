@@ -2,7 +2,8 @@
  * Types of our own, for whose encodings compilers are asked (see README.md).
  *
  * Compiled for Apple's runtime, the texts stand in the constants text_NAME, with size_NAME and widths_NAME
- * beside them, and in the class's own tables. Built for the GNU runtime, it is a program that prints them.
+ * beside them, and in the class's own tables; part_METHOD_N is the type that a method was declared with, 0 for
+ * its result. Built for the GNU runtime, it is a program that prints them.
  */
 
 /* What a type's size rests on, for the comparison with sizes of 64-bit Apple ARM without padding. */
@@ -265,8 +266,22 @@ typedef float Vector __attribute__((vector_size(16)));
     X(TablePointer, WORDS) X(FlagsPointer, WORDS) X(RateRow, WORDS) X(RatePointers, WORDS) \
     X(RatePointers2, WORDS) CLANG_ONLY(X) LARGE(X) GCC_ONLY(X)
 
+/* A protocol: Apple's compiler writes its signatures a second time, with class names and the signatures of blocks.
+   Each of them has one of these. */
+#ifdef __BLOCKS__
+@protocol Priced
+- (Tariff *)pricedBy:(Tariff *)other base:(double)base;
+- (id<Rated>)ratedBy:(id<Rated>)rated count:(int)count;
+- (double)applied:(RuleBlock)block to:(Tariff *)other;
+- (void)when:(HookBlock)block;
+@end
+#define PRICED <Priced>
+#else
+#define PRICED
+#endif
+
 /* A class: the encodings of its variables and the signatures of its methods. */
-@interface Tariff {
+@interface Tariff PRICED {
   @public
     Class isa;
     int band;
@@ -303,7 +318,22 @@ typedef float Vector __attribute__((vector_size(16)));
 - (_Bool)isValid;
 - (Rule)ruleNamed:(char *)name from:(Handle)handle;
 - (long double)sum:(float *)values of:(unsigned char)count flags:(Flags)flags;
+- (void)setActive:(_Bool)yes code:(char)code year:(short)year age:(unsigned char)age;
+- (unsigned long long)count:(long long)first of:(unsigned short)second from:(unsigned long)third;
+- (Number)number:(Number)number value:(Value)value;
+- (Packed)packed:(Packed)packed code:(char)code;
+- (double)bands:(Band)bands grid:(Grid)grid;
+- (Hook)rule:(Rule)first hook:(Hook)hook finder:(RuleFinder)finder;
+- (DoubleComplex)sum:(FloatComplex)first and:(LongDouble)second;
+- (Class)kind:(Class)kind action:(SEL)action objects:(id *)objects;
+- (void)many:(int)a :(char)b :(double)c :(id)d :(float)e :(short)f :(Point)g :(int *)h;
+- (Table)table:(Table)table;
+- (Rate **)rates:(Rate **)first policy:(Policy *)policy;
+- (Mixed)mixed:(Mixed)mixed bits:(LongBits)bits;
+- (Empty)empty:(Empty)empty unnamed:(Unnamed)range outer:(Outer)outer;
+- (oneway void)ping;
 + (Tariff *)tariff;
++ (id)tariffWithTitle:(const char *)text handle:(Handle *)handle;
 @end
 
 @implementation Tariff
@@ -335,10 +365,108 @@ typedef float Vector __attribute__((vector_size(16)));
 - (long double)sum:(float *)values of:(unsigned char)count flags:(Flags)flags {
     return count;
 }
+- (void)setActive:(_Bool)yes code:(char)code year:(short)year age:(unsigned char)age {
+}
+- (unsigned long long)count:(long long)first of:(unsigned short)second from:(unsigned long)third {
+    return first;
+}
+- (Number)number:(Number)number value:(Value)value {
+    return number;
+}
+- (Packed)packed:(Packed)packed code:(char)code {
+    return packed;
+}
+- (double)bands:(Band)bands grid:(Grid)grid {
+    return bands[0];
+}
+- (Hook)rule:(Rule)first hook:(Hook)hook finder:(RuleFinder)finder {
+    return hook;
+}
+- (DoubleComplex)sum:(FloatComplex)first and:(LongDouble)second {
+    return first;
+}
+- (Class)kind:(Class)kind action:(SEL)action objects:(id *)objects {
+    return kind;
+}
+- (void)many:(int)a :(char)b :(double)c :(id)d :(float)e :(short)f :(Point)g :(int *)h {
+}
+- (Table)table:(Table)table {
+    return table;
+}
+- (Rate **)rates:(Rate **)first policy:(Policy *)policy {
+    return first;
+}
+- (Mixed)mixed:(Mixed)mixed bits:(LongBits)bits {
+    return mixed;
+}
+- (Empty)empty:(Empty)empty unnamed:(Unnamed)range outer:(Outer)outer {
+    return empty;
+}
+- (oneway void)ping {
+}
+#ifdef __BLOCKS__
+- (Tariff *)pricedBy:(Tariff *)other base:(double)base {
+    return other;
+}
+- (id<Rated>)ratedBy:(id<Rated>)rated count:(int)count {
+    return rated;
+}
+- (double)applied:(RuleBlock)block to:(Tariff *)other {
+    return 0;
+}
+- (void)when:(HookBlock)block {
+}
+#endif
 + (Tariff *)tariff {
     return 0;
 }
++ (id)tariffWithTitle:(const char *)text handle:(Handle *)handle {
+    return 0;
+}
 @end
+
+/* The types that each method was declared with: its name with _ for each colon, the part's number, the type. */
+#define PARTS(X) \
+    X(factorForBand_, 0, double) X(factorForBand_, 1, int) \
+    X(premium_table_count_, 0, double) X(premium_table_count_, 1, double) X(premium_table_count_, 2, const Rate *) \
+    X(premium_table_count_, 3, int) X(rateAt_, 0, Rate) X(rateAt_, 1, unsigned long) \
+    X(boundsOf_in_, 0, Box) X(boundsOf_in_, 1, Shapes) X(boundsOf_in_, 2, Box *) \
+    X(setParent_title_, 0, void) X(setParent_title_, 1, Tariff *) X(setParent_title_, 2, const char *) \
+    X(notify_reply_with_, 0, void) X(notify_reply_with_, 1, const char *) X(notify_reply_with_, 2, int *) \
+    X(notify_reply_with_, 3, id *) X(copyOf_action_kind_, 0, id) X(copyOf_action_kind_, 1, id) \
+    X(copyOf_action_kind_, 2, SEL) X(copyOf_action_kind_, 3, Class) X(isValid, 0, _Bool) \
+    X(ruleNamed_from_, 0, Rule) X(ruleNamed_from_, 1, char *) X(ruleNamed_from_, 2, Handle) \
+    X(sum_of_flags_, 0, long double) X(sum_of_flags_, 1, float *) X(sum_of_flags_, 2, unsigned char) \
+    X(sum_of_flags_, 3, Flags) X(setActive_code_year_age_, 0, void) X(setActive_code_year_age_, 1, _Bool) \
+    X(setActive_code_year_age_, 2, char) X(setActive_code_year_age_, 3, short) \
+    X(setActive_code_year_age_, 4, unsigned char) X(count_of_from_, 0, unsigned long long) \
+    X(count_of_from_, 1, long long) X(count_of_from_, 2, unsigned short) X(count_of_from_, 3, unsigned long) \
+    X(number_value_, 0, Number) X(number_value_, 1, Number) X(number_value_, 2, Value) \
+    X(packed_code_, 0, Packed) X(packed_code_, 1, Packed) X(packed_code_, 2, char) \
+    X(bands_grid_, 0, double) X(bands_grid_, 1, Band) X(bands_grid_, 2, Grid) \
+    X(rule_hook_finder_, 0, Hook) X(rule_hook_finder_, 1, Rule) X(rule_hook_finder_, 2, Hook) \
+    X(rule_hook_finder_, 3, RuleFinder) X(sum_and_, 0, DoubleComplex) X(sum_and_, 1, FloatComplex) \
+    X(sum_and_, 2, LongDouble) X(kind_action_objects_, 0, Class) X(kind_action_objects_, 1, Class) \
+    X(kind_action_objects_, 2, SEL) X(kind_action_objects_, 3, id *) \
+    X(many________, 0, void) X(many________, 1, int) X(many________, 2, char) X(many________, 3, double) \
+    X(many________, 4, id) X(many________, 5, float) X(many________, 6, short) X(many________, 7, Point) \
+    X(many________, 8, int *) X(table_, 0, Table) X(table_, 1, Table) \
+    X(rates_policy_, 0, Rate **) X(rates_policy_, 1, Rate **) X(rates_policy_, 2, Policy *) \
+    X(mixed_bits_, 0, Mixed) X(mixed_bits_, 1, Mixed) X(mixed_bits_, 2, LongBits) \
+    X(empty_unnamed_outer_, 0, Empty) X(empty_unnamed_outer_, 1, Empty) X(empty_unnamed_outer_, 2, Unnamed) \
+    X(empty_unnamed_outer_, 3, Outer) X(ping, 0, void) X(tariff, 0, Tariff *) \
+    X(tariffWithTitle_handle_, 0, id) X(tariffWithTitle_handle_, 1, const char *) \
+    X(tariffWithTitle_handle_, 2, Handle *) PRICED_PARTS(X)
+
+#ifdef __BLOCKS__
+#define PRICED_PARTS(X) \
+    X(pricedBy_base_, 0, Tariff *) X(pricedBy_base_, 1, Tariff *) X(pricedBy_base_, 2, double) \
+    X(ratedBy_count_, 0, id<Rated>) X(ratedBy_count_, 1, id<Rated>) X(ratedBy_count_, 2, int) \
+    X(applied_to_, 0, double) X(applied_to_, 1, RuleBlock) X(applied_to_, 2, Tariff *) \
+    X(when_, 0, void) X(when_, 1, HookBlock)
+#else
+#define PRICED_PARTS(X)
+#endif
 
 #ifdef __clang__
 
@@ -348,12 +476,17 @@ typedef float Vector __attribute__((vector_size(16)));
     const int widths_##name = widths;
 TYPES(TEXT)
 
+#define PART(method, at, type) const char part_##method##_##at[] = @encode(type);
+PARTS(PART)
+
 #else
 
 #include <objc/runtime.h>
 #include <stdio.h>
 
 #define SHOW(name, widths) printf("encode %s %s %zu %d\n", #name, @encode(name), sizeof(name), widths);
+
+#define SHOW_PART(method, at, type) printf("part %s_%d %s\n", #method, at, @encode(type));
 
 static void show_methods(Class class) {
     unsigned int count, i;
@@ -369,6 +502,7 @@ int main(void) {
     Class class = objc_getClass("Tariff");
     Ivar *variables = class_copyIvarList(class, &count);
     TYPES(SHOW)
+    PARTS(SHOW_PART)
     for (i = 0; i < count; i++) {
         printf("ivar %s %s - 0\n", ivar_getName(variables[i]), ivar_getTypeEncoding(variables[i]));
     }
