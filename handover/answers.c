@@ -20,7 +20,7 @@ struct tree {
 
 static struct tree first, second;
 static struct text text;
-static uint64_t values[3];
+static uint64_t values[3], list[BERZHOTUN_MAX_SIGNATURE];
 static uint8_t out[BERZHOTUN_MAX_PRINT];
 
 static void bad(const char *what) {
@@ -110,6 +110,21 @@ static void read_question(char *argument, int from_start) {
     printf("\n");
 }
 
+static void signature_question(const char *argument) {
+    uint64_t refusal, i;
+    load_text(argument);
+    refusal = berzhotun_signature(text.bytes, text.length, list, BERZHOTUN_MAX_SIGNATURE, values);
+    if (refusal != 0) {
+        say_refusal("no", refusal);
+        return;
+    }
+    printf("ok");
+    for (i = 0; i < 3 * values[0]; i++) {
+        printf("%c%" PRIu64, i % 3 == 0 ? ' ' : ',', list[i]);
+    }
+    printf("\n");
+}
+
 static void pair_question(const char *question) {
     if (strcmp(question, "equal") == 0) {
         printf("%s ", yes_or_no(berzhotun_eq(LENT(first), LENT(second), values)));
@@ -148,6 +163,8 @@ static void answer(char *line) {
         bad("an empty line");
     } else if (strcmp(question, "read") == 0 || strcmp(question, "start") == 0) {
         read_question(one, *question == 's');
+    } else if (strcmp(question, "signature") == 0) {
+        signature_question(one);
     } else if ((refusal = load_tree(one, &first)) != 0) {
         say_refusal("unread", refusal);
     } else if (strcmp(question, "text") == 0) {

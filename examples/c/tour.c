@@ -31,20 +31,19 @@ static const char *const in_words[] = {
     "the struct or union is not closed",
     "this is no name for a struct or union",
     "something follows the type",
+    "a number must follow the type",
+    "the number is above 4,294,967,295",
+    "the signature has no byte",
 };
 
 static const char *yes_or_no(uint64_t answer) {
     return answer ? "yes" : "no";
 }
 
-/* Refusal 8 has its place right behind the byte; the mark goes under the byte. */
-static int column(uint64_t refusal, uint64_t place) {
-    return (int)(refusal == BERZHOTUN_UNKNOWN_BYTE ? place - 1 : place);
-}
-
-static void show_refusal(const char *text, uint64_t refusal, const uint64_t values[3]) {
-    printf("  %s\n  %*s^ refusal %" PRIu64 " at place %" PRIu64 ": %s\n", text,
-           column(refusal, values[0]), "", refusal, values[0], in_words[refusal]);
+/* The mark goes under the byte, which may stand right before the place. */
+static void show_refusal(const char *text, uint64_t refusal, const uint64_t values[3], int is_behind) {
+    printf("  %s\n  %*s^ refusal %" PRIu64 " at place %" PRIu64 ": %s\n", text, (int)values[0] - is_behind, "",
+           refusal, values[0], in_words[refusal]);
 }
 
 /* Whether the text was read; what was wrong is printed. */
@@ -52,7 +51,7 @@ static int read_text(const char *text, struct tree *tree) {
     uint64_t values[3];
     uint64_t refusal = berzhotun_from_str((const uint8_t *)text, strlen(text), LENT(*tree), values);
     if (refusal != 0) {
-        show_refusal(text, refusal, values);
+        show_refusal(text, refusal, values, refusal == BERZHOTUN_UNKNOWN_BYTE);
     }
     return refusal == 0;
 }
@@ -134,17 +133,43 @@ static void compare_some(void) {
     compare("@?", "@\"Rate\"");
 }
 
-/* A method's signature: one type after the other, each with a number behind it. */
-static void take_apart(const char *signature) {
-    const uint8_t *text = (const uint8_t *)signature;
-    size_t length = strlen(signature), at = 0;
+/* One type from the start of a text, and where the rest begins. */
+static void read_start(const char *text) {
     static struct tree tree;
     uint64_t values[3];
-    printf("\n%s\n", signature);
-    while (at < length && berzhotun_from_start_of_str(text + at, length - at, LENT(tree), values) == 0) {
+    printf("\n%s\n", text);
+    if (berzhotun_from_start_of_str((const uint8_t *)text, strlen(text), LENT(tree), values) == 0) {
         show_print(&tree);
-        at += values[0];
-        at += strspn(signature + at, "0123456789");
+        printf("  leaves %s\n", text + values[0]);
+    }
+}
+
+/* A method's signature: one type after the other, each with a number behind it. */
+static void take_apart(const char *signature) {
+    static uint64_t list[BERZHOTUN_MAX_SIGNATURE];
+    uint64_t values[3], i;
+    uint64_t refusal = berzhotun_signature((const uint8_t *)signature, strlen(signature), list,
+                                           BERZHOTUN_MAX_SIGNATURE, values);
+    if (refusal != 0) {
+        /* A digit where a type must begin is at its own place. */
+        int is_digit = values[1] >= '0' && values[1] <= '9';
+        show_refusal(signature, refusal, values, refusal == BERZHOTUN_UNKNOWN_BYTE && !is_digit);
+        return;
+    }
+    printf("  %s\n", signature);
+    for (i = 0; i < values[0]; i++) {
+        printf("    %-12.*s from %2" PRIu64 ", %2" PRIu64 " bytes, number %" PRIu64 "\n", (int)list[3 * i + 1],
+               signature + list[3 * i], list[3 * i], list[3 * i + 1], list[3 * i + 2]);
+    }
+}
+
+static void take_some_apart(void) {
+    static const char *const signatures[] = {"v24@0:8@16",    "d36@0:8d16r^{Rate=id}24i32", "b168",    "v24@0:8@",
+                                             "v24@0:8{R=5}0", "v24@0:8@4294967296",         "v24@0:8x"};
+    size_t i;
+    printf("\n");
+    for (i = 0; i < sizeof signatures / sizeof signatures[0]; i++) {
+        take_apart(signatures[i]);
     }
 }
 
@@ -161,7 +186,8 @@ static void refuse_some(void) {
 int main(void) {
     read_print_size();
     compare_some();
-    take_apart("d24@0:8i16");
+    read_start("{R=i}16@0:8");
+    take_some_apart();
     refuse_some();
     return 0;
 }

@@ -1,23 +1,15 @@
-//! Takes a method's signature apart, type after type, and measures each.
+//! Takes a method's signature apart, and measures each of its types.
 
-use berzhotun::{parse_start, Refusal};
-
-/// A type is followed by its number in the call's frame.
-fn without_number(text: &[u8]) -> &[u8] {
-    let digits = text.iter().take_while(|byte| byte.is_ascii_digit()).count();
-    &text[digits..]
-}
+use berzhotun::{parse, parse_signature, Refusal};
 
 fn show(signature: &str) -> Result<(), Refusal> {
     println!("{signature}");
-    let mut rest = signature.as_bytes();
-    while !rest.is_empty() {
-        let (tree, after) = parse_start(rest)?;
-        let size = tree
+    for entry in parse_signature(signature.as_bytes())? {
+        let size = parse(entry.encoding)?
             .size()?
             .map_or("no size".to_string(), |bytes| format!("{bytes} bytes"));
-        println!("  {:<12} {size}", String::from_utf8_lossy(&tree.to_bytes()));
-        rest = without_number(after);
+        let encoding = String::from_utf8_lossy(entry.encoding);
+        println!("  {encoding:<12} {size:<9} {:>2}", entry.offset);
     }
     Ok(())
 }
@@ -27,7 +19,9 @@ fn main() {
         "d24@0:8i16",
         "v32@0:8r^{Rate=id}16Q24",
         "{Rate=id}24@0:8[4i]16",
-        "i16@0:8{a-b=i}",
+        "i16@0:8{a-b=i}16",
+        "v24@0:8@16i",
+        "v24@0:8{R=5}0",
     ] {
         if let Err(refusal) = show(signature) {
             println!("  refusal {}: {refusal}", refusal.number());

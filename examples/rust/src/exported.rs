@@ -19,6 +19,13 @@ extern "C" {
         names_len: usize,
         values: *mut [u64; 3],
     ) -> u64;
+    pub fn berzhotun_signature(
+        text: *const u8,
+        text_len: usize,
+        list: *mut u64,
+        list_len: usize,
+        values: *mut [u64; 3],
+    ) -> u64;
     pub fn berzhotun_equivalent_to(
         a_words: *const u64,
         a_words_len: usize,

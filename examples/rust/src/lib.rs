@@ -7,6 +7,9 @@
 //! assert_eq!(rate.size(), Ok(Some(12)));
 //! assert!(rate.equivalent_to(&berzhotun::parse(b"{Rate}").unwrap()));
 //! assert_eq!(rate.to_bytes(), b"{Rate=id}");
+//!
+//! let types = berzhotun::parse_signature(b"v24@0:8@16").unwrap();
+//! assert_eq!((types[3].encoding, types[3].offset), (&b"@"[..], 16));
 //! ```
 
 mod exported;
@@ -31,8 +34,8 @@ pub fn parse(text: &[u8]) -> Result<Tree, Refusal> {
 
 /// Reads one type from the start of the text and returns it with the rest of the text.
 ///
-/// A digit where a type must begin is eaten and gives the tree None: pass over the numbers of a method's
-/// signature before asking for the next type.
+/// A digit where a type must begin is eaten and gives the tree None: for a whole method signature ask
+/// [`parse_signature`].
 pub fn parse_start(text: &[u8]) -> Result<(Tree, &[u8]), Refusal> {
     read(exported::berzhotun_from_start_of_str, text).map(|(tree, place)| (tree, &text[place..]))
 }
@@ -64,6 +67,54 @@ fn read(reader: Reader, text: &[u8]) -> Result<(Tree, usize), Refusal> {
     words.truncate(words[3] as usize);
     names.truncate(words[2] as usize);
     Ok((Tree { words, names }, values[0] as usize))
+}
+
+/// A type of a method's signature.
+#[derive(Clone, Copy, Debug, PartialEq, Eq)]
+pub struct Entry<'a> {
+    /// Where it begins in the signature.
+    pub start: usize,
+    /// Its bytes with its qualifiers, in the caller's own text. [`parse`] reads them.
+    pub encoding: &'a [u8],
+    /// The number behind it: its place in the call's frame, or for the result the frame's size.
+    pub offset: u32,
+}
+
+/// Reads a whole method signature, as `v24@0:8@16`: its types in their order, the result first.
+///
+/// A digit where a type must begin is refused, by [`Refusal::Unknown`] at its own place.
+pub fn parse_signature(text: &[u8]) -> Result<Vec<Entry<'_>>, Refusal> {
+    // A text that is too long is refused whatever is lent.
+    let mut list = vec![0; 3 * (text.len().min(MAX_TEXT) / 2)];
+    let mut values = [0; 3];
+    // SAFETY: each pointer goes with its own list's length; the list that is written is new.
+    let number = unsafe {
+        exported::berzhotun_signature(
+            text.as_ptr(),
+            text.len(),
+            list.as_mut_ptr(),
+            list.len(),
+            &mut values,
+        )
+    };
+    if number != 0 {
+        return Err(Refusal::new(number, values));
+    }
+    let entries = list.chunks_exact(3).take(values[0] as usize);
+    Ok(entries.map(|entry| Entry::new(text, entry)).collect())
+}
+
+impl<'a> Entry<'a> {
+    /// From the three numbers that the library has for it.
+    fn new(text: &'a [u8], numbers: &[u64]) -> Entry<'a> {
+        let start = numbers[0] as usize;
+        let end = start + numbers[1] as usize;
+        Entry {
+            start,
+            encoding: &text[start..end],
+            offset: u32::try_from(numbers[2]).expect("a larger number is refused"),
+        }
+    }
 }
 
 type Pair = unsafe extern "C" fn(

@@ -27,7 +27,8 @@ pub enum Refusal {
     SizeTooLarge,
     /// 7: a needed byte is missing at the text's end.
     UnexpectedEnd { place: usize },
-    /// 8: no type starts with the byte right before the place, or it closes what is not open.
+    /// 8: no type starts with the byte right before the place, or it closes what is not open. In a
+    /// signature a digit stands at the place itself.
     Unknown { place: usize, byte: u8 },
     /// 9: the byte at the place stands after `j` and makes no complex number.
     UnknownAfterComplex { place: usize, byte: u8 },
@@ -43,6 +44,12 @@ pub enum Refusal {
     InvalidIdentifier { place: usize, container: Container },
     /// 15: bytes remain after the type.
     NotAllConsumed { place: usize },
+    /// 16: in a signature no number stands at the place, behind a type.
+    ExpectedOffset { place: usize },
+    /// 17: in a signature the number right before the place is above 4,294,967,295.
+    OffsetTooLarge { place: usize },
+    /// 18: the signature has no byte.
+    EmptySignature,
 }
 
 impl Refusal {
@@ -71,6 +78,9 @@ impl Refusal {
             13 => Refusal::WrongEndContainer { place, container },
             14 => Refusal::InvalidIdentifier { place, container },
             15 => Refusal::NotAllConsumed { place },
+            16 => Refusal::ExpectedOffset { place },
+            17 => Refusal::OffsetTooLarge { place },
+            18 => Refusal::EmptySignature,
             _ => unreachable!("the library has no refusal {number}"),
         }
     }
@@ -93,6 +103,9 @@ impl Refusal {
             Refusal::WrongEndContainer { .. } => 13,
             Refusal::InvalidIdentifier { .. } => 14,
             Refusal::NotAllConsumed { .. } => 15,
+            Refusal::ExpectedOffset { .. } => 16,
+            Refusal::OffsetTooLarge { .. } => 17,
+            Refusal::EmptySignature => 18,
         }
     }
 }
@@ -119,7 +132,7 @@ impl fmt::Display for Refusal {
             Refusal::Unknown { place, byte } => {
                 write!(
                     f,
-                    "`{}` before {place} is out of place",
+                    "`{}` is out of place, reading stops at {place}",
                     byte.escape_ascii()
                 )
             }
@@ -146,6 +159,13 @@ impl fmt::Display for Refusal {
             Refusal::NotAllConsumed { place } => {
                 write!(f, "the type ends at {place}, the text does not")
             }
+            Refusal::ExpectedOffset { place } => {
+                write!(f, "a number must follow the type at {place}")
+            }
+            Refusal::OffsetTooLarge { place } => {
+                write!(f, "the number before {place} is above 4,294,967,295")
+            }
+            Refusal::EmptySignature => write!(f, "the signature has no byte"),
         }
     }
 }

@@ -1,6 +1,6 @@
 //! Cases of the scope document, through the wrapper.
 
-use berzhotun::{parse, parse_start, Container, Refusal, Tree, MAX_TEXT};
+use berzhotun::{parse, parse_signature, parse_start, Container, Entry, Refusal, Tree, MAX_TEXT};
 
 fn tree(text: &str) -> Tree {
     parse(text.as_bytes()).unwrap_or_else(|refusal| panic!("{text}: {refusal}"))
@@ -199,6 +199,97 @@ fn the_rest_is_the_callers_own_text() {
             byte: b']'
         }
     );
+}
+
+fn entry(start: usize, encoding: &[u8], offset: u32) -> Entry<'_> {
+    Entry {
+        start,
+        encoding,
+        offset,
+    }
+}
+
+#[test]
+fn signatures() {
+    assert_eq!(
+        parse_signature(b"v24@0:8@16"),
+        Ok(vec![
+            entry(0, b"v", 24),
+            entry(3, b"@", 0),
+            entry(5, b":", 8),
+            entry(7, b"@", 16)
+        ])
+    );
+    assert_eq!(
+        parse_signature(b"Vv40rn*007@\"Rate\"4294967295{R=b0i3}0"),
+        Ok(vec![
+            entry(0, b"Vv", 40),
+            entry(4, b"rn*", 7),
+            entry(10, b"@\"Rate\"", 4294967295),
+            entry(27, b"{R=b0i3}", 0)
+        ])
+    );
+    let most = parse_signature(&b"i0".repeat(MAX_TEXT / 2)).map(|entries| entries.len());
+    assert_eq!(most, Ok(MAX_TEXT / 2));
+}
+
+#[test]
+fn signatures_that_are_refused() {
+    let cases: [(&[u8], Refusal); 11] = [
+        (b"", Refusal::EmptySignature),
+        (b"v", Refusal::ExpectedOffset { place: 1 }),
+        (b"b168", Refusal::ExpectedOffset { place: 4 }),
+        (b"v24r", Refusal::ExpectedOffset { place: 4 }),
+        (b"v24@+8", Refusal::ExpectedOffset { place: 4 }),
+        (b"v4294967296", Refusal::OffsetTooLarge { place: 11 }),
+        (
+            b"v18446744073709551616i",
+            Refusal::OffsetTooLarge { place: 21 },
+        ),
+        (
+            b"v24{R=5}0",
+            Refusal::Unknown {
+                place: 6,
+                byte: b'5',
+            },
+        ),
+        (
+            b"v24x",
+            Refusal::Unknown {
+                place: 4,
+                byte: b'x',
+            },
+        ),
+        (
+            b"j5",
+            Refusal::UnknownAfterComplex {
+                place: 1,
+                byte: b'5',
+            },
+        ),
+        (b"[3i5]8", Refusal::WrongEndArray { place: 3 }),
+    ];
+    for (text, refusal) in cases {
+        assert_eq!(parse_signature(text), Err(refusal));
+        assert!((7..=18).contains(&refusal.number()) && !refusal.to_string().is_empty());
+    }
+    assert_eq!(
+        parse_signature(&[b'i'; MAX_TEXT + 1]),
+        Err(Refusal::TextTooLong)
+    );
+}
+
+#[test]
+fn a_signatures_types_are_the_callers_own_text() {
+    let text = b"d36@0:8d16r^{Rate=id}24i32";
+    let entries = parse_signature(text).unwrap();
+    for entry in &entries {
+        let end = entry.start + entry.encoding.len();
+        assert!(std::ptr::eq(entry.encoding, &text[entry.start..end]));
+        assert!(parse(entry.encoding).is_ok());
+    }
+    let table = tree("^{Rate=id}");
+    assert_eq!(table.matches(entries[4].encoding), Ok(true));
 }
 
 #[test]

@@ -2,6 +2,5 @@
 #pragma once
 #include <stddef.h>
 size_t strlen(const char *);
-size_t strspn(const char *, const char *);
 char *strrchr(const char *, int);
 int strcmp(const char *, const char *);
