@@ -20,7 +20,8 @@ pub signature-too-long : (text list : List ℕ) → maxText < length text → si
 signature-too-long text list h = sym (answer-away text list TextTooLong (too-long text list h) .0)
 
 -- With a list of this length the answer is what the signature gives: refusals 1 and 2 do not occur.
-pub room-for-signature : (text list : List ℕ) → length text ≤ maxText → signatureFor (length text) ≤ length list → signatureAnswer text list ≡ reading (signature text)
+pub room-for-signature : (text list : List ℕ) → length text ≤ maxText → signatureFor (length text) ≤ length list → signatureAnswer text list
+    ≡ reading (signature text)
 room-for-signature text list h l = sym (answer-read text list (signature text) (has-room text list h l) refl .0)
 
 -- With a number fewer it is refused by 2.
@@ -33,5 +34,6 @@ most-numbers l h = omega arith
 
 -- For each even length there is a signature with as many entries as there is room for: `i0` repeated.
 pub numbers-reached : (m : ℕ)
-    → (length (written (ints (suc m))) ≡ 2 * suc m) × (signature (written (ints (suc m))) ≡ entries (entriesFor 0 (ints (suc m)))) × (3 * length (entriesFor 0 (ints (suc m))) ≡ signatureFor (2 * suc m))
+    → (length (written (ints (suc m))) ≡ 2 * suc m) × (signature (written (ints (suc m))) ≡ entries (entriesFor 0 (ints (suc m)))) ×
+    (3 * length (entriesFor 0 (ints (suc m))) ≡ signatureFor (2 * suc m))
 numbers-reached m = (ints-length (suc m), ints-read m, omega (arith, ints-entries 0 (suc m)))

@@ -84,12 +84,14 @@ unfolding contained
 part-contained k m s t (items ts u) r p = ahead-on r p
 part-contained k m s t (itemsRefused e u) r p = rest-of-rest (r .0) p
 
-module _ (inner : List ℕ → Parsed) (fields : ContainerKind → List ℕ → Items) (x : (t : List ℕ) → PartOf t (inner t)) (y : (k : ContainerKind) (t : List ℕ) → FieldsOf t (fields k t)) where
+module _ (inner : List ℕ → Parsed) (fields : ContainerKind → List ℕ → Items) (x : (t : List ℕ) → PartOf t (inner t))
+    (y : (k : ContainerKind) (t : List ℕ) → FieldsOf t (fields k t)) where
   part-array : (b : ℕ) (s : List ℕ) (q : R.Number) → LeftOf s q → PartOf (b ∷ s) (elim q [ R.value n t ↦ item n (inner t) | R.noNumber e t ↦ refused e t ])
   part-array b s (R.value n t) l = part-item n (b ∷ s) t (inner t) (ahead l) (x t)
   part-array b s (R.noNumber e t) l = rest-later l
 
-  part-container : (b : ℕ) (k : ContainerKind) (s : List ℕ) (q : R.Named) → NamedOf [] s q → PartOf (b ∷ s) (elim q [ R.named m t ↦ contained k m (fields k t) | R.unnamed e t ↦ refused e t ])
+  part-container : (b : ℕ) (k : ContainerKind) (s : List ℕ) (q : R.Named) → NamedOf [] s q
+      → PartOf (b ∷ s) (elim q [ R.named m t ↦ contained k m (fields k t) | R.unnamed e t ↦ refused e t ])
   part-container b k s (R.named m t) f =
       part-contained k m (b ∷ s) t (fields k t) (ahead (rest-of-rest (record { taken = f .size; within = f .inside; is = refl }) (f .after))) (y k t)
   part-container b k s (R.unnamed e t) f = rest-later f
@@ -112,7 +114,8 @@ unfolding addItem
 fields-add m ds s t (items ts u) r p = rest-of-rest r p
 fields-add m ds s t (itemsRefused e u) r p = rest-of-rest r p
 
-fields-next : (k : ContainerKind) (s : List ℕ) (q : Parsed) (more : List ℕ → Items) → PartOf s q → ((t : List ℕ) → FieldsOf t (more t)) → FieldsOf s (nextItem k q more)
+fields-next : (k : ContainerKind) (s : List ℕ) (q : Parsed) (more : List ℕ → Items) → PartOf s q → ((t : List ℕ) → FieldsOf t (more t))
+    → FieldsOf s (nextItem k q more)
 unfolding nextItem
 fields-next k s empty more p f = record { taken = length s; within = omega arith; is = sym (drop-length s) }
 fields-next k s (encoding m ds t) more p f = fields-add m ds s t (more t) (p .0) (f t)
@@ -156,7 +159,8 @@ unfolding skippedAt
 answered text at l (remaining t) r = let u = unread-at l r in (ap remaining (u .is), u .within)
 answered text at l mismatch r = refl
 
-pub skipped-is : (text : List ℕ) (at : ℕ) (kind : ContainerKind) (r : SkippedFields) → at ≤ length text → r ≡ skippedAt text (skipItems kind (drop at text)) → SkippedIs text r (skipItems kind (drop at text))
+pub skipped-is : (text : List ℕ) (at : ℕ) (kind : ContainerKind) (r : SkippedFields) → at ≤ length text → r ≡ skippedAt text (skipItems kind (drop at text))
+    → SkippedIs text r (skipItems kind (drop at text))
 unfolding skipItems
 skipped-is text at kind r l e =
     let s : List ℕ = drop at text in
@@ -180,7 +184,8 @@ encoding-rest : (s : List ℕ) → EncodedOf s (parseEncodingOrNone s)
 unfolding parseEncodingOrNone parse
 encoding-rest s =
     let u = stripLeadingQualifiers s in
-    encoded-of s u (record { taken = length s - length u; within = omega arith; is = sym (strip-leaves s) }) (parseInner (length u + length u) u) (part-inner (length u + length u) u)
+    encoded-of s u (record { taken = length s - length u; within = omega arith; is = sym (strip-leaves s) }) (parseInner (length u + length u) u)
+    (part-inner (length u + length u) u)
 
 -- A type was passed, whichever it is, and a byte at least unless the text had ended.
 pub record EncodingPassed (text : List ℕ) (at to : ℕ) (q : Encoded) : Type 0 where
@@ -203,5 +208,6 @@ answered-encoding text at l (encoded m cs t) r =
     record { label = m; children = cs; is = ap (encoded m cs) (u .is); onward = λ h. let k = r .1 (omega arith) in omega arith; within = u .within }
 answered-encoding text at l (notEncoded e t) r = let u = unread-at l r in (ap (notEncoded e) (u .is), u .within)
 
-pub encoding-is : (text : List ℕ) (at : ℕ) (r : SkippedPart) → at ≤ length text → r ≡ encodingAt text (parseEncodingOrNone (drop at text)) → EncodingIs text at r (parseEncodingOrNone (drop at text))
+pub encoding-is : (text : List ℕ) (at : ℕ) (r : SkippedPart) → at ≤ length text → r ≡ encodingAt text (parseEncodingOrNone (drop at text))
+    → EncodingIs text at r (parseEncodingOrNone (drop at text))
 encoding-is text at r l e = rw e (answered-encoding text at l (parseEncodingOrNone (drop at text)) (encoding-rest (drop at text)))

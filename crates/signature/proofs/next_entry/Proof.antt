@@ -7,7 +7,8 @@ use Rattle.signature.proofs.next_entry.Tie as tie
 
 next-number-requires : tie.Need-next-number-requires
 next-number-requires c κs =
-    let s = c .before .before .before in
+    let c3 = c .before .before .before in
+    let s = c3 in
     let p = s .before .before in
     let h = p .pre in
     let r = rw (c .before .to .given .1) at (encoding-is (p .args .text .now) (p .args .at) _ (omega arith) (s .skip-encoding-or-none .ensures)) in
@@ -16,18 +17,22 @@ next-number-requires c κs =
 
 returns : tie.Need-returns
 returns c =
-    let s = c .before .before .before .before in
+    let c2 = c .before .before in
+    let c4 = c2 .before .before in
+    let s = c4 in
     let p = s .before .before in
     let h = p .pre in
-    let r = rw (c .before .before .to .given .1) at (encoding-is (p .args .text .now) (p .args .at) _ (omega arith) (s .skip-encoding-or-none .ensures)) in
+    let r = rw (c2 .to .given .1) at (encoding-is (p .args .text .now) (p .args .at) _ (omega arith) (s .skip-encoding-or-none .ensures)) in
     entry-is _ _ h _ r (c .next-number .result) (c .next-number .ensures)
 
 returns-2 : tie.Need-returns-2
 returns-2 c =
-    let s = c .before .before .before .before in
+    let c2 = c .before .before in
+    let c4 = c2 .before .before in
+    let s = c4 in
     let p = s .before .before in
     let h = p .pre in
-    let r = rw (c .before .before .why .given .1) at (encoding-is (p .args .text .now) (p .args .at) _ (omega arith) (s .skip-encoding-or-none .ensures)) in
+    let r = rw (c2 .why .given .1) at (encoding-is (p .args .text .now) (p .args .at) _ (omega arith) (s .skip-encoding-or-none .ensures)) in
     rw (c .own-place .ensures) (type-refused _ _ h _ _ (r .1) (r .0))
 
 pub next-entry-spec : {M : Type 1} → statement M

@@ -15,33 +15,53 @@ returns-3 c = answer-empty _ _ (c .if3 .taken)
 
 mul-from : tie.Need-mul-from
 mul-from c =
-    let r = rw (c .before .k .given .1) at (c .before .before .before .before .before .read-entries .ensures) in
-    omega (arith, few-entries _ _ _ _ r, c .before .before .before .before .before .before .before .before .before .if1 .left)
+    let c5 = c .before .before .before .before .before in
+    let c9 = c5 .before .before .before .before in
+    let r = rw (c .before .k .given .1) at (c5 .read-entries .ensures) in
+    omega (arith, few-entries _ _ _ _ r, c9 .if1 .left)
 
 mul-clear-words : tie.Need-mul-clear-words
 mul-clear-words c =
-    let r = rw (c .before .k .given .1) at (c .before .before .before .before .before .read-entries .ensures) in
-    omega (arith, few-entries _ _ _ _ r, c .before .before .before .before .before .before .before .before .before .if1 .left)
+    let c5 = c .before .before .before .before .before in
+    let c9 = c5 .before .before .before .before in
+    let r = rw (c .before .k .given .1) at (c5 .read-entries .ensures) in
+    omega (arith, few-entries _ _ _ _ r, c9 .if1 .left)
 
 sub-clear-words-2 : tie.Need-sub-clear-words-2
 sub-clear-words-2 c =
-    let r = rw (c .before .k .given .1) at (c .before .before .before .before .before .read-entries .ensures) in
+    let c5 = c .before .before .before .before .before in
+    let r = rw (c .before .k .given .1) at (c5 .read-entries .ensures) in
     omega (arith, few-entries _ _ _ _ r)
 
 part-clear-words-start-2 : tie.Need-part-clear-words-start-2
 part-clear-words-start-2 c =
-    let r = rw (c .before .k .given .1) at (c .before .before .before .before .before .read-entries .ensures) in
+    let c5 = c .before .before .before .before .before in
+    let r = rw (c .before .k .given .1) at (c5 .read-entries .ensures) in
     omega (arith, few-entries _ _ _ _ r)
 
 returns-4 : tie.Need-returns-4
 returns-4 c =
-    let r = rw (c .before .before .before .before .before .why .given .1) at (c .before .before .before .before .before .before .before .before .before .read-entries .ensures) in
-    refused-answered _ _ _ (omega (arith, c .before .before .before .before .before .before .before .before .before .before .before .if3 .left)) (omega (arith, c .before .before .before .before .before .before .before .before .before .before .before .before .before .if1 .left)) (omega (arith, c .before .before .before .before .before .before .before .before .before .before .before .before .if2 .left)) (r .0) _ _ (r .1) (c .before .before .clear-words .ensures)
+    let c2 = c .before .before in
+    let c5 = c2 .before .before .before in
+    let c9 = c5 .before .before .before .before in
+    let c11 = c9 .before .before in
+    let c12 = c11 .before in
+    let c13 = c12 .before in
+    let r = rw (c5 .why .given .1) at (c9 .read-entries .ensures) in
+    refused-answered _ _ _ (omega (arith, c11 .if3 .left)) (omega (arith, c13 .if1 .left)) (omega (arith, c12 .if2 .left)) (r .0) _ _ (r .1)
+    (c2 .clear-words .ensures)
 
 returns-5 : tie.Need-returns-5
 returns-5 c =
-    let r = rw (c .before .before .before .before .before .k .given .1) at (c .before .before .before .before .before .before .before .before .before .read-entries .ensures) in
-    all-answered _ _ _ (omega (arith, c .before .before .before .before .before .before .before .before .before .before .before .if3 .left)) (omega (arith, c .before .before .before .before .before .before .before .before .before .before .before .before .before .if1 .left)) (omega (arith, c .before .before .before .before .before .before .before .before .before .before .before .before .if2 .left)) (r .0) _ _ (r .1 .0) (r .1 .1) (c .before .before .clear-words2 .ensures)
+    let c2 = c .before .before in
+    let c5 = c2 .before .before .before in
+    let c9 = c5 .before .before .before .before in
+    let c11 = c9 .before .before in
+    let c12 = c11 .before in
+    let c13 = c12 .before in
+    let r = rw (c5 .k .given .1) at (c9 .read-entries .ensures) in
+    all-answered _ _ _ (omega (arith, c11 .if3 .left)) (omega (arith, c13 .if1 .left)) (omega (arith, c12 .if2 .left)) (r .0) _ _ (r .1 .0) (r .1 .1)
+    (c2 .clear-words2 .ensures)
 
 pub parse-signature-spec : {M : Type 1} → statement M
 parse-signature-spec =

@@ -24,14 +24,19 @@ same-length c = read-length _ _ _ _ _ (c .before .before .before .before .before
 
 returns : tie.Need-returns Inv-loop μ-loop
 returns c =
-    let l = c .before .before .before .before .before .loop in
-    read-refused _ _ _ _ _ (l .inv) _ (c .before .before .before .before .loop-test .taken) (rw (c .before .why .given .1) at (c .before .before .before .next-entry .ensures))
+    let c3 = c .before .before .before in
+    let c4 = c3 .before in
+    let c5 = c4 .before in
+    let l = c5 .loop in
+    read-refused _ _ _ _ _ (l .inv) _ (c4 .loop-test .taken) (rw (c .before .why .given .1) at (c3 .next-entry .ensures))
 
 put-entry-requires : tie.Need-put-entry-requires Inv-loop μ-loop
 put-entry-requires c κs =
-    let n = c .before .before .before .before in
+    let c2 = c .before .before in
+    let c4 = c2 .before .before in
+    let n = c4 in
     let l = n .before .before .loop in
-    let e = rw (c .before .before .size .given .1) at (n .next-entry .ensures) in
+    let e = rw (c2 .size .given .1) at (n .next-entry .ensures) in
     omega (arith, read-length _ _ _ _ _ (l .inv), l .inv .few, e .onward, e .within, n .before .before .before .before .before .pre)
 
 add-k : tie.Need-add-k Inv-loop μ-loop
@@ -43,16 +48,21 @@ add-k c =
 
 loop-less : tie.Need-loop-less Inv-loop μ-loop
 loop-less c =
-    let n = c .before .before .before .before .before .before .before in
-    let e = rw (c .before .before .before .before .before .size .given .1) at (n .next-entry .ensures) in
+    let c5 = c .before .before .before .before .before in
+    let c7 = c5 .before .before in
+    let n = c7 in
+    let e = rw (c5 .size .given .1) at (n .next-entry .ensures) in
     omega (arith, e .onward, e .within)
 
 loop-again : tie.Need-loop-again Inv-loop μ-loop
 loop-again c =
-    let n = c .before .before .before .before .before .before .before in
+    let c2 = c .before .before in
+    let c5 = c2 .before .before .before in
+    let c7 = c5 .before .before in
+    let n = c7 in
     let l = n .before .before .loop in
-    let e = rw (c .before .before .before .before .before .size .given .1) at (n .next-entry .ensures) in
-    read-more _ _ _ _ _ (l .inv) _ _ _ _ e (c .before .before .put-entry .ensures)
+    let e = rw (c5 .size .given .1) at (n .next-entry .ensures) in
+    read-more _ _ _ _ _ (l .inv) _ _ _ _ e (c2 .put-entry .ensures)
 
 same-length-2 : tie.Need-same-length-2 Inv-loop μ-loop
 same-length-2 c = read-length _ _ _ _ _ (c .before .loop .inv)

@@ -15,20 +15,28 @@ returns c = answer-none _ _ (c .if1 .taken)
 
 returns-2 : tie.Need-returns-2
 unfolding isCode
-returns-2 c = answer-code _ _ (c .before .before .before .if1 .left) (lt-ltb _ _ (rw (c .before .single-kind .ensures) at (c .if2 .taken)))
+returns-2 c =
+    let c3 = c .before .before .before in
+    answer-code _ _ (c3 .if1 .left) (lt-ltb _ _ (rw (c .before .single-kind .ensures) at (c .if2 .taken)))
 
 returns-3 : tie.Need-returns-3
-returns-3 c = answer-object _ _ (c .before .before .before .before .before .if1 .left) (sym (c .before .object-alone .ensures) ∙ c .if3 .taken)
+returns-3 c =
+    let c5 = c .before .before .before .before .before in
+    answer-object _ _ (c5 .if1 .left) (sym (c .before .object-alone .ensures) ∙ c .if3 .taken)
 
 skip-inner-requires : tie.Need-skip-inner-requires
 skip-inner-requires c κs =
-    let r = strip-at-within _ _ _ (omega (arith, c .before .before .before .before .before .before .before .if1 .left)) (c .before .strip-at .ensures) in
-    rw (whole (c .before .before .before .before .before .before .before .before .before .args .text .now)) r
+    let c7 = c .before .before .before .before .before .before .before in
+    let c9 = c7 .before .before in
+    let r = strip-at-within _ _ _ (omega (arith, c7 .if1 .left)) (c .before .strip-at .ensures) in
+    rw (whole (c9 .args .text .now)) r
 
 returns-4 : tie.Need-returns-4
 returns-4 c =
-    answer-encoding _ _ _ (sym (unread-stripped _ _) ∙ ap (λ k. drop k (c .before .before .before .before .before .before .before .before .before .before .before .args .text .now)) (sym (c .before .before .before .strip-at .ensures))) _ _
-    (rw (whole (c .before .before .before .before .before .before .before .before .before .before .before .args .text .now)) at (c .before .skip-inner .ensures)) (c .encoding-or-none .ensures)
+    let c3 = c .before .before .before in
+    let c11 = c3 .before .before .before .before .before .before .before .before in
+    answer-encoding _ _ _ (sym (unread-stripped _ _) ∙ ap (λ k. drop k (c11 .args .text .now)) (sym (c3 .strip-at .ensures))) _ _
+    (rw (whole (c11 .args .text .now)) at (c .before .skip-inner .ensures)) (c .encoding-or-none .ensures)
 
 pub skip-encoding-or-none-spec : {M : Type 1} → statement M
 skip-encoding-or-none-spec =
