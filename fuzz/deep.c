@@ -1,5 +1,5 @@
 /*
- * The deepest trees and texts through all ten functions, each call on a stack of its own with a page below it
+ * The deepest trees, texts and signatures through all ten functions, each call on a stack of its own with a page below it
  * that may not be touched. Prints the most stack that each function took.
  *
  *     deep [KIBIBYTES]    512 unless said otherwise

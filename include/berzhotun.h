@@ -189,8 +189,9 @@ uint64_t berzhotun_from_start_of_str(const uint8_t *text, size_t text_len, uint6
 
 /*
  * Reads a whole method signature, as `v24@0:8@16`: a type, then a decimal number (its place in the
- * call's frame), in turn until the text ends. The list gets three numbers for each type: where it
- * begins, how many bytes it has, both with its leading bytes among r n N o O R V, and its number.
+ * call's frame, or for the result the frame's size), in turn until the text ends. The list gets
+ * three numbers for each type: where it begins, how many bytes it has, both with its leading bytes
+ * among r n N o O R V, and its number.
  * So of `v24@0:8@16` the list is
  *
  *     0 1 24,  3 1 0,  5 1 8,  7 1 16,  and 0 three times
@@ -212,7 +213,7 @@ uint64_t berzhotun_from_start_of_str(const uint8_t *text, size_t text_len, uint6
  *         otherwise 0).
  *
  * A digit where a type must begin, also behind a pointer, in an array or in a record, is refused by
- * 8, and here alone the place is that of the byte itself.
+ * 8, and of all bytes that 8 names it alone has its own place.
  */
 uint64_t berzhotun_signature(const uint8_t *text, size_t text_len, uint64_t *list, size_t list_len,
                              uint64_t values[3]);

@@ -9,7 +9,7 @@
 //!     diff short-signatures LENGTH  every signature up to that length over some bytes
 //!     diff signatures SEED COUNT    random, well-formed and spoilt signatures
 //!     diff all SEED COUNT       each of these, with lengths 3 and 4
-//!     diff stack KIBIBYTES      the deepest trees and texts on a stack of that size
+//!     diff stack KIBIBYTES      the deepest trees, texts and signatures on a stack of that size
 //!     diff bench                times, as ratios to the crate's
 //!
 //! The exit status is 0 if there was no difference, 1 if there was one, 2 if the call makes no sense.

@@ -1,4 +1,4 @@
-//! The deepest trees and texts, put to the library alone on a stack of a given size. If that is too
+//! The deepest trees, texts and signatures, put to the library alone on a stack of a given size. If that is too
 //! small the process dies of it; there is nothing to compare.
 
 use std::thread::Builder;

@@ -253,7 +253,7 @@ impl ContainerKind {
     }
 }
 
-// The number of the refusal that reading from the start tells apart: no type starts with this byte.
+// The number of the refusal of which a digit is told apart: no type starts with this byte.
 const UNKNOWN: u64 = 8;
 
 // The table of refusals, as in specs/Refusal.antt: number, place, byte and container, 0 where there is none. A refusal more is its

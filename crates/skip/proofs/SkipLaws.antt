@@ -13,7 +13,8 @@ use Rattle.kinds.specs.Byte.{among}
 use Rattle.kinds.specs.Container.{endByte, sameContainer}
 use Rattle.kinds.specs.Expect.{skipItems, remaining, mismatch}
 use Rattle.kinds.specs.Parse as R
-use Rattle.kinds.specs.Parse.{start, inSingles, singles, inOthers, others, begin, leaf, encoding, refused, parseInner, parseItems, held, item, maxU64, qualifiers, isQualifier, stripLeadingQualifiers, encodingOrNone, parseEncodingOrNone}
+use Rattle.kinds.specs.Parse.{start, inSingles, singles, inOthers, others, begin, leaf, encoding, refused}
+use Rattle.kinds.specs.Parse.{parseInner, parseItems, held, item, maxU64, qualifiers, isQualifier, stripLeadingQualifiers, encodingOrNone, parseEncodingOrNone}
 use Rattle.kinds.specs.Tree.{Label, end, node, primitive, bitField, typedBitField, array, none}
 use Rattle.kinds.specs.declared.ContainerKind.{ContainerKind}
 use Rattle.kinds.specs.declared.ErrorKind.{ErrorKind}
@@ -28,7 +29,8 @@ use Rattle.codes.proofs.CodeLaws.{single-code, indirection-is}
 use Rattle.codes.proofs.StepLaws.{parse-step, parse-nil, begins, begins-held, begins-item, next-is, fuel-on, closed-in, closed-is, closes-it, closes-not, same-self, closes-in, closes-starts}
 use Rattle.codes.proofs.TokenLaws.{TokenIs}
 use Rattle.skip.specs.Answer.{skippedAt, encodingAt}
-use Rattle.skip.specs.Skips.{SkippedIs, Passed, Skips, SkippedItemsIs, SkipsItems, tokenSkipped, underSkipped, heldSkipped, itemSkipped, containedSkipped, endSkipped, fieldsOf, encodingOf, endsObject, objectAlone}
+use Rattle.skip.specs.Skips.{SkippedIs, Passed, Skips, SkippedItemsIs, SkipsItems, tokenSkipped, underSkipped}
+use Rattle.skip.specs.Skips.{heldSkipped, itemSkipped, containedSkipped, endSkipped, fieldsOf, encodingOf, endsObject, objectAlone}
 use Rattle.skip.specs.declared.Skipped.{Skipped}
 use Rattle.skip.specs.declared.Skipped.the-variants.{Empty, Encoding, ContainerEnd, ArrayEnd, Refused}
 use Rattle.skip.specs.declared.SkippedFields.{SkippedFields}

@@ -119,15 +119,10 @@ impl fmt::Display for Container {
     }
 }
 
-impl fmt::Display for Refusal {
-    fn fmt(&self, f: &mut fmt::Formatter<'_>) -> fmt::Result {
+impl Refusal {
+    /// The words of those that reading a type meets.
+    fn fmt_type(&self, f: &mut fmt::Formatter<'_>) -> fmt::Result {
         match *self {
-            Refusal::TextTooLong => write!(f, "the text has more than 2,000 bytes"),
-            Refusal::ListTooShort => write!(f, "a lent list is too short"),
-            Refusal::BadSheet => write!(f, "the lists are no sheet"),
-            Refusal::BadName => write!(f, "a struct or union has a name that is none"),
-            Refusal::OutputTooShort => write!(f, "the output is too short"),
-            Refusal::SizeTooLarge => write!(f, "the size is above 2^64 - 1"),
             Refusal::UnexpectedEnd { place } => write!(f, "something is missing at {place}"),
             Refusal::Unknown { place, byte } => {
                 write!(
@@ -159,6 +154,20 @@ impl fmt::Display for Refusal {
             Refusal::NotAllConsumed { place } => {
                 write!(f, "the type ends at {place}, the text does not")
             }
+            _ => Ok(()),
+        }
+    }
+}
+
+impl fmt::Display for Refusal {
+    fn fmt(&self, f: &mut fmt::Formatter<'_>) -> fmt::Result {
+        match *self {
+            Refusal::TextTooLong => write!(f, "the text has more than 2,000 bytes"),
+            Refusal::ListTooShort => write!(f, "a lent list is too short"),
+            Refusal::BadSheet => write!(f, "the lists are no sheet"),
+            Refusal::BadName => write!(f, "a struct or union has a name that is none"),
+            Refusal::OutputTooShort => write!(f, "the output is too short"),
+            Refusal::SizeTooLarge => write!(f, "the size is above 2^64 - 1"),
             Refusal::ExpectedOffset { place } => {
                 write!(f, "a number must follow the type at {place}")
             }
@@ -166,6 +175,7 @@ impl fmt::Display for Refusal {
                 write!(f, "the number before {place} is above 4,294,967,295")
             }
             Refusal::EmptySignature => write!(f, "the signature has no byte"),
+            _ => self.fmt_type(f),
         }
     }
 }

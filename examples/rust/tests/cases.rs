@@ -1,4 +1,4 @@
-//! Cases of the scope document, through the wrapper.
+//! Cases of the scope document and of signatures, through the wrapper.
 
 use berzhotun::{parse, parse_signature, parse_start, Container, Entry, Refusal, Tree, MAX_TEXT};
 
@@ -234,8 +234,8 @@ fn signatures() {
 }
 
 #[test]
-fn signatures_that_are_refused() {
-    let cases: [(&[u8], Refusal); 11] = [
+fn signatures_whose_numbers_are_refused() {
+    let cases: [(&[u8], Refusal); 7] = [
         (b"", Refusal::EmptySignature),
         (b"v", Refusal::ExpectedOffset { place: 1 }),
         (b"b168", Refusal::ExpectedOffset { place: 4 }),
@@ -246,20 +246,23 @@ fn signatures_that_are_refused() {
             b"v18446744073709551616i",
             Refusal::OffsetTooLarge { place: 21 },
         ),
-        (
-            b"v24{R=5}0",
-            Refusal::Unknown {
-                place: 6,
-                byte: b'5',
-            },
-        ),
-        (
-            b"v24x",
-            Refusal::Unknown {
-                place: 4,
-                byte: b'x',
-            },
-        ),
+    ];
+    for (text, refusal) in cases {
+        assert_eq!(parse_signature(text), Err(refusal));
+        assert!((16..=18).contains(&refusal.number()) && !refusal.to_string().is_empty());
+    }
+    assert_eq!(
+        parse_signature(&[b'i'; MAX_TEXT + 1]),
+        Err(Refusal::TextTooLong)
+    );
+}
+
+#[test]
+fn signatures_whose_types_are_refused() {
+    let unknown = |place, byte| Refusal::Unknown { place, byte };
+    let cases: [(&[u8], Refusal); 4] = [
+        (b"v24{R=5}0", unknown(6, b'5')),
+        (b"v24x", unknown(4, b'x')),
         (
             b"j5",
             Refusal::UnknownAfterComplex {
@@ -271,12 +274,7 @@ fn signatures_that_are_refused() {
     ];
     for (text, refusal) in cases {
         assert_eq!(parse_signature(text), Err(refusal));
-        assert!((7..=18).contains(&refusal.number()) && !refusal.to_string().is_empty());
     }
-    assert_eq!(
-        parse_signature(&[b'i'; MAX_TEXT + 1]),
-        Err(Refusal::TextTooLong)
-    );
 }
 
 #[test]

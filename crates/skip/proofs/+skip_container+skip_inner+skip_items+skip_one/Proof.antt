@@ -19,7 +19,8 @@ use Rattle.skip.specs.declared.Skipped.{Skipped}
 use Rattle.skip.specs.declared.Skipped.the-variants.{Empty, Encoding, ContainerEnd, ArrayEnd, Refused}
 use Rattle.skip.specs.declared.SkippedPart.{SkippedPart}
 use Rattle.skip.proofs.Skipped.{the-type}
-use Rattle.skip.proofs.SkipLaws.{skips-end, skips-run, skips-no-number, skips-item, skips-no-name, skips-contained, skips-token, NotPassed, skipped-end, skipped-more, skipped-closed, skipped-codes}
+use Rattle.skip.proofs.SkipLaws.{skips-end, skips-run, skips-no-number, skips-item, skips-no-name, skips-contained}
+use Rattle.skip.proofs.SkipLaws.{skips-token, NotPassed, skipped-end, skipped-more, skipped-closed, skipped-codes}
 use Prim.Native.Nat.{ℕ, _+_, _*_, _-_, _≤_, _<_}
 use borrow.Fn.Kinds.{In}
 use borrow.Fn.PlainCycle.{Measures, is, falls, and}
