@@ -2,16 +2,17 @@
 use Prim.Native.Nat.{ℕ, _≤_, _<_}
 use mathlib.Core.Path.{_≡_, refl, sym, ap, subst, _∙_}
 use mathlib.Core.List.{List, [], _∷_}
-use mathlib.Core.Bool.{Bool, true, false, _||_, false≢true}
+use mathlib.Core.Bool.{Bool, true, false, cond, _&&_, _||_, false≢true}
 use native.Mathlib.Decide.{ℕ-discrete}
 use native.Mathlib.Omega.{arith}
 use lib.Dec.{ltb, eqb}
-use borrow.Author.Tests.{ne-eqb, ltb-true, eqb-true}
-use Rattle.kinds.specs.Byte.{among}
+use borrow.Author.Tests.{ne-eqb, lt-ltb, le-ltb, ltb-true, eqb-true}
+use Rattle.kinds.specs.Byte.{bytes, among}
 use Rattle.kinds.specs.Parse.{Start, single, complex, object, bits, indirection, openArray, closeArray, openContainer, closeContainer, nothing, start, integral, singles, others, inSingles, inOthers}
-use Rattle.kinds.specs.Tree.{Label, pointer, atomic}
-use Rattle.kinds.proofs.TableLaws.{Each}
-use Rattle.codes.specs.Answer.{codeOf, isIndirection, hasParts}
+use Rattle.kinds.specs.Tree.{Label, kind, pointer, atomic}
+use Rattle.kinds.specs.declared.ContainerKind.the-variants.{Struct, Union}
+use Rattle.kinds.proofs.TableLaws.{Each, both}
+use Rattle.codes.specs.Answer.{startWord, codeOf, isIndirection, hasParts}
 
 -- ---- A byte that is none of some bytes.
 
@@ -32,6 +33,23 @@ pub differs-onto : (b : ℕ) (xs ys : List ℕ) → DiffersBack b xs → Differs
 differs-onto b [] ys d e = e
 differs-onto b (x ∷ xs) ys d e = differs-onto b xs (x ∷ ys) (d .0) (d .1, e)
 
+not-among : (b : ℕ) (xs : List ℕ) → Differs b xs → among b xs ≡ false
+unfolding among
+not-among b [] d = refl
+not-among b (x ∷ xs) d = rw (ne-eqb b x (d .0)) (not-among b xs (d .1))
+
+-- A test that each of some bytes passes.
+abbrev every : (ℕ → Bool) → List ℕ → Bool
+every test [] = true
+every test (x ∷ xs) = test x && every test xs
+
+-- A byte that is none of some bytes is none of fewer, in whatever order.
+differs-from : (b : ℕ) (xs : List ℕ) → Differs b xs → (ys : List ℕ) → every (λ y. among y xs) ys ≡ true → Differs b ys
+differs-from b xs d [] h = tt
+differs-from b xs d (y ∷ ys) h =
+    let p = both (among y xs) (every (λ z. among z xs) ys) h in
+    (λ e. false≢true (sym (not-among b xs d) ∙ ap (λ (x : ℕ). among x xs) e ∙ p .0), differs-from b xs d ys (p .1))
+
 -- What holds of each of some bytes and of every other byte holds of all.
 by-bytes : (P : ℕ → Type 0) (b : ℕ) (xs : List ℕ) → Each P xs → (Differs b xs → P b) → P b
 by-bytes P b [] all other = other tt
@@ -39,6 +57,16 @@ by-bytes P b (x ∷ xs) all other = elim (ℕ-discrete b x) [
   | yes e ↦ subst P (sym e) (all .0)
   | no n ↦ by-bytes P b xs (all .1) (λ d. other (n, d))
 ]
+
+-- The same of a test, which is computed for all of them at once.
+by-test : (test : ℕ → Bool) (b : ℕ) (xs : List ℕ) → every test xs ≡ true → (Differs b xs → test b ≡ true) → test b ≡ true
+by-test test b [] h other = other tt
+by-test test b (x ∷ xs) h other =
+    let p = both (test x) (every test xs) h in
+    elim (ℕ-discrete b x) [
+      | yes e ↦ ap test e ∙ p .0
+      | no n ↦ by-test test b xs (p .1) (λ d. other (n, d))
+    ]
 
 -- ---- The codes of one byte.
 
@@ -51,89 +79,39 @@ unfolding inSingles
 not-single b [] d = refl
 not-single b (x ∷ xs) d = rw (ne-eqb b (x .0) (d .0), inSingles) (not-single b xs (d .1))
 
-abbrev pub codeBytes : List ℕ
+abbrev codeBytes : List ℕ
 codeBytes = 99 ∷ 115 ∷ 105 ∷ 108 ∷ 113 ∷ 67 ∷ 83 ∷ 73 ∷ 76 ∷ 81 ∷ 102 ∷ 100 ∷ 68 ∷ 66 ∷ 118 ∷ 42 ∷ 35 ∷ 58 ∷ 63 ∷ []
 
 no-code : (b : ℕ) → Differs b codeBytes → start b ≡ inOthers b others
 unfolding start singles
 no-code b d = not-single b singles d
 
--- No other byte is a code.
-abbrev NoCodes : List (ℕ × Start) → Type 0
-NoCodes [] = Unit {0}
-NoCodes (x ∷ xs) = (codeOf (x .1) ≡ 255) × NoCodes xs
+-- What holds of each start of a table and of `nothing` holds of what is found there.
+abbrev EachStart : (Start → Type 0) → List (ℕ × Start) → Type 0
+EachStart P [] = Unit {0}
+EachStart P (x ∷ xs) = P (x .1) × EachStart P xs
 
-other-code : (b : ℕ) (xs : List (ℕ × Start)) → NoCodes xs → codeOf (inOthers b xs) ≡ 255
-unfolding inOthers codeOf
-other-code b [] n = refl
-other-code b (x ∷ xs) n = go (eqb b (x .0)) (n .0) (other-code b xs (n .1))
+each-start : (P : Start → Type 0) (b : ℕ) (xs : List (ℕ × Start)) → EachStart P xs → P nothing → P (inOthers b xs)
+unfolding inOthers
+each-start P b [] all n = n
+each-start P b (x ∷ xs) all n = go (eqb b (x .0)) (all .0) (each-start P b xs (all .1) n)
   where
-    go : (d : Bool) → codeOf (x .1) ≡ 255 → codeOf (inOthers b xs) ≡ 255 → codeOf (elim d [ true ↦ x .1 | false ↦ inOthers b xs ]) ≡ 255
-    go true e f = e
-    go false e f = f
+    go : (d : Bool) → P (x .1) → P (inOthers b xs) → P (elim d [ true ↦ x .1 | false ↦ inOthers b xs ])
+    go true p q = p
+    go false p q = q
 
-pub others-code : (b : ℕ) → codeOf (inOthers b others) ≡ 255
+-- A start that is no code.
+abbrev NoCode : Start → Type 0
+NoCode s = codeOf s ≡ 255
+
+others-code : (b : ℕ) → codeOf (inOthers b others) ≡ 255
 unfolding others codeOf
-others-code b = other-code b others (refl, (refl, (refl, (refl, (refl, (refl, (refl, (refl, (refl, (refl, (refl, tt)))))))))))
+others-code b = each-start NoCode b others (refl, (refl, (refl, (refl, (refl, (refl, (refl, (refl, (refl, (refl, (refl, tt))))))))))) refl
 
-pub no-code-is : (b : ℕ) → Differs b codeBytes → 255 ≡ codeOf (start b)
+no-code-is : (b : ℕ) → Differs b codeBytes → 255 ≡ codeOf (start b)
 no-code-is b d = sym (ap codeOf (no-code b d) ∙ others-code b)
 
--- The code of a byte that is known.
-pub code-here : (b k : ℕ) → b ≡ k → codeOf (start k) ≡ codeOf (start b)
-code-here b k e = ap (λ (x : ℕ). codeOf (start x)) (sym e)
-
--- Each code's kind is below 24, and it is the whole start.
-abbrev Below : List (ℕ × ℕ) → Type 0
-Below [] = Unit {0}
-Below (x ∷ xs) = (x .1 < 24) × Below xs
-
-small-in : (b : ℕ) (xs : List (ℕ × ℕ)) → Below xs → 24 ≤ codeOf (inSingles b xs) → inSingles b xs ≡ inOthers b others
-unfolding inSingles codeOf
-small-in b [] s h = refl
-small-in b (x ∷ xs) s h = go (λ l. small-in b xs (s .1) l) (eqb b (x .0)) h
-  where
-    go : (24 ≤ codeOf (inSingles b xs) → inSingles b xs ≡ inOthers b others)
-        → (d : Bool) → 24 ≤ codeOf (elim d [ true ↦ single (x .1) | false ↦ inSingles b xs ]) → (elim d [ true ↦ single (x .1) | false ↦ inSingles b xs ]) ≡ inOthers b others
-    go more true l = absurd (omega (arith, s .0))
-    go more false l = more l
-
-pub not-code : (b : ℕ) → 24 ≤ codeOf (start b) → start b ≡ inOthers b others
-unfolding start singles
-not-code b h =
-    let l : (n : ℕ) → ltb n 24 ≡ true → n < 24 = λ n e. ltb-true n 24 e in
-    small-in b singles (
-      l _ refl,
-      (
-        l _ refl,
-        (
-          l _ refl,
-          (
-            l _ refl,
-            (
-              l _ refl,
-              (
-                l _ refl,
-                (
-                  l _ refl,
-                  (
-                    l _ refl,
-                    (
-                      l _ refl,
-                      (
-                        l _ refl,
-                        (l _ refl, (l _ refl, (l _ refl, (l _ refl, (l _ refl, (l _ refl, (l _ refl, (l _ refl, (l _ refl, tt))))))))),
-                      ),
-                    ),
-                  ),
-                ),
-              ),
-            ),
-          ),
-        ),
-      ),
-    ) h
-
+-- A code is the whole start.
 code-is : (s : Start) → codeOf s < 255 → s ≡ single (codeOf s)
 unfolding codeOf
 code-is (single p) h = refl
@@ -152,15 +130,11 @@ single-code b p e h = code-is (start b) (omega arith) ∙ ap single (sym e)
 
 -- ---- The types that a bitfield may have.
 
-not-among : (b : ℕ) (xs : List ℕ) → Differs b xs → among b xs ≡ false
-unfolding among
-not-among b [] d = refl
-not-among b (x ∷ xs) d = rw (ne-eqb b x (d .0)) (not-among b xs (d .1))
-
 not-integral : (b : ℕ) → Differs b codeBytes → integral b ≡ false
-unfolding integral
-not-integral b (d1, (d2, (d3, (d4, (d5, (d6, (d7, (d8, (d9, (d10, (d11, (d12, (d13, (d14, r)))))))))))))) =
-    not-among b _ (d1, (d2, (d3, (d4, (d5, (d6, (d7, (d8, (d9, (d10, (d14, tt)))))))))))
+unfolding integral among
+not-integral b d =
+    let types : List ℕ = bytes "csilqCSILQB" in
+    not-among b types (differs-from b codeBytes d types refl)
 
 abbrev pub integralKind : ℕ → Bool
 integralKind p = ltb p 10 || eqb p 16
@@ -189,40 +163,114 @@ unfolding inOthers
 not-other b [] d = refl
 not-other b (x ∷ xs) d = rw (ne-eqb b (x .0) (d .0), inOthers) (not-other b xs (d .1))
 
--- A byte that begins nothing.
-pub starts-nothing : (b : ℕ) → 24 ≤ codeOf (start b) → Differs b (106 ∷ 64 ∷ 98 ∷ 94 ∷ 65 ∷ 91 ∷ 93 ∷ 123 ∷ 125 ∷ 40 ∷ 41 ∷ []) → start b ≡ nothing
-unfolding others
-starts-nothing b h d = not-code b h ∙ not-other b others d
-
 -- A byte whose start computes.
 pub starts : (b k : ℕ) {S : Start} → b ≡ k → start k ≡ S → start b ≡ S
 starts b k e s = ap start e ∙ s
 
--- The byte begins nothing with parts.
+-- ---- What a byte begins, as a number.
+
+-- What the numbers from 24 on stand for.
+abbrev startWords : List (ℕ × Start)
+startWords =
+    (32, object) ∷ (28, openArray) ∷ (29, openContainer Struct) ∷ (30, openContainer Union) ∷ (33, bits) ∷ (26, indirection pointer)
+    ∷ (34, complex) ∷ (27, indirection atomic) ∷ (35, closeArray) ∷ (36, closeContainer Struct) ∷ (37, closeContainer Union) ∷ []
+
+abbrev startOf : ℕ → Start
+startOf k = elim (ltb k 24) [ true ↦ single k | false ↦ inOthers k startWords ]
+
+-- The number of what a byte begins stands for it.
+abbrev Stands : Start → Type 0
+Stands s = startOf (startWord s) ≡ s
+
+stands : (b : ℕ) → Stands (start b)
+unfolding start inSingles singles others inOthers startWord kind
+stands b = by-bytes (λ x. Stands (start x)) b codeBytes
+    (refl, (refl, (refl, (refl, (refl, (refl, (refl, (refl, (refl, (refl, (refl, (refl, (refl, (refl, (refl, (refl, (refl, (refl, (refl, tt)))))))))))))))))))
+    (λ d. subst Stands (sym (no-code b d)) (each-start Stands b others
+    (refl, (refl, (refl, (refl, (refl, (refl, (refl, (refl, (refl, (refl, (refl, tt))))))))))) refl))
+
+module _ (b k : ℕ) (e : k ≡ startWord (start b)) where
+  begun : start b ≡ startOf k
+  begun = sym (ap startOf e ∙ stands b)
+
+  pub begun-single : k < 24 → start b ≡ single k
+  begun-single l = begun ∙ (rw (lt-ltb k 24 l, startOf) refl)
+
+  begun-other : 24 ≤ k → start b ≡ inOthers k startWords
+  begun-other l = begun ∙ (rw (le-ltb k 24 l, startOf) refl)
+
+  -- where the number is known
+  pub begun-is : (n : ℕ) {S : Start} → k ≡ n → startOf n ≡ S → start b ≡ S
+  begun-is n f s = begun ∙ ap startOf f ∙ s
+
+  pub begun-nothing : 24 ≤ k → Differs k (heads startWords) → start b ≡ nothing
+  begun-nothing l d = begun-other l ∙ not-other k startWords d
+
+  pub begun-code : k < 24 → k ≡ codeOf (start b)
+  unfolding codeOf
+  begun-code l = sym (ap codeOf (begun-single l))
+
+  pub begun-no-code : 24 ≤ k → 255 ≡ codeOf (start b)
+  unfolding codeOf
+  begun-no-code l =
+      let none = each-start NoCode k startWords (refl, (refl, (refl, (refl, (refl, (refl, (refl, (refl, (refl, (refl, (refl, tt))))))))))) refl in
+      sym (ap codeOf (begun-other l) ∙ none)
+
+-- The number of a byte that is known.
+pub word-here : (b k : ℕ) → b ≡ k → startWord (start k) ≡ startWord (start b)
+word-here b k e = ap (λ (x : ℕ). startWord (start x)) (sym e)
+
+-- The bytes of `codes::start`, in its order; any other begins nothing.
+abbrev startBytes : List ℕ
+startBytes = bytes "cislqCISLQfdBv*@#:[{(b^?DjA]})"
+
+pub no-word : (b : ℕ) → Differs b startBytes → 255 ≡ startWord (start b)
+unfolding startWord among others
+no-word b d = sym (ap startWord (no-code b (differs-from b startBytes d codeBytes refl) ∙ not-other b others (differs-from b startBytes d (heads others) refl)))
+
+-- Only `@` begins an object.
+abbrev onlyAt : ℕ → ℕ → Bool
+onlyAt b k = cond (eqb k 32) (eqb b 64) true
+
+only-at : (b : ℕ) → onlyAt b (startWord (start b)) ≡ true
+unfolding start inSingles singles others inOthers startWord kind
+only-at b = by-test (λ x. onlyAt x (startWord (start x))) b startBytes refl (λ d. ap (onlyAt b) (sym (no-word b d)))
+
+module _ (b k : ℕ) (e : k ≡ startWord (start b)) where
+  pub begun-object : k ≡ 32 → b ≡ 64
+  begun-object h = eqb-true b 64 (sym (ap (onlyAt b) (sym e ∙ h)) ∙ only-at b)
+
+  pub begun-no-object : (k ≡ 32 → ⊥) → b ≡ 64 → ⊥
+  unfolding start inSingles singles others inOthers startWord
+  begun-no-object n h = n (e ∙ ap (λ (x : ℕ). startWord (start x)) h)
+
+-- ---- The bytes that begin nothing with parts.
+
 abbrev pub WithoutParts : ℕ → Type 0
 WithoutParts b = ((((b ≡ 94 → ⊥) × (b ≡ 65 → ⊥)) × (b ≡ 91 → ⊥)) × (b ≡ 123 → ⊥)) × (b ≡ 40 → ⊥)
 
 other-parts : (b : ℕ) → Differs b codeBytes → WithoutParts b → hasParts (start b) ≡ false
 unfolding others inOthers hasParts
-other-parts b d w = ap hasParts (no-code b d) ∙ by-bytes (λ x. WithoutParts x → hasParts (inOthers x others) ≡ false) b (106 ∷ 64 ∷ 98 ∷ 94 ∷ 65 ∷ 91 ∷ 93 ∷ 123 ∷ 125 ∷ 40 ∷ 41 ∷ []) (
-  (λ _. refl),
-  (
-    (λ _. refl),
-    (
+other-parts b d w = ap hasParts (no-code b d) ∙ by-bytes (λ x. WithoutParts x → hasParts (inOthers x others) ≡ false) b
+    (106 ∷ 64 ∷ 98 ∷ 94 ∷ 65 ∷ 91 ∷ 93 ∷ 123 ∷ 125 ∷ 40 ∷ 41 ∷ []) (
       (λ _. refl),
       (
-        (λ v. absurd (v .0 .0 .0 .0 refl)),
+        (λ _. refl),
         (
-          (λ v. absurd (v .0 .0 .0 .1 refl)),
+          (λ _. refl),
           (
-            (λ v. absurd (v .0 .0 .1 refl)),
-            ((λ _. refl), ((λ v. absurd (v .0 .1 refl)), ((λ _. refl), ((λ v. absurd (v .1 refl)), ((λ _. refl), tt))))),
+            (λ v. absurd (v .0 .0 .0 .0 refl)),
+            (
+              (λ v. absurd (v .0 .0 .0 .1 refl)),
+              (
+                (λ v. absurd (v .0 .0 .1 refl)),
+                ((λ _. refl), ((λ v. absurd (v .0 .1 refl)), ((λ _. refl), ((λ v. absurd (v .1 refl)), ((λ _. refl), tt))))),
+              ),
+            ),
           ),
         ),
       ),
-    ),
-  ),
-)
+    )
     (λ e _. ap hasParts (not-other b others e)) w
 
 pub without-parts : (b : ℕ) → WithoutParts b → hasParts (start b) ≡ false

@@ -163,6 +163,10 @@ module _ (text : List ℕ) (to : ℕ) (l : to ≤ length text) where
   unfolding tokenOf labelToken
   answer-primitive p q e = ap (Primitive p) (sym (place-of-drop text to l)) ∙ ap (tokenOf text) (sym e)
 
+  -- the kind of a primitive that is named
+  pub answer-kind : (k p : ℕ) (q : Parsed) → k ≡ p → q ≡ encoding (primitive p) end (drop to text) → Primitive k to ≡ tokenOf text q
+  answer-kind k p q f e = ap (λ (x : ℕ). Primitive x to) f ∙ answer-primitive p q e
+
   pub answer-refused : (why : ErrorKind) (q : Parsed) → q ≡ refused why (drop to text) → Refused why to ≡ tokenOf text q
   unfolding tokenOf
   answer-refused why q e = ap (Refused why) (sym (place-of-drop text to l)) ∙ ap (tokenOf text) (sym e)

@@ -1,4 +1,4 @@
--- What stands at a place and has no parts: a primitive, a bitfield, a closer, or a refusal (parse.rs, the arms of `parse_inner` that call no reader).
+-- What a byte begins; what stands at a place and has no parts: a primitive, a bitfield, a closer, or a refusal (parse.rs, the arms of `parse_inner` that call no reader).
 use Prim.Native.Nat.{ℕ, _+_}
 use mathlib.Core.Bool.{Bool, true, false, cond, _&&_, _||_}
 use mathlib.Core.List.{List}
@@ -10,10 +10,26 @@ use Rattle.kinds.specs.Parse as R
 use Rattle.kinds.specs.Parse.{Start, single, complex, object, bits, indirection, openArray, closeArray, openContainer, closeContainer, nothing, start, begin, empty, encoding, containerEnd, arrayEnd, refused, itemsRefused}
 use Rattle.kinds.specs.Tree.{Label, Trees, end, node, kind, primitive, bitField, typedBitField, pointer, atomic, array, struct, union, none}
 use Rattle.kinds.specs.declared.ContainerKind.{ContainerKind}
+use Rattle.kinds.specs.declared.ContainerKind.the-variants.{Struct, Union}
 use Rattle.kinds.specs.declared.ErrorKind.the-variants.{UnexpectedEnd}
 use Rattle.parser.specs.Place.{placeOf}
 use Rattle.codes.specs.declared.Token.{Token}
 use Rattle.codes.specs.declared.Token.the-variants.{Primitive, BitField, TypedBitField, ArrayEnd, ContainerEnd, Refused, Parts, End}
+
+-- What a byte begins as one number: its kind in a sheet; a number beyond the kinds where several may come of it, where a form ends, and for nothing.
+unfoldable pub startWord : Start → ℕ
+startWord (single p) = p
+startWord object = 32
+startWord openArray = 28
+startWord (openContainer Struct) = 29
+startWord (openContainer Union) = 30
+startWord bits = 33
+startWord (indirection l) = kind l
+startWord complex = 34
+startWord closeArray = 35
+startWord (closeContainer Struct) = 36
+startWord (closeContainer Union) = 37
+startWord nothing = 255
 
 -- The kind of the primitive whose whole code a byte is; 255 where it is none.
 unfoldable pub codeOf : Start → ℕ

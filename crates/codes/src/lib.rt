@@ -1,4 +1,4 @@
-// What stands at a place of a text and has no parts (parse.rs, `parse_inner`): a primitive, a bitfield or a closer; and where runs of pointers and of codes end.
+// What a byte begins; what stands at a place of a text and has no parts (parse.rs, `parse_inner`): a primitive, a bitfield or a closer; and where runs of pointers and of codes end.
 ghost use mathlib.Core.Path.{_≡_};
 ghost use mathlib.Core.Bool.{_||_, cond};
 ghost use Prim.Native.Nat.{_≤_};
@@ -7,10 +7,16 @@ ghost use lib.Dec.{leb, ltb, eqb};
 ghost use Rattle.kinds.specs.Parse.{maxU64, maxU8, parseNumber, parseComplex, parseQuoted, parseObject, parseBitField, parseBits, start};
 ghost use Rattle.kinds.specs.Container.{sameContainer};
 ghost use Rattle.parser.specs.Run.{runEnd};
-ghost use Rattle.codes.specs.Answer.{codeOf, isCode, isIndirection, closed, closesFields, tokenOf, tokenAt};
+ghost use Rattle.codes.specs.Answer.{startWord, codeOf, isCode, isIndirection, closed, closesFields, tokenOf, tokenAt};
+use kinds::ARRAY;
+use kinds::ATOMIC;
 use kinds::ContainerKind;
 use kinds::ErrorKind;
+use kinds::POINTER;
 use kinds::PRIMITIVES;
+use kinds::Primitive;
+use kinds::STRUCT;
+use kinds::UNION;
 use numbers::Number;
 use numbers::is_digit;
 use numbers::parse_u8;
@@ -29,32 +35,71 @@ pub enum Token {
     End,
 }
 
-// The kind of the primitive whose whole code is this byte; 255 where there is none.
+// Numbers beyond the kinds of the sheet: what may become one of several kinds, what a closer ends, and that there is no kind.
+pub const OBJECT_START: u64 = 32;
+
+const BITS_START: u64 = 33;
+
+const COMPLEX_START: u64 = 34;
+
+const ARRAY_END: u64 = 35;
+
+const STRUCT_END: u64 = 36;
+
+const UNION_END: u64 = 37;
+
+const NO_KIND: u64 = 255;
+
+// What a byte begins, by its kind or a number above: the one list of type codes. They stand in the order of the table in Apple's guide
+// ("Type Encodings"), then those that the crate adds, in the order of its parser (parse.rs, `parse_inner`). A closer is no code and
+// comes after them.
+pub fn start(b: u8) -> u64
+    ensures { λ r. ⌜ r ≡ startWord (start b) ⌝ }
+{
+    match b {
+        b'c' => Primitive::Char.kind(),
+        b'i' => Primitive::Int.kind(),
+        b's' => Primitive::Short.kind(),
+        b'l' => Primitive::Long.kind(),
+        b'q' => Primitive::LongLong.kind(),
+        b'C' => Primitive::UChar.kind(),
+        b'I' => Primitive::UInt.kind(),
+        b'S' => Primitive::UShort.kind(),
+        b'L' => Primitive::ULong.kind(),
+        b'Q' => Primitive::ULongLong.kind(),
+        b'f' => Primitive::Float.kind(),
+        b'd' => Primitive::Double.kind(),
+        b'B' => Primitive::Bool.kind(),
+        b'v' => Primitive::Void.kind(),
+        b'*' => Primitive::String.kind(),
+        b'@' => OBJECT_START,
+        b'#' => Primitive::Class.kind(),
+        b':' => Primitive::Sel.kind(),
+        b'[' => ARRAY,
+        b'{' => STRUCT,
+        b'(' => UNION,
+        b'b' => BITS_START,
+        b'^' => POINTER,
+        b'?' => Primitive::Unknown.kind(),
+        b'D' => Primitive::LongDouble.kind(),
+        b'j' => COMPLEX_START,
+        b'A' => ATOMIC,
+        b']' => ARRAY_END,
+        b'}' => STRUCT_END,
+        b')' => UNION_END,
+        _ => NO_KIND,
+    }
+}
+
+// The kind of the primitive whose whole code is this byte; `NO_KIND` where there is none.
 pub fn single_kind(b: u8) -> u64
     ensures { λ r. ⌜ r ≡ codeOf (start b) ⌝ }
 {
-    match b {
-        b'c' => 0,
-        b's' => 1,
-        b'i' => 2,
-        b'l' => 3,
-        b'q' => 4,
-        b'C' => 5,
-        b'S' => 6,
-        b'I' => 7,
-        b'L' => 8,
-        b'Q' => 9,
-        b'f' => 10,
-        b'd' => 11,
-        b'D' => 12,
-        b'B' => 16,
-        b'v' => 17,
-        b'*' => 18,
-        b'#' => 21,
-        b':' => 22,
-        b'?' => 23,
-        _ => 255,
+    let begun = start(b);
+    if begun < PRIMITIVES {
+        return begun;
     }
+    NO_KIND
 }
 
 // After `j`.
@@ -67,9 +112,9 @@ fn parse_complex(text: &[u8], at: usize) -> Token
     }
     let b = text[at];
     match b {
-        b'f' => Token::Primitive(13, at + 1),
-        b'd' => Token::Primitive(14, at + 1),
-        b'D' => Token::Primitive(15, at + 1),
+        b'f' => Token::Primitive(Primitive::FloatComplex.kind(), at + 1),
+        b'd' => Token::Primitive(Primitive::DoubleComplex.kind(), at + 1),
+        b'D' => Token::Primitive(Primitive::LongDoubleComplex.kind(), at + 1),
         _ => Token::Refused(ErrorKind::UnknownAfterComplex(b), at),
     }
 }
@@ -82,7 +127,7 @@ fn parse_quoted(text: &[u8], at: usize) -> Token
     let mut i = at;
     while i < text.len() {
         if text[i] == b'"' {
-            return Token::Primitive(19, i + 1);
+            return Token::Primitive(Primitive::Object.kind(), i + 1);
         }
         i += 1;
     }
@@ -95,13 +140,13 @@ fn parse_object(text: &[u8], at: usize) -> Token
     ensures { λ r. ⌜ r ≡ tokenOf (now (text .entry)) (parseObject (drop at (now (text .entry)))) ⌝ }
 {
     if text.len() <= at {
-        return Token::Primitive(19, at);
+        return Token::Primitive(Primitive::Object.kind(), at);
     }
     let b = text[at];
     match b {
-        b'?' => Token::Primitive(20, at + 1),
+        b'?' => Token::Primitive(Primitive::Block.kind(), at + 1),
         b'"' => parse_quoted(text, at + 1),
-        _ => Token::Primitive(19, at),
+        _ => Token::Primitive(Primitive::Object.kind(), at),
     }
 }
 
@@ -164,26 +209,27 @@ pub fn token_at(text: &[u8], at: usize) -> Token
     }
     let b = text[at];
     let next = at + 1;
-    let p = single_kind(b);
-    if p < PRIMITIVES {
-        return Token::Primitive(p, next);
+    let begun = start(b);
+    if begun < PRIMITIVES {
+        return Token::Primitive(begun, next);
     }
-    match b {
-        b'j' => parse_complex(text, next),
-        b'@' => parse_object(text, next),
-        b'b' => parse_bits(text, next),
-        b'^' => Token::Parts,
-        b'A' => Token::Parts,
-        b'[' => Token::Parts,
-        b']' => Token::ArrayEnd(next),
-        b'{' => Token::Parts,
-        b'}' => Token::ContainerEnd(ContainerKind::Struct, next),
-        b'(' => Token::Parts,
-        b')' => Token::ContainerEnd(ContainerKind::Union, next),
+    match begun {
+        OBJECT_START => parse_object(text, next),
+        ARRAY => Token::Parts,
+        STRUCT => Token::Parts,
+        UNION => Token::Parts,
+        BITS_START => parse_bits(text, next),
+        POINTER => Token::Parts,
+        COMPLEX_START => parse_complex(text, next),
+        ATOMIC => Token::Parts,
+        ARRAY_END => Token::ArrayEnd(next),
+        STRUCT_END => Token::ContainerEnd(ContainerKind::Struct, next),
+        UNION_END => Token::ContainerEnd(ContainerKind::Union, next),
         _ => Token::Refused(ErrorKind::Unknown(b), next),
     }
 }
 
+// Two tests, which cost reading less than the list does.
 fn is_indirection(b: u8) -> bool
     ensures { λ r. ⌜ r ≡ isIndirection b ⌝ }
 {

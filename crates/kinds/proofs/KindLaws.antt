@@ -55,6 +55,18 @@ container-kind k p q = go (eqb k 29) refl
     go true e = rw (eqb-true k 29 e)
     go false e = rw (other (eqb-false k 29 e))
 
+-- What is left of the kinds from an array's on.
+pub only-none : (k : ℕ) → 28 ≤ k → (k ≡ 28 → ⊥) → isContainerKind k ≡ false → k ≤ 31 → k ≡ 31
+only-none k lo n f hi = go (leb k 30) refl
+  where
+    go : (t : Bool) → leb k 30 ≡ t → k ≡ 31
+    go true e = absurd (false≢true (sym f ∙ container-kind k (omega arith) (leb-true k 30 e)))
+    go false e = omega (arith, leb-false k 30 e)
+
+-- What is left of those between the primitives and an array.
+pub only-atomic : (k : ℕ) → 24 ≤ k → k < 28 → (k ≡ 24 → ⊥) → (k ≡ 25 → ⊥) → (k ≡ 26 → ⊥) → k ≡ 27
+only-atomic k lo hi d e f = omega arith
+
 -- Kinds 26 and 27.
 pub indirection-range : (k : ℕ) → isIndirection k ≡ true → (26 ≤ k) × (k ≤ 27)
 indirection-range k h = go (eqb k 26) refl (eqb k 27) refl h

@@ -215,8 +215,8 @@ impl IndirectionKind {
         ensures { λ r. ⌜ r ≡ prefixByte self ⌝ }
     {
         match self {
-            IndirectionKind::Atomic => b'A',
             IndirectionKind::Pointer => b'^',
+            IndirectionKind::Atomic => b'A',
         }
     }
 }
@@ -378,7 +378,8 @@ impl Primitive {
     }
 }
 
-// The bytes of the codes, in the order of `Primitive`; a space where there is no second byte.
+// The bytes of the codes; a space where there is no second byte. Tables by kind keep the order of `Primitive`, which 01 fixes for the
+// sheet; where a byte is read or written, the order of Apple's guide holds (`codes::start`).
 const FIRST_BYTES: [u8; 24] = *b"csilqCSILQfdDjjjBv*@@#:?";
 
 const SECOND_BYTES: [u8; 24] = *b"             fdD    ?   ";

@@ -345,7 +345,8 @@ fn parse_inner(
     put_indirections(p, text, at, to, words, n, m)
 }
 
-// A type that is no pointer and no atomic; nothing at the end of the text.
+// A type that is no pointer and no atomic; nothing at the end of the text. Arrays and containers are tested for here, which costs less
+// than asking `codes::start`.
 fn parse_one(
     text: &[u8],
     at: usize,

@@ -8,6 +8,7 @@ ghost use Rattle.kinds.specs.Expect.{skipItems};
 ghost use Rattle.kinds.specs.Parse.{parseEncodingOrNone};
 ghost use Rattle.skip.specs.Answer.{skippedAt, encodingAt};
 ghost use Rattle.skip.specs.Skips.{tokenSkipped, heldSkipped, itemSkipped, containedSkipped, endSkipped, fieldsOf, encodingOf, endsObject, objectAlone, Skips, SkipsItems, OneAt, OpensAt};
+use codes::OBJECT_START;
 use codes::Token;
 use codes::closes_fields;
 use codes::closes_item;
@@ -15,6 +16,7 @@ use codes::codes_end;
 use codes::indirections_end;
 use codes::same_container;
 use codes::single_kind;
+use codes::start;
 use codes::token_at;
 use kinds::ContainerKind;
 use kinds::ErrorKind;
@@ -140,7 +142,7 @@ fn skip_inner(text: &[u8], at: usize) -> Skipped
     skip_held(skip_one(&text[0..], to), at, to)
 }
 
-// A type that is no pointer and no atomic.
+// A type that is no pointer and no atomic. Arrays and containers are tested for here, which costs less than asking `codes::start`.
 fn skip_one(text: &[u8], at: usize) -> Skipped
     requires { ⌜ OneAt (now text) at ⌝ }
     ensures { λ r. ⌜ Skips (now (text .entry)) at r ⌝ }
@@ -242,7 +244,7 @@ fn object_alone(text: &[u8], at: usize) -> bool
     requires { ⌜ at < length (now text) ⌝ }
     ensures { λ r. ⌜ r ≡ objectAlone (getD (now (text .entry)) at 0) (drop (at + 1) (now (text .entry))) ⌝ }
 {
-    if text[at] != b'@' {
+    if start(text[at]) != OBJECT_START {
         return false;
     }
     let next = at + 1;

@@ -1,5 +1,5 @@
 use native.Mathlib.Omega.{arith}
-use Rattle.codes.proofs.TokenLaws.{answer-primitive, answer-refused, complex-f, complex-d, complex-D, complex-no, complex-end}
+use Rattle.codes.proofs.TokenLaws.{answer-kind, answer-refused, complex-f, complex-d, complex-D, complex-no, complex-end}
 use borrow.Author.Needs.{needs}
 use Rattle.codes.proofs.parse_complex.Statement.{statement}
 use Rattle.codes.proofs.parse_complex.Tie as tie
@@ -8,13 +8,19 @@ returns : tie.Need-returns
 returns c = answer-refused _ _ (search needs) _ _ (complex-end _ _ (c .if1 .taken))
 
 returns-2 : tie.Need-returns-2
-returns-2 c = answer-primitive _ _ (omega arith) _ _ (complex-f _ _ (c .before .before .if1 .left) (c .match .keys1))
+returns-2 c =
+    let c3 = c .before .before .before in
+    answer-kind _ _ (omega arith) _ _ _ (c .kind .ensures) (complex-f _ _ (c3 .if1 .left) (c .before .match .keys1))
 
 returns-3 : tie.Need-returns-3
-returns-3 c = answer-primitive _ _ (omega arith) _ _ (complex-d _ _ (c .before .before .if1 .left) (c .match .keys2))
+returns-3 c =
+    let c3 = c .before .before .before in
+    answer-kind _ _ (omega arith) _ _ _ (c .kind2 .ensures) (complex-d _ _ (c3 .if1 .left) (c .before .match .keys2))
 
 returns-4 : tie.Need-returns-4
-returns-4 c = answer-primitive _ _ (omega arith) _ _ (complex-D _ _ (c .before .before .if1 .left) (c .match .keys3))
+returns-4 c =
+    let c3 = c .before .before .before in
+    answer-kind _ _ (omega arith) _ _ _ (c .kind3 .ensures) (complex-D _ _ (c3 .if1 .left) (c .before .match .keys3))
 
 returns-5 : tie.Need-returns-5
 returns-5 c =
@@ -27,8 +33,11 @@ parse-complex-spec =
     (tie.spec
     returns
     (λ c. search needs)
+    (λ c κs. search needs)
     (λ c. search needs)
+    (λ c κs. search needs)
     (λ c. search needs)
+    (λ c κs. search needs)
     (λ c. search needs)
     returns-2
     returns-3

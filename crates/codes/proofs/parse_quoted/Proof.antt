@@ -4,7 +4,7 @@ use native.Mathlib.Omega.{arith}
 use lib.ListN.{length, drop}
 use borrow.Author.Needs.{needs}
 use Rattle.kinds.specs.Parse.{parseQuoted}
-use Rattle.codes.proofs.TokenLaws.{answer-primitive, answer-refused, quoted-stop, quoted-more, quoted-end}
+use Rattle.codes.proofs.TokenLaws.{answer-kind, answer-refused, quoted-stop, quoted-more, quoted-end}
 use Rattle.codes.proofs.parse_quoted.Statement.{statement}
 use Rattle.codes.proofs.parse_quoted.Tie as tie
 
@@ -20,13 +20,14 @@ loop-holds c = (refl, search needs)
 shared-slice-read-if1 : tie.Need-shared-slice-read-if1 Inv-loop μ-loop
 shared-slice-read-if1 c = omega arith
 
-add-t8 : tie.Need-add-t8 Inv-loop μ-loop
-add-t8 c = omega arith
+add-t10 : tie.Need-add-t10 Inv-loop μ-loop
+add-t10 c = omega arith
 
 returns : tie.Need-returns Inv-loop μ-loop
 returns c =
-    let p = c .before .before in
-    answer-primitive _ _ (omega arith) _ _ (p .before .loop .inv .0 ∙ quoted-stop _ _ (p .loop-test .taken) (c .if1 .taken))
+    let c3 = c .before .before .before in
+    let c4 = c3 .before in
+    answer-kind _ _ (omega arith) _ _ _ (c .kind .ensures) (c4 .loop .inv .0 ∙ quoted-stop _ _ (c3 .loop-test .taken) (c .before .if1 .taken))
 
 add-i : tie.Need-add-i Inv-loop μ-loop
 add-i c = omega arith
@@ -50,7 +51,8 @@ parse-quoted-spec =
     μ-loop
     loop-holds
     shared-slice-read-if1
-    add-t8
+    (λ c κs. search needs)
+    add-t10
     returns
     add-i
     loop-less
