@@ -10,6 +10,7 @@ use lib.Dec.{leb, eqb}
 use native.Mathlib.Nat.{add-sub-cancel-left}
 use Rattle.kinds.proofs.ListLaws.{unread, unread-end, whole}
 use Rattle.kinds.proofs.SheetLaws.{trees-step}
+use Rattle.kinds.proofs.KindLaws.{not-indirection}
 use Rattle.kinds.proofs.NodeLaws.{child-count, node-child, label-primitive, label-bits, label-typed, label-pointer, label-atomic, label-array, label-struct, label-union, label-none, no-trees, some-trees}
 use Rattle.kinds.specs.Container.{startByte, endByte, prefixByte}
 use Rattle.kinds.specs.Expect as E
@@ -24,8 +25,8 @@ use Rattle.kinds.specs.declared.ContainerKind.the-variants.{Struct, Union}
 use Rattle.kinds.specs.declared.Fields.the-variants.{Included, Dropped}
 use Rattle.kinds.specs.declared.NestingLevel.{NestingLevel}
 use Rattle.kinds.specs.declared.NestingLevel.the-variants.{Top, Within, Bottom}
-use Rattle.kinds.specs.Kind.{containerOf}
-use Rattle.expect.specs.Agree.{expectAt, ExpectedIs, InText, indirectionOf, opening, closing, OpenedIs, ContainerOpenedAt, OpenedAt}
+use Rattle.kinds.specs.Kind.{containerOf, isIndirection}
+use Rattle.expect.specs.Agree.{expectAt, ExpectedIs, InText, indirectionOf, expectLeaf, opening, closing, OpenedIs, ContainerOpenedAt, takenOf, fieldsOf, OpenedAt}
 use Rattle.expect.specs.declared.Expected as X
 use Rattle.expect.specs.declared.Expected.the-variants as XV
 use Rattle.expect.specs.declared.Opened.{Opened}
@@ -122,13 +123,6 @@ module _ (names w : List ℕ) (at : ℕ) (v : NestingLevel) (s : List ℕ) where
           eq-eqb (kindAt w at) 28
               (other (eqb-false (kindAt w at) 25 e)),
         ) (sym (then-assoc (expectByte 91 s) _ _))
-
-    pub around-off : opening (kindAt w at) (firstAt w at) s ≡ mismatch → expectAt names w at v s ≡ mismatch
-    around-off e = around ∙ then-mismatch _ _ e
-
-    pub around-more : (t : List ℕ) → opening (kindAt w at) (firstAt w at) s ≡ remaining t
-        → expectAt names w at v s ≡ (expectEncoding v (trees names w (countAt w at - 1) (at + 4)) t then (λ u. closing (kindAt w at) (secondAt w at) u))
-    around-more t e = around ∙ then-remaining _ _ _ e
 
 -- Containers.
 module _ (k : ContainerKind) (e : Bool) (inner : List ℕ → E.Expected) (s : List ℕ) where
@@ -292,3 +286,25 @@ opened-at names w at v text place (O.Fields to u) c h = (container-fields names 
 pub lent-whole : (text : List ℕ) (r : X.Expected) (place : ℕ) (f : List ℕ → E.Expected)
     → ExpectedIs (take (length text - 0) (drop 0 text)) r (f (drop place (take (length text - 0) (drop 0 text)))) → ExpectedIs text r (f (drop place text))
 lent-whole text r place f h = subst (λ (x : List ℕ). ExpectedIs x r (f (drop place x))) (whole text) h
+
+-- A node without children from the outcome of its text, which is lent as a slice of its own; a bitfield with a type or an array from that of what stands before its child.
+module _ (names w : List ℕ) (at : ℕ) (v : NestingLevel) (text : List ℕ) (place : ℕ) (r : X.Expected) {q : Opened} where
+  pub taken-at : q ≡ takenOf r → kindAt w at < 25
+      → ExpectedIs (take (length text - 0) (drop 0 text)) r (expectLeaf (kindAt w at) (secondAt w at) (drop place (take (length text - 0) (drop 0 text))))
+      → OpenedAt names w at v text place q
+  taken-at e p h = rw e (go r (lent-whole text r place (λ s. expectLeaf (kindAt w at) (secondAt w at) s) h))
+    where
+      go : (x : X.Expected) → ExpectedIs text x (expectLeaf (kindAt w at) (secondAt w at) (drop place text)) → OpenedAt names w at v text place (takenOf x)
+      go (XV.Remaining to) k = (leaf-is names w at v (drop place text) p ∙ k .0, k .1)
+      go XV.Mismatch k = leaf-is names w at v (drop place text) p ∙ k
+
+  pub fields-at : q ≡ fieldsOf r v → 25 ≤ kindAt w at → kindAt w at < 29 → isIndirection (kindAt w at) ≡ false
+      → ExpectedIs text r (opening (kindAt w at) (firstAt w at) (drop place text)) → OpenedAt names w at v text place q
+  fields-at e lo hi d h = let m = not-indirection (kindAt w at) d in rw e (go r h (around names w at v (drop place text) lo hi (m .0) (m .1)))
+    where
+      go : (x : X.Expected) → ExpectedIs text x (opening (kindAt w at) (firstAt w at) (drop place text))
+          → expectAt names w at v (drop place text) ≡ (opening (kindAt w at) (firstAt w at) (drop place text) then
+          (λ t. expectEncoding v (trees names w (countAt w at - 1) (at + 4)) t then (λ u. closing (kindAt w at) (secondAt w at) u)))
+          → OpenedAt names w at v text place (fieldsOf x v)
+      go (XV.Remaining to) k f = (f ∙ then-remaining _ _ _ (k .0), k .1)
+      go XV.Mismatch k f = f ∙ then-mismatch _ _ k

@@ -95,6 +95,15 @@ ownByte k = cond (isIndirection k) (prefixByte (indirectionOf k)) (codeByte k)
 unfoldable pub levelAfter : ℕ → NestingLevel → NestingLevel → NestingLevel
 levelAfter k v here = cond (isIndirection k) (insideKind k here) v
 
+-- A node without children, from the outcome of its text; one whose children, at the level `v`, are still to come, from that of what stands before them.
+abbrev pub takenOf : Expected → Opened
+takenOf Mismatch = O.Mismatch
+takenOf (Remaining to) = O.Taken to
+
+abbrev pub fieldsOf : Expected → NestingLevel → Opened
+fieldsOf Mismatch v = O.Mismatch
+fieldsOf (Remaining to) v = O.Fields to v
+
 -- The node at `at` up to its children: taken whole, no match, or its children, at a level, and what stands after them are still to come.
 abbrev pub OpenedAt : List ℕ → List ℕ → ℕ → NestingLevel → List ℕ → ℕ → Opened → Type 0
 OpenedAt names w at v text place (O.Taken to) = (expectAt names w at v (drop place text) ≡ remaining (drop to text)) × (to ≤ length text)

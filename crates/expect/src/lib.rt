@@ -12,24 +12,23 @@ ghost use Rattle.kinds.specs.Primitive.{codeBytes};
 ghost use Rattle.kinds.specs.Sheet.{kindAt, countAt, isContainerKind, trees};
 ghost use Rattle.kinds.specs.Tree.{end, node, primitive};
 ghost use Rattle.kinds.specs.Walk.{NodeAt, TreesAt, KindAndName, KindsAndNames};
-ghost use Rattle.expect.specs.Agree.{ExpectedIs, expectAt, anyObject, expectLeaf, openingByte, opening, closing, afterName, InText, OpenedIs, ContainerOpenedAt, codeByte, ownByte, levelAfter, OpenedAt};
+ghost use Rattle.expect.specs.Agree.{ExpectedIs, expectAt, anyObject, expectLeaf, openingByte, opening, closing, afterName, InText, OpenedIs, ContainerOpenedAt, codeByte, ownByte, levelAfter, takenOf, fieldsOf, OpenedAt};
 ghost use Rattle.expect.specs.Answer.{compared};
 use kinds::ARRAY;
-use kinds::ATOMIC;
+use kinds::BIT_FIELD;
 use kinds::Code;
 use kinds::Compared;
 use kinds::ContainerKind;
 use kinds::Fields;
 use kinds::IndirectionKind;
 use kinds::MAX_TEXT;
-use kinds::NONE;
 use kinds::NestingLevel;
 use kinds::POINTER;
 use kinds::PRIMITIVES;
 use kinds::Refusal;
-use kinds::STRUCT;
 use kinds::TYPED_BIT_FIELD;
 use kinds::container_of;
+use kinds::is_container;
 use kinds::is_indirection;
 use kinds::is_object;
 use kinds::primitive_code;
@@ -167,20 +166,20 @@ fn expect_object(text: &[u8], at: usize) -> Expected
         return Expected::Mismatch;
     }
     let b = text[at];
-    if b == b'#' {
-        return Expected::Remaining(at + 1);
-    }
-    if b != b'@' {
-        return Expected::Mismatch;
-    }
     let next = at + 1;
-    if text.len() <= next {
+    if b == b'@' {
+        if text.len() <= next {
+            return Expected::Remaining(next);
+        }
+        if text[next] == b'?' {
+            return Expected::Remaining(next + 1);
+        }
         return Expected::Remaining(next);
     }
-    if text[next] == b'?' {
-        return Expected::Remaining(next + 1);
+    if b == b'#' {
+        return Expected::Remaining(next);
     }
-    Expected::Remaining(next)
+    Expected::Mismatch
 }
 
 fn expect_primitive(kind: u64, text: &[u8], at: usize) -> Expected
@@ -216,10 +215,10 @@ fn expect_leaf(kind: u64, size: u64, text: &[u8], at: usize) -> Expected
 fn opening_byte(kind: u64) -> u8
     ensures { λ r. ⌜ r ≡ openingByte kind ⌝ }
 {
-    if kind == TYPED_BIT_FIELD {
-        return b'b';
+    if kind != TYPED_BIT_FIELD {
+        return b'[';
     }
-    b'['
+    b'b'
 }
 
 // What stands before the type of a bitfield and before the item of an array.
@@ -237,13 +236,13 @@ fn expect_closing(kind: u64, size: u64, text: &[u8], at: usize) -> Expected
     requires { ⌜ at ≤ length (now text) ⌝ }
     ensures { λ r. ⌜ ExpectedIs (now (text .entry)) r (closing kind size (drop at (now (text .entry)))) ⌝ }
 {
-    if kind == TYPED_BIT_FIELD {
-        return expect_u8(size, text, at);
-    }
     if kind == ARRAY {
         return expect_byte(b']', text, at);
     }
-    expect_byte(container_of(kind).end_byte(), text, at)
+    if kind != TYPED_BIT_FIELD {
+        return expect_byte(container_of(kind).end_byte(), text, at);
+    }
+    expect_u8(size, text, at)
 }
 
 // The same, after children of which `after` is the outcome.
@@ -345,13 +344,13 @@ fn code_byte(kind: u64) -> u8
 fn own_byte(kind: u64) -> u8
     ensures { λ r. ⌜ r ≡ ownByte kind ⌝ }
 {
+    if !is_indirection(kind) {
+        return code_byte(kind);
+    }
     if kind == POINTER {
         return IndirectionKind::Pointer.prefix_byte();
     }
-    if kind == ATOMIC {
-        return IndirectionKind::Atomic.prefix_byte();
-    }
-    code_byte(kind)
+    IndirectionKind::Atomic.prefix_byte()
 }
 
 // The level after such a node: that of what it holds, or `level`, at which the trees side by side are.
@@ -362,6 +361,26 @@ fn level_after(kind: u64, level: NestingLevel, here: NestingLevel) -> NestingLev
         return here.inside(kind);
     }
     level
+}
+
+// A node without children, from the outcome of its text.
+fn taken(own: Expected) -> Opened
+    ensures { λ r. ⌜ r ≡ takenOf own ⌝ }
+{
+    match own {
+        Expected::Mismatch => Opened::Mismatch,
+        Expected::Remaining(to) => Opened::Taken(to),
+    }
+}
+
+// A bitfield with a type or an array, which keep the level, from the outcome of what stands before the child.
+fn children_follow(opening: Expected, level: NestingLevel) -> Opened
+    ensures { λ r. ⌜ r ≡ fieldsOf opening level ⌝ }
+{
+    match opening {
+        Expected::Mismatch => Opened::Mismatch,
+        Expected::Remaining(to) => Opened::Fields(to, level),
+    }
 }
 
 // The node at `at`, no pointer and no atomic, up to its children.
@@ -378,23 +397,23 @@ fn open_node(
     ensures { λ r. ⌜ OpenedAt (now (names .entry)) (now (nodes .entry)) at level (now (text .entry)) place r ⌝ }
 {
     let kind = nodes[at];
-    if kind < TYPED_BIT_FIELD {
-        return match expect_leaf(kind, nodes[at + 2], &text[0..], place) {
-            Expected::Mismatch => Opened::Mismatch,
-            Expected::Remaining(to) => Opened::Taken(to),
-        };
+    if kind < PRIMITIVES {
+        return taken(expect_leaf(kind, nodes[at + 2], &text[0..], place));
     }
-    if kind == NONE {
+    // `[`, `{`, `(`, and None, which no byte begins
+    if ARRAY <= kind {
+        if kind == ARRAY {
+            return children_follow(expect_opening(kind, nodes[at + 1], text, place), level);
+        }
+        if is_container(kind) {
+            return open_container(nodes, names, at, level, text, place);
+        }
         return Opened::Taken(place);
     }
-    if kind < STRUCT {
-        // A bitfield and an array keep the level.
-        return match expect_opening(kind, nodes[at + 1], text, place) {
-            Expected::Mismatch => Opened::Mismatch,
-            Expected::Remaining(to) => Opened::Fields(to, level),
-        };
+    if kind == BIT_FIELD {
+        return taken(expect_leaf(kind, nodes[at + 2], &text[0..], place));
     }
-    open_container(nodes, names, at, level, text, place)
+    children_follow(expect_opening(kind, nodes[at + 1], text, place), level)
 }
 
 // The node at `at`, no pointer and no atomic, and its children.

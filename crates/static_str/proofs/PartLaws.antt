@@ -78,9 +78,12 @@ module _ (k b : ℕ) where
   unfolding closing
   closing-array p = rw p
 
-  pub closing-container : (k ≡ 25 → ⊥) → (k ≡ 28 → ⊥) → isContainerKind k ≡ true → closing k b ≡ endByte (containerOf k) ∷ []
+  pub closing-container : isContainerKind k ≡ true → closing k b ≡ endByte (containerOf k) ∷ []
   unfolding closing
-  closing-container p q h = rw (ne-eqb k 25 p, ne-eqb k 28 q, h)
+  closing-container h = rw (ne-eqb k 25 (not-at 25 refl), ne-eqb k 28 (not-at 28 refl), h)
+    where
+      not-at : (j : ℕ) → isContainerKind j ≡ false → k ≡ j → ⊥
+      not-at j f e = false≢true (sym f ∙ ap isContainerKind (sym e) ∙ h)
 
   pub closing-none : (k ≡ 25 → ⊥) → (k ≡ 28 → ⊥) → isContainerKind k ≡ false → closing k b ≡ []
   unfolding closing
@@ -128,10 +131,7 @@ module _ (s : List ℕ) (k a b : ℕ) (v : NestingLevel) where
       let l = length-drop a s in
       let t = length-take-le b (drop a s) (omega arith) in
       let n = length-append (take b (drop a s)) (fields v []) in
-      rw (opening-container p h, closing-container k b (λ d. not-container-at 25 refl d h) (λ d. not-container-at 28 refl d h) h) (omega arith)
-    where
-      not-container-at : (j : ℕ) → isContainerKind j ≡ false → k ≡ j → isContainerKind k ≡ true → ⊥
-      not-container-at j f e t = false≢true (sym f ∙ ap isContainerKind (sym e) ∙ t)
+      rw (opening-container p h, closing-container k b h) (omega arith)
 
   pub own-bits : k ≡ 24 → 1 + length (decimal b) ≡ length (opening s k a b v) + length (closing k b)
   own-bits p = rw (opening-bits p, closing-none k b (λ d. omega arith) (λ d. omega arith) (low-no-container k (omega arith))) (omega arith)

@@ -14,7 +14,6 @@ ghost use Rattle.static_str.specs.Output.{Wrote};
 ghost use Rattle.static_str.specs.Answer.{fitted, placed, encodingLen, encodingArray, encodingOutput};
 ghost use Rattle.static_str.specs.Parts.{opening, closing, childrenText, maxNodeText, OwnLength, ChildrenLength, TreesLength};
 use kinds::ARRAY;
-use kinds::ATOMIC;
 use kinds::BIT_FIELD;
 use kinds::Code;
 use kinds::ContainerKind;
@@ -152,7 +151,8 @@ fn container_len(name: u64, level: NestingLevel) -> usize
     }
 }
 
-// The length of a node's own text, without its children's.
+// The length of a node's own text, without its children's. Nothing is written here, and the guide's order, in which `open_node` decides,
+// costs lengths a tenth.
 fn node_len(kind: u64, first: u64, second: u64, level: NestingLevel) -> usize
     requires { ⌜ (isContainerKind kind ≡ true → second ≤ 2000) ⌝ }
     ensures { λ r. ⌜ OwnLength kind first second level r × (r ≤ maxNodeText) ⌝ }
@@ -298,10 +298,17 @@ fn open_node(
     if kind < PRIMITIVES {
         return put_code(out, at, kind);
     }
-    if is_container(kind) {
-        let from = first as usize;
-        let to = from + second as usize;
-        return open_container(container_of(kind), &names[from..to], level, out, at);
+    // `[`, `{`, `(`, and None, which no byte begins
+    if ARRAY <= kind {
+        if kind == ARRAY {
+            return put_tagged(out, at, b'[', first);
+        }
+        if is_container(kind) {
+            let from = first as usize;
+            let to = from + second as usize;
+            return open_container(container_of(kind), &names[from..to], level, out, at);
+        }
+        return at;
     }
     if kind == BIT_FIELD {
         return put_tagged(out, at, b'b', second);
@@ -312,13 +319,7 @@ fn open_node(
     if kind == POINTER {
         return put(out, at, IndirectionKind::Pointer.prefix_byte());
     }
-    if kind == ATOMIC {
-        return put(out, at, IndirectionKind::Atomic.prefix_byte());
-    }
-    if kind == ARRAY {
-        return put_tagged(out, at, b'[', first);
-    }
-    at
+    put(out, at, IndirectionKind::Atomic.prefix_byte())
 }
 
 // Writes a node's text after its children's; the next place.
@@ -326,14 +327,14 @@ fn close_node(kind: u64, second: u64, out: &mut [u8], at: usize) -> usize
     requires { ⌜ at + length (closing kind second) ≤ length (now out) ⌝ }
     ensures { λ r. ⌜ Wrote (now (out .entry)) at (closing kind second) (now (out .exit)) r ⌝ }
 {
-    if kind == TYPED_BIT_FIELD {
-        return put_number(out, at, second);
-    }
     if kind == ARRAY {
         return put(out, at, b']');
     }
     if is_container(kind) {
         return put(out, at, container_of(kind).end_byte());
+    }
+    if kind == TYPED_BIT_FIELD {
+        return put_number(out, at, second);
     }
     at
 }

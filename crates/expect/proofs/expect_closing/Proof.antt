@@ -9,20 +9,20 @@ use Rattle.expect.proofs.expect_closing.Statement.{statement}
 use Rattle.expect.proofs.expect_closing.Tie as tie
 
 returns : tie.Need-returns
-returns c = same-outcome _ (c .expect-u8 .result) _ _ (closing-bits _ _ _ (c .before .if1 .taken)) (c .expect-u8 .ensures)
+returns c = same-outcome _ (c .expect-byte .result) _ _ (closing-array _ _ _ (c .before .if1 .taken)) (c .expect-byte .ensures)
 
 returns-2 : tie.Need-returns-2
-returns-2 c = same-outcome _ (c .expect-byte .result) _ _ (closing-array _ _ _ (c .before .if2 .taken)) (c .expect-byte .ensures)
-
-returns-3 : tie.Need-returns-3
-returns-3 c =
+returns-2 c =
     let c2 = c .before .before in
     let c3 = c2 .before in
     let c4 = c3 .before in
     let c6 = c4 .before .before in
-    same-outcome _ (c .expect-byte2 .result) _ _ (closing-container _ _ _ (c4 .if1 .left) (c3 .if2 .left)
+    same-outcome _ (c .expect-byte2 .result) _ _ (closing-container _ _ _ (c3 .if2 .taken) (c4 .if1 .left)
     ∙ ap (λ (b : ℕ). expectByte b (drop (c6 .args .at) (c6 .args .text .now)))
     (sym (c .before .end-byte .ensures ∙ ap endByte (c2 .container-of .ensures)))) (c .expect-byte2 .ensures)
+
+returns-3 : tie.Need-returns-3
+returns-3 c = same-outcome _ (c .expect-u8 .result) _ _ (closing-bits _ _ _ (c .before .if2 .left)) (c .expect-u8 .ensures)
 
 pub expect-closing-spec : {M : Type 1} → statement M
 expect-closing-spec =
@@ -31,8 +31,8 @@ expect-closing-spec =
     (λ c κs. search needs)
     returns
     (λ c κs. search needs)
+    (λ c κs. search needs)
+    (λ c κs. search needs)
     returns-2
-    (λ c κs. search needs)
-    (λ c κs. search needs)
     (λ c κs. search needs)
     returns-3)

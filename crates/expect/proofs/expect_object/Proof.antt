@@ -8,31 +8,31 @@ returns : tie.Need-returns
 returns c = object-end _ _ (c .if1 .taken)
 
 returns-2 : tie.Need-returns-2
-returns-2 c = (object-class _ _ (c .before .before .if1 .left) (c .if2 .taken), omega arith)
+returns-2 c =
+    let c3 = c .before .before .before in
+    (object-last _ _ (c3 .if1 .left) (c .before .if2 .taken) (c .if3 .taken), omega arith)
 
 returns-3 : tie.Need-returns-3
 returns-3 c =
-    let c3 = c .before .before .before in
-    object-other _ _ (c3 .if1 .left) (c .before .if2 .left) (c .if3 .taken)
+    let c2 = c .before .before in
+    let c3 = c2 .before in
+    let c5 = c3 .before .before in
+    (object-block _ _ (c5 .if1 .left) (c3 .if2 .taken) (c2 .if3 .left) (c .if4 .taken), omega arith)
 
 returns-4 : tie.Need-returns-4
 returns-4 c =
-    let c4 = c .before .before .before .before in
-    (object-last _ _ (c4 .if1 .left) (omega (arith, c .before .if3 .left)) (c .if4 .taken), omega arith)
-
-returns-5 : tie.Need-returns-5
-returns-5 c =
     let c2 = c .before .before in
     let c3 = c2 .before in
-    let c6 = c3 .before .before .before in
-    (object-block _ _ (c6 .if1 .left) (omega (arith, c3 .if3 .left)) (c2 .if4 .left) (c .if5 .taken), omega arith)
+    let c5 = c3 .before .before in
+    (object-bare _ _ (c5 .if1 .left) (c3 .if2 .taken) (c2 .if3 .left) (c .if4 .left), omega arith)
+
+returns-5 : tie.Need-returns-5
+returns-5 c = (object-class _ _ (c .before .before .before .if1 .left) (c .if5 .taken), omega arith)
 
 returns-6 : tie.Need-returns-6
 returns-6 c =
-    let c2 = c .before .before in
-    let c3 = c2 .before in
-    let c6 = c3 .before .before .before in
-    (object-bare _ _ (c6 .if1 .left) (omega (arith, c3 .if3 .left)) (c2 .if4 .left) (c .if5 .left), omega arith)
+    let c3 = c .before .before .before in
+    object-other _ _ (c3 .if1 .left) (c .if5 .left) (c .before .if2 .left)
 
 pub expect-object-spec : {M : Type 1} → statement M
 expect-object-spec =
@@ -42,10 +42,9 @@ expect-object-spec =
     (λ c. search needs)
     (λ c. search needs)
     returns-2
+    (λ c. search needs)
+    (λ c. search needs)
     returns-3
-    (λ c. search needs)
     returns-4
-    (λ c. search needs)
-    (λ c. search needs)
     returns-5
     returns-6)
