@@ -109,7 +109,7 @@ fn read_entries(text: &[u8], list: &mut [u64]) -> SignatureReading
     SignatureReading::Entries(k)
 }
 
-// Reads a whole signature. What its part of the list does not hold is cleared after reading, so that nothing is written twice.
+// Reads a whole signature. What its part of the list does not hold is cleared after reading, so that an accepted one is written once.
 pub fn parse_signature(text: &[u8], list: &mut [u64]) -> SignatureReading
     ensures answers { λ r. ⌜ r ≡ signatureAnswer (now (text .entry)) (now (list .entry)) ⌝ }
     ensures fills { λ _. ⌜ now (list .exit) ≡ signatureList (now (text .entry)) (now (list .entry)) ⌝ }

@@ -120,7 +120,7 @@ impl fmt::Display for Container {
 }
 
 impl Refusal {
-    /// The words of those that reading a type meets.
+    /// The words of those that reading a type meets; the others are named, so that none is forgotten.
     fn fmt_type(&self, f: &mut fmt::Formatter<'_>) -> fmt::Result {
         match *self {
             Refusal::UnexpectedEnd { place } => write!(f, "something is missing at {place}"),
@@ -154,7 +154,15 @@ impl Refusal {
             Refusal::NotAllConsumed { place } => {
                 write!(f, "the type ends at {place}, the text does not")
             }
-            _ => Ok(()),
+            Refusal::TextTooLong
+            | Refusal::ListTooShort
+            | Refusal::BadSheet
+            | Refusal::BadName
+            | Refusal::OutputTooShort
+            | Refusal::SizeTooLarge
+            | Refusal::ExpectedOffset { .. }
+            | Refusal::OffsetTooLarge { .. }
+            | Refusal::EmptySignature => Ok(()),
         }
     }
 }
