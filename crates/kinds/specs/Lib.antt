@@ -10,6 +10,7 @@ pub mod Print
 pub mod Size
 pub mod Compare
 pub mod Parse
+pub mod Strict
 pub mod Expect
 pub mod Sound
 pub mod Sheet

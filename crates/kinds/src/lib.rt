@@ -105,7 +105,7 @@ pub enum PrimitiveSize {
     Nothing,
 }
 
-// Why text cannot be read.
+// Why text cannot be read; `SurplusZero` is of strict reading alone.
 pub enum ErrorKind {
     UnexpectedEnd,
     Unknown(u8),
@@ -116,9 +116,10 @@ pub enum ErrorKind {
     WrongEndContainer(ContainerKind),
     InvalidIdentifier(ContainerKind),
     NotAllConsumed,
+    SurplusZero,
 }
 
-// Why an input is turned away: document 01's numbers 1 to 6, and 7 to 15 with their place; those of signatures, 16 and 17 with their place, and 18.
+// Why an input is turned away: document 01's numbers 1 to 6, and 7 to 15 and 19 with their place; those of signatures, 16 and 17 with their place, and 18.
 pub enum Refusal {
     TextTooLong,
     ListTooShort,
@@ -274,6 +275,7 @@ impl ErrorKind {
             ErrorKind::WrongEndContainer(k) => [13, place, 0, k.kind()],
             ErrorKind::InvalidIdentifier(k) => [14, place, 0, k.kind()],
             ErrorKind::NotAllConsumed => [15, place, 0, 0],
+            ErrorKind::SurplusZero => [19, place, 0, 0],
         }
     }
 }

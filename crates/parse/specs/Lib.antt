@@ -2,4 +2,5 @@
 pub mod Answer
 pub mod Room
 pub mod Out
+pub mod Strictly
 pub mod Agree

@@ -29,6 +29,9 @@ returns-8 c = rw (c .before .before .self4 .given .1, c .kind2 .ensures)
 returns-9 : tie.Need-returns-9
 returns-9 c = rw (c .enum-told5 .given .1)
 
+returns-10 : tie.Need-returns-10
+returns-10 c = rw (c .enum-told6 .given .1)
+
 pub words-spec : {M : Type 1} → statement M
 words-spec =
     tie.close
@@ -46,6 +49,7 @@ words-spec =
     (λ c. search needs)
     (λ c κs. search needs)
     (λ c. search needs)
+    (λ c. search needs)
     returns
     returns-2
     returns-3
@@ -54,4 +58,5 @@ words-spec =
     returns-6
     returns-7
     returns-8
-    returns-9)
+    returns-9
+    returns-10)
