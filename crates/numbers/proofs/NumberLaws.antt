@@ -1,23 +1,25 @@
 -- Laws of the digits at a place of a text, and where a number ends.
-use Prim.Native.Nat.{ℕ, _+_, _*_, _-_, _≤_, _<_}
-use mathlib.Core.Path.{_≡_, refl, sym, ap, subst, _∙_}
+use Prim.Native.Nat.{ℕ, suc, _+_, _*_, _-_, _≤_, _<_}
+use mathlib.Core.Path.{_≡_, refl, sym, ap, ap₂, subst, _∙_}
 use mathlib.Core.List.{List, [], _∷_}
-use mathlib.Core.Bool.{Bool, true, false}
+use mathlib.Core.Bool.{Bool, true, false, _&&_}
 use native.Mathlib.Omega.{arith}
 use lib.ListN.{length, drop, getD}
-use lib.Dec.{leb}
-use borrow.Author.Tests.{leb-true}
+use lib.Dec.{leb, ltb, eqb}
+use borrow.Author.Tests.{leb-true, lt-ltb, le-ltb}
 use Rattle.kinds.proofs.ListLaws.{unread, unread-end}
 use Rattle.kinds.proofs.ParseLaws.{number-none, beyond-limit}
 use Rattle.kinds.proofs.TableLaws.{both}
 use Rattle.kinds.specs.Byte.{isDigit}
 use Rattle.kinds.specs.Parse as R
 use Rattle.kinds.specs.Parse.{value, noNumber, moreDigits, bounded, parseNumber}
+use Rattle.kinds.specs.Strict.{digitCount, surplusZero}
 use Rattle.kinds.specs.declared.ErrorKind.{ErrorKind}
 use Rattle.kinds.specs.declared.ErrorKind.the-variants.{UnexpectedEnd, ExpectedInteger, IntegerTooLarge}
 use Rattle.parser.proofs.RestLaws.{RestOf, rest-all, rest-later, rest-shorter, unread-at, place-of-drop}
-use Rattle.numbers.specs.Answer.{numberAt}
+use Rattle.numbers.specs.Answer.{digitsOf, numberAt}
 use Rattle.parser.specs.Run.{after}
+use Rattle.numbers.specs.declared.Digits.{Digits}
 use Rattle.numbers.specs.declared.Number.{Number}
 use Rattle.numbers.specs.declared.Number.the-variants.{Value, Refused}
 
@@ -77,20 +79,58 @@ digit-range b e =
     let p = both (leb 48 b) (leb b 57) e in
     (leb-true _ _ (p .0), leb-true _ _ (p .1))
 
+-- ---- What the digits show.
+
+abbrev taken : ℕ → Bool → Digits
+taken n x = record { «count» = n; «surplus» = x }
+
+pub few-digits : (s : List ℕ) (n : ℕ) → n ≡ digitCount s → n < 2 → taken n false ≡ digitsOf s
+unfolding surplusZero
+few-digits s n e h = ap₂ taken e (sym (ap (λ (x : Bool). x && eqb (getD s 0 0) 48) (le-ltb 1 (digitCount s) (omega arith))))
+
+-- The first of them stands at the place.
+pub many-digits : (text : List ℕ) (at n : ℕ) → n ≡ digitCount (drop at text) → 2 ≤ n → at < length text → taken n (eqb (getD text at 0) 48) ≡ digitsOf (drop at text)
+unfolding surplusZero
+many-digits text at n e h l = ap₂ taken e (sym (ap (λ (x : Bool). x && eqb (getD (drop at text) 0 0) 48) (lt-ltb 1 (digitCount (drop at text)) (omega arith)) ∙ ap (λ (s : List ℕ). eqb (getD s 0 0) 48) (unread text at l)))
+
+pub count-more-at : (s : List ℕ) (i : ℕ) → i < length s → isDigit (getD s i 0) ≡ true → digitCount (drop i s) ≡ suc (digitCount (drop (i + 1) s))
+unfolding digitCount
+count-more-at s i h e = ap digitCount (unread s i h) ∙ rw (e, digitCount)
+
+pub count-stop-at : (s : List ℕ) (i : ℕ) → i < length s → isDigit (getD s i 0) ≡ false → digitCount (drop i s) ≡ 0
+unfolding digitCount
+count-stop-at s i h e = ap digitCount (unread s i h) ∙ rw (e, digitCount)
+
+pub count-end-at : (s : List ℕ) (i : ℕ) → length s ≤ i → digitCount (drop i s) ≡ 0
+unfolding digitCount
+count-end-at s i h = ap digitCount (unread-end s i h)
+
+-- What remains after the digits is shorter by as many bytes.
+pub count-run : (s : List ℕ) → length s ≡ digitCount s + length (after isDigit s)
+unfolding digitCount after
+count-run [] = refl
+count-run (b ∷ s) = go (count-run s) (isDigit b)
+  where
+    go : length s ≡ digitCount s + length (after isDigit s) → (d : Bool)
+        → length (b ∷ s) ≡ elim d [ true ↦ suc (digitCount s) | false ↦ 0 ] + length {A = ℕ} (elim d [ true ↦ after isDigit s | false ↦ b ∷ s ])
+    go more true = omega (arith, more)
+    go more false = omega arith
+
 -- ---- The answer, and what it says of the text.
 
-pub answer-value : (text : List ℕ) (q : R.Number) (n to : ℕ) → to ≤ length text → q ≡ value n (drop to text) → Value n to ≡ numberAt text q
-unfolding numberAt
-answer-value text q n to l e = ap (Value n) (sym (place-of-drop text to l)) ∙ ap (numberAt text) (sym e)
+module _ (text s : List ℕ) (q : R.Number) where
+  pub answer-value : (n to : ℕ) (d : Digits) → to ≤ length text → d ≡ digitsOf s → q ≡ value n (drop to text) → Value n to d ≡ numberAt text s q
+  unfolding numberAt
+  answer-value n to d l t e = ap₂ (Value n) (sym (place-of-drop text to l)) t ∙ ap (numberAt text s) (sym e)
 
-pub answer-refused : (text : List ℕ) (q : R.Number) (why : ErrorKind) (to : ℕ) → to ≤ length text → q ≡ noNumber why (drop to text) → Refused why to ≡ numberAt text q
-unfolding numberAt
-answer-refused text q why to l e = ap (Refused why) (sym (place-of-drop text to l)) ∙ ap (numberAt text) (sym e)
+  pub answer-refused : (why : ErrorKind) (to : ℕ) (d : Digits) → to ≤ length text → d ≡ digitsOf s → q ≡ noNumber why (drop to text) → Refused why to d ≡ numberAt text s q
+  unfolding numberAt
+  answer-refused why to d l t e = ap₂ (Refused why) (sym (place-of-drop text to l)) t ∙ ap (numberAt text s) (sym e)
 
-pub answer-ended : (text : List ℕ) (limit at : ℕ) → length text ≤ at → Refused UnexpectedEnd (length text) ≡ numberAt text (parseNumber limit (drop at text))
+pub answer-ended : (text : List ℕ) (limit at : ℕ) → length text ≤ at → Refused UnexpectedEnd (length text) (taken 0 false) ≡ numberAt text (drop at text) (parseNumber limit (drop at text))
 answer-ended text limit at l =
     let none : drop (length text) text ≡ drop at text = unread-end text (length text) (omega arith) ∙ sym (unread-end text at l) in
-    answer-refused _ _ _ _ (omega arith) (number-end-at limit text at l ∙ ap (noNumber UnexpectedEnd) (sym none))
+    answer-refused _ _ _ _ _ _ (omega arith) (few-digits _ _ (sym (count-end-at text at l)) (omega arith)) (number-end-at limit text at l ∙ ap (noNumber UnexpectedEnd) (sym none))
 
 -- What is left after a number is the end of the text before it.
 abbrev pub LeftOf : List ℕ → R.Number → Type 0
@@ -156,13 +196,26 @@ value-shorter limit s n t e = subst (Shorter s) e (shorter-number limit s)
 
 -- Of an answer: what was read, what is unread after it, and that its place is at or after `at`, within the text.
 abbrev pub NumberIs : List ℕ → ℕ → Number → R.Number → Type 0
-NumberIs text at (Value v to) q = (q ≡ value v (drop to text)) × ((at ≤ to) × (to ≤ length text))
-NumberIs text at (Refused why to) q = (q ≡ noNumber why (drop to text)) × ((at ≤ to) × (to ≤ length text))
+NumberIs text at (Value v to d) q = (q ≡ value v (drop to text)) × ((at ≤ to) × (to ≤ length text))
+NumberIs text at (Refused why to d) q = (q ≡ noNumber why (drop to text)) × ((at ≤ to) × (to ≤ length text))
 
-answered : (text : List ℕ) (at : ℕ) → at ≤ length text → (q : R.Number) → LeftOf (drop at text) q → NumberIs text at (numberAt text q) q
+answered : (text : List ℕ) (at : ℕ) → at ≤ length text → (q : R.Number) → LeftOf (drop at text) q → NumberIs text at (numberAt text (drop at text) q) q
 unfolding numberAt
 answered text at l (value n t) r = let u = unread-at l r in (ap (value n) (u .is), (u .onward, u .within))
 answered text at l (noNumber e t) r = let u = unread-at l r in (ap (noNumber e) (u .is), (u .onward, u .within))
 
-pub number-is : (text : List ℕ) (limit at : ℕ) (r : Number) → at ≤ length text → r ≡ numberAt text (parseNumber limit (drop at text)) → NumberIs text at r (parseNumber limit (drop at text))
+pub number-is : (text : List ℕ) (limit at : ℕ) (r : Number) → at ≤ length text → r ≡ numberAt text (drop at text) (parseNumber limit (drop at text)) → NumberIs text at r (parseNumber limit (drop at text))
 number-is text limit at r l e = rw e (answered text at l (parseNumber limit (drop at text)) (left-number limit (drop at text)))
+
+-- Its digits.
+abbrev pub digitsIn : Number → Digits
+digitsIn (Value v to d) = d
+digitsIn (Refused why to d) = d
+
+digits-told : (text s : List ℕ) (q : R.Number) → digitsIn (numberAt text s q) ≡ digitsOf s
+unfolding numberAt
+digits-told text s (value n t) = refl
+digits-told text s (noNumber e t) = refl
+
+pub number-digits : (text : List ℕ) (limit at : ℕ) (r : Number) → r ≡ numberAt text (drop at text) (parseNumber limit (drop at text)) → digitsIn r ≡ digitsOf (drop at text)
+number-digits text limit at r e = ap digitsIn e ∙ digits-told text (drop at text) (parseNumber limit (drop at text))

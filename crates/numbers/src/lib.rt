@@ -1,17 +1,24 @@
 // Numbers in text (parse.rs, `parse_u64`, `parse_u8`, `chomp_digits`): read at a place of the text; a place past the end is taken as the end.
 ghost use mathlib.Core.Path.{_≡_};
-ghost use Prim.Native.Nat.{_≤_};
-ghost use lib.ListN.{drop};
+ghost use Prim.Native.Nat.{_+_, _≤_};
+ghost use lib.ListN.{length, drop};
 ghost use Rattle.kinds.specs.Byte.{isDigit};
 ghost use Rattle.kinds.specs.Parse.{maxU64, maxU32, maxU8, parseNumber};
+ghost use Rattle.kinds.specs.Strict.{digitCount};
 ghost use Rattle.parser.specs.Run.{runEnd};
-ghost use Rattle.numbers.specs.Answer.{numberAt};
+ghost use Rattle.numbers.specs.Answer.{digitsOf, numberAt};
 use kinds::ErrorKind;
 
-// A number and the place after it, or why there is none and where.
+// How many digits a number took, and whether the first is a surplus zero: there are more, and it is 0.
+pub struct Digits {
+    pub count: usize,
+    pub surplus: bool,
+}
+
+// A number and the place after it, or why there is none and where; both with the digits that were taken.
 pub enum Number {
-    Value(u64, usize),
-    Refused(ErrorKind, usize),
+    Value(u64, usize, Digits),
+    Refused(ErrorKind, usize, Digits),
 }
 
 fn wide(b: u8) -> u64
@@ -40,51 +47,84 @@ fn chomp_digits(text: &[u8], at: usize) -> usize
     i
 }
 
+// What the digits from `at` up to `to` show.
+fn digits_taken(text: &[u8], at: usize, to: usize) -> Digits
+    requires { ⌜ (to ≡ at + digitCount (drop at (now text))) × (to ≤ length (now text)) ⌝ }
+    ensures { λ r. ⌜ r ≡ digitsOf (drop at (now (text .entry))) ⌝ }
+{
+    let count = to - at;
+    if count < 2 {
+        return Digits {
+            count,
+            surplus: false,
+        };
+    }
+    Digits {
+        count,
+        surplus: text[at] == b'0',
+    }
+}
+
 // Every number is read here: `parse_u64`, `parse_u32` and `parse_u8` by their limits.
 fn parse_number(text: &[u8], at: usize, limit: u64) -> Number
     requires { ⌜ 9 ≤ limit ⌝ }
-    ensures { λ r. ⌜ r ≡ numberAt (now (text .entry)) (parseNumber limit (drop at (now (text .entry)))) ⌝ }
+    ensures { λ r. ⌜ r ≡ numberAt (now (text .entry)) (drop at (now (text .entry))) (parseNumber limit (drop at (now (text .entry)))) ⌝ }
 {
     if text.len() <= at {
-        return Number::Refused(ErrorKind::UnexpectedEnd, text.len());
+        return Number::Refused(
+            ErrorKind::UnexpectedEnd,
+            text.len(),
+            Digits {
+                count: 0,
+                surplus: false,
+            },
+        );
     }
     if !is_digit(text[at]) {
-        return Number::Refused(ErrorKind::ExpectedInteger, at);
+        return Number::Refused(
+            ErrorKind::ExpectedInteger,
+            at,
+            Digits {
+                count: 0,
+                surplus: false,
+            },
+        );
     }
     let mut acc: u64 = 0;
     let mut i = at;
     while i < text.len() {
         let b = text[i];
         if !is_digit(b) {
-            return Number::Value(acc, i);
+            return Number::Value(acc, i, digits_taken(text, at, i));
         }
         let d = wide(b - 48);
         if (limit - d) / 10 < acc {
-            return Number::Refused(ErrorKind::IntegerTooLarge, chomp_digits(text, i + 1));
+            let to = chomp_digits(text, i + 1);
+            return Number::Refused(ErrorKind::IntegerTooLarge, to, digits_taken(text, at, to));
         }
         acc = acc * 10 + d;
         i += 1;
     }
-    Number::Value(acc, i)
+    Number::Value(acc, i, digits_taken(text, at, i))
 }
 
 // A number of 64 bits.
 pub fn parse_u64(text: &[u8], at: usize) -> Number
-    ensures { λ r. ⌜ r ≡ numberAt (now (text .entry)) (parseNumber maxU64 (drop at (now (text .entry)))) ⌝ }
+    ensures { λ r. ⌜ r ≡ numberAt (now (text .entry)) (drop at (now (text .entry))) (parseNumber maxU64 (drop at (now (text .entry)))) ⌝ }
 {
     parse_number(text, at, 18446744073709551615)
 }
 
 // A number of 32 bits.
 pub fn parse_u32(text: &[u8], at: usize) -> Number
-    ensures { λ r. ⌜ r ≡ numberAt (now (text .entry)) (parseNumber maxU32 (drop at (now (text .entry)))) ⌝ }
+    ensures { λ r. ⌜ r ≡ numberAt (now (text .entry)) (drop at (now (text .entry))) (parseNumber maxU32 (drop at (now (text .entry)))) ⌝ }
 {
     parse_number(text, at, 4294967295)
 }
 
 // A number of 8 bits.
 pub fn parse_u8(text: &[u8], at: usize) -> Number
-    ensures { λ r. ⌜ r ≡ numberAt (now (text .entry)) (parseNumber maxU8 (drop at (now (text .entry)))) ⌝ }
+    ensures { λ r. ⌜ r ≡ numberAt (now (text .entry)) (drop at (now (text .entry))) (parseNumber maxU8 (drop at (now (text .entry)))) ⌝ }
 {
     parse_number(text, at, 255)
 }
