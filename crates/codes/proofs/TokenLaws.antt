@@ -12,14 +12,18 @@ use Rattle.kinds.specs.Byte.{isDigit}
 use Rattle.kinds.specs.Parse as R
 use Rattle.kinds.specs.Parse.{value, noNumber, parseNumber, parseComplex, parseQuoted, parseObject, leaf, integral, parseBits, parseBitField, untyped, typed, singleKind, maxU64, maxU8}
 use Rattle.kinds.specs.Parse.{Parsed, encoding, refused, containerEnd, arrayEnd, start, begin, single}
+use Rattle.kinds.specs.Strict.{typedNumber, bitsNumbers, numbersOf}
 use Rattle.kinds.specs.Tree.{end, node, kind, primitive, bitField, typedBitField}
 use Rattle.kinds.specs.declared.ContainerKind.{ContainerKind}
 use Rattle.kinds.specs.declared.ErrorKind.{ErrorKind}
 use Rattle.kinds.specs.declared.ErrorKind.the-variants.{UnexpectedEnd, IntegerTooLarge, UnknownAfterComplex, Unknown}
+use Rattle.numbers.specs.Answer.{digitsOf}
+use Rattle.numbers.specs.declared.Digits.{Digits}
 use Rattle.parser.specs.Place.{placeOf}
 use Rattle.parser.proofs.RestLaws.{RestOf, rest-all, rest-later, rest-shorter, rest-of-rest, unread-at, place-of-drop}
 use Rattle.numbers.proofs.NumberLaws.{LeftOf, left-number}
-use Rattle.codes.specs.Answer.{hasParts, typeKind, labelToken, tokenOf, tokenFrom, tokenAt}
+use Rattle.codes.specs.Answer.{hasParts, typeKind, digitsThen, digitsIn, untypedToken, labelToken, tokenOf, tokenFrom, tokenAt}
+use Rattle.codes.specs.declared.BitsDigits.{BitsDigits}
 use Rattle.codes.specs.declared.Token.{Token}
 use Rattle.codes.specs.declared.Token.the-variants.{Primitive, BitField, TypedBitField, ArrayEnd, ContainerEnd, Refused, Parts, End}
 
@@ -100,6 +104,13 @@ bits-short n [] h = refl
 bits-short n (b ∷ []) h = refl
 bits-short n (b ∷ x ∷ s) h = absurd (omega arith)
 
+-- Then there is no second number.
+pub numbers-short : (s : List ℕ) → length s < 2 → typedNumber s ≡ []
+unfolding typedNumber
+numbers-short [] h = refl
+numbers-short (b ∷ []) h = refl
+numbers-short (b ∷ x ∷ s) h = absurd (omega arith)
+
 two : (n b x : ℕ) (s : List ℕ) → integral b && isDigit x ≡ false → parseBitField n (b ∷ x ∷ s) ≡ untyped n (b ∷ x ∷ s)
 unfolding parseBitField
 two n b x s e = rw (e, parseBitField)
@@ -144,9 +155,32 @@ module _ (text : List ℕ) (i : ℕ) (h : i + 1 < length text) where
       ∙ two-typed n _ _ p _ e d s
       ∙ sym (ap (λ (t : List ℕ). typed n p (parseNumber 255 t)) (unread text (i + 1) h))
 
+  pub numbers-untyped : integral (getD text i 0) && isDigit (getD text (i + 1) 0) ≡ false → typedNumber (drop i text) ≡ []
+  unfolding typedNumber
+  numbers-untyped e = ap typedNumber two-unread ∙ rw (e, typedNumber) refl
+
+  pub numbers-no-type : integral (getD text i 0) ≡ false → typedNumber (drop i text) ≡ []
+  numbers-no-type e = numbers-untyped (false-and _ _ e)
+
+  pub numbers-no-digit : isDigit (getD text (i + 1) 0) ≡ false → typedNumber (drop i text) ≡ []
+  numbers-no-digit e = numbers-untyped (and-false (integral (getD text i 0)) _ e)
+
+  pub numbers-typed : integral (getD text i 0) ≡ true → isDigit (getD text (i + 1) 0) ≡ true → typedNumber (drop i text) ≡ drop (i + 1) text ∷ []
+  unfolding typedNumber _&&_
+  numbers-typed e d = ap typedNumber two-unread ∙ (rw (e, typedNumber) (rw (d, typedNumber) refl)) ∙ ap (λ (t : List ℕ). t ∷ []) (sym (unread text (i + 1) h))
+
 pub bits-none : (r : ErrorKind) (s : List ℕ) → parseBits (noNumber r s) ≡ refused r s
 unfolding parseBits
 bits-none r s = refl
+
+-- The numbers of a bitfield, from what was read of the first.
+pub bits-numbers : (s : List ℕ) (n : ℕ) (t : List ℕ) → parseNumber maxU64 s ≡ value n t → bitsNumbers s ≡ s ∷ typedNumber t
+unfolding bitsNumbers
+bits-numbers s n t e = rw (e, bitsNumbers) refl
+
+pub bits-no-number : (s : List ℕ) (r : ErrorKind) (t : List ℕ) → parseNumber maxU64 s ≡ noNumber r t → bitsNumbers s ≡ s ∷ []
+unfolding bitsNumbers
+bits-no-number s r t e = rw (e, bitsNumbers) refl
 
 pub typed-is : (o p n : ℕ) (s : List ℕ) → typed o p (value n s) ≡ encoding (typedBitField o n) (node (primitive p) end end) s
 unfolding typed
@@ -158,38 +192,82 @@ typed-none o p r s = refl
 
 -- ---- The answers.
 
+abbrev pub both : Digits → Digits → BitsDigits
+both d e = record { «first» = d; «second» = e }
+
 module _ (text : List ℕ) (to : ℕ) (l : to ≤ length text) where
-  pub answer-primitive : (p : ℕ) (q : Parsed) → q ≡ encoding (primitive p) end (drop to text) → Primitive p to ≡ tokenOf text q
+  pub answer-primitive : (d : BitsDigits) (p : ℕ) (q : Parsed) → q ≡ encoding (primitive p) end (drop to text) → Primitive p to ≡ tokenOf text d q
   unfolding tokenOf labelToken
-  answer-primitive p q e = ap (Primitive p) (sym (place-of-drop text to l)) ∙ ap (tokenOf text) (sym e)
+  answer-primitive d p q e = ap (Primitive p) (sym (place-of-drop text to l)) ∙ ap (tokenOf text d) (sym e)
 
   -- the kind of a primitive that is named
-  pub answer-kind : (k p : ℕ) (q : Parsed) → k ≡ p → q ≡ encoding (primitive p) end (drop to text) → Primitive k to ≡ tokenOf text q
-  answer-kind k p q f e = ap (λ (x : ℕ). Primitive x to) f ∙ answer-primitive p q e
+  pub answer-kind : (d : BitsDigits) (k p : ℕ) (q : Parsed) → k ≡ p → q ≡ encoding (primitive p) end (drop to text) → Primitive k to ≡ tokenOf text d q
+  answer-kind d k p q f e = ap (λ (x : ℕ). Primitive x to) f ∙ answer-primitive d p q e
 
-  pub answer-refused : (why : ErrorKind) (q : Parsed) → q ≡ refused why (drop to text) → Refused why to ≡ tokenOf text q
+  pub answer-refused : (d : BitsDigits) (why : ErrorKind) (q : Parsed) → q ≡ refused why (drop to text) → Refused why to d ≡ tokenOf text d q
   unfolding tokenOf
-  answer-refused why q e = ap (Refused why) (sym (place-of-drop text to l)) ∙ ap (tokenOf text) (sym e)
+  answer-refused d why q e = ap (λ (k : ℕ). Refused why k d) (sym (place-of-drop text to l)) ∙ ap (tokenOf text d) (sym e)
 
-  pub answer-array-end : ArrayEnd to ≡ tokenOf text (arrayEnd (drop to text))
+  pub answer-array-end : (d : BitsDigits) → ArrayEnd to ≡ tokenOf text d (arrayEnd (drop to text))
   unfolding tokenOf
-  answer-array-end = ap ArrayEnd (sym (place-of-drop text to l))
+  answer-array-end d = ap ArrayEnd (sym (place-of-drop text to l))
 
-  pub answer-container-end : (k : ContainerKind) → ContainerEnd k to ≡ tokenOf text (containerEnd k (drop to text))
+  pub answer-container-end : (d : BitsDigits) (k : ContainerKind) → ContainerEnd k to ≡ tokenOf text d (containerEnd k (drop to text))
   unfolding tokenOf
-  answer-container-end k = ap (ContainerEnd k) (sym (place-of-drop text to l))
+  answer-container-end d k = ap (ContainerEnd k) (sym (place-of-drop text to l))
 
-  pub answer-typed : (o p n : ℕ) (q : Parsed) → q ≡ encoding (typedBitField o n) (node (primitive p) end end) (drop to text) → TypedBitField o p n to ≡ tokenOf text q
+  pub answer-typed : (d : BitsDigits) (o p n : ℕ) (q : Parsed) → q ≡ encoding (typedBitField o n) (node (primitive p) end end) (drop to text) → TypedBitField o p n to d ≡ tokenOf text d q
   unfolding tokenOf labelToken typeKind kind
-  answer-typed o p n q e = ap (TypedBitField o p n) (sym (place-of-drop text to l)) ∙ ap (tokenOf text) (sym e)
+  answer-typed d o p n q e = ap (λ (k : ℕ). TypedBitField o p n k d) (sym (place-of-drop text to l)) ∙ ap (tokenOf text d) (sym e)
 
-  pub answer-untyped : (n : ℕ) (q : Parsed) → q ≡ untyped n (drop to text) → cond (leb n maxU8) (BitField n to) (Refused IntegerTooLarge to) ≡ tokenOf text q
+  pub answer-untyped : (d : BitsDigits) (n : ℕ) (q : Parsed) → q ≡ untyped n (drop to text) → untypedToken n to d ≡ tokenOf text d q
   unfolding tokenOf labelToken untyped leaf
-  answer-untyped n q e = go (leb n maxU8) refl ∙ ap (tokenOf text) (sym e)
+  answer-untyped d n q e = go (leb n maxU8) refl ∙ ap (tokenOf text d) (sym e)
     where
-      go : (d : Bool) → leb n maxU8 ≡ d → cond d (BitField n to) (Refused IntegerTooLarge to) ≡ tokenOf text (untyped n (drop to text))
-      go true f = ap (BitField n) (sym (place-of-drop text to l)) ∙ rw (f, untyped) refl
-      go false f = ap (Refused IntegerTooLarge) (sym (place-of-drop text to l)) ∙ rw (f, untyped) refl
+      go : (y : Bool) → leb n maxU8 ≡ y → cond y (BitField n to d) (Refused IntegerTooLarge to d) ≡ tokenOf text d (untyped n (drop to text))
+      go true f = ap (λ (k : ℕ). BitField n k d) (sym (place-of-drop text to l)) ∙ rw (f, untyped) refl
+      go false f = ap (λ (k : ℕ). Refused IntegerTooLarge k d) (sym (place-of-drop text to l)) ∙ rw (f, untyped) refl
+
+-- A bitfield whose first number ended at `to` with the digits `d`.
+module _ (text : List ℕ) (to n : ℕ) (d : Digits) where
+  bits-is : (ss : List (List ℕ)) {r : Token} → typedNumber (drop to text) ≡ ss → r ≡ tokenOf text (digitsThen d ss) (parseBitField n (drop to text))
+      → r ≡ tokenOf text (digitsThen d (typedNumber (drop to text))) (parseBitField n (drop to text))
+  bits-is ss e f = f ∙ ap (λ (xs : List (List ℕ)). tokenOf text (digitsThen d xs) (parseBitField n (drop to text))) (sym e)
+
+  pub answer-first : to ≤ length text → typedNumber (drop to text) ≡ [] → parseBitField n (drop to text) ≡ untyped n (drop to text)
+      → untypedToken n to (digitsThen d []) ≡ tokenOf text (digitsThen d (typedNumber (drop to text))) (parseBitField n (drop to text))
+  answer-first l e f = bits-is [] e (answer-untyped text to l (digitsThen d []) n (parseBitField n (drop to text)) f)
+
+  module _ (end-at : ℕ) (l : end-at ≤ length text) (c : Digits) (shows : c ≡ digitsOf (drop (to + 1) text)) (e : typedNumber (drop to text) ≡ drop (to + 1) text ∷ []) where
+    pub answer-both : (p m : ℕ) → parseBitField n (drop to text) ≡ encoding (typedBitField n m) (node (primitive p) end end) (drop end-at text)
+        → TypedBitField n p m end-at (both d c) ≡ tokenOf text (digitsThen d (typedNumber (drop to text))) (parseBitField n (drop to text))
+    answer-both p m f =
+        bits-is (drop (to + 1) text ∷ []) e
+        (ap (λ (x : Digits). TypedBitField n p m end-at (both d x)) shows ∙ answer-typed text end-at l (both d (digitsOf (drop (to + 1) text))) n p m (parseBitField n (drop to text)) f)
+
+    pub refused-both : (why : ErrorKind) → parseBitField n (drop to text) ≡ refused why (drop end-at text)
+        → Refused why end-at (both d c) ≡ tokenOf text (digitsThen d (typedNumber (drop to text))) (parseBitField n (drop to text))
+    refused-both why f =
+        bits-is (drop (to + 1) text ∷ []) e
+        (ap (λ (x : Digits). Refused why end-at (both d x)) shows ∙ answer-refused text end-at l (both d (digitsOf (drop (to + 1) text))) why (parseBitField n (drop to text)) f)
+
+-- A bitfield, from its first number at the place `at`.
+module _ (text : List ℕ) (at : ℕ) (d : Digits) (shows : d ≡ digitsOf (drop at text)) where
+  pub answer-number : (n to : ℕ) {r : Token} → parseNumber maxU64 (drop at text) ≡ value n (drop to text)
+      → r ≡ tokenOf text (digitsThen d (typedNumber (drop to text))) (parseBitField n (drop to text))
+      → r ≡ tokenOf text (digitsIn (bitsNumbers (drop at text))) (parseBits (parseNumber maxU64 (drop at text)))
+  answer-number n to e f =
+      f
+      ∙ ap (λ (x : Digits). tokenOf text (digitsThen x (typedNumber (drop to text))) (parseBitField n (drop to text))) shows
+      ∙ ap (λ (xs : List (List ℕ)). tokenOf text (digitsIn xs) (parseBitField n (drop to text))) (sym (bits-numbers (drop at text) n (drop to text) e))
+      ∙ ap (tokenOf text (digitsIn (bitsNumbers (drop at text)))) (sym (ap parseBits e ∙ bits-value n (drop to text)))
+
+  pub refused-number : (why : ErrorKind) (to : ℕ) → to ≤ length text → parseNumber maxU64 (drop at text) ≡ noNumber why (drop to text)
+      → Refused why to (digitsThen d []) ≡ tokenOf text (digitsIn (bitsNumbers (drop at text))) (parseBits (parseNumber maxU64 (drop at text)))
+  refused-number why to l e =
+      ap (λ (x : Digits). Refused why to (digitsThen x [])) shows
+      ∙ ap (λ (xs : List (List ℕ)). Refused why to (digitsIn xs)) (sym (bits-no-number (drop at text) why (drop to text) e))
+      ∙ answer-refused text to l (digitsIn (bitsNumbers (drop at text))) why (parseBits (parseNumber maxU64 (drop at text))) (ap parseBits e ∙ bits-none why (drop to text))
 
 pub no-text : (text : List ℕ) (at : ℕ) → length text ≤ at → drop at text ≡ drop (length text) text
 no-text text at l = unread-end text at l ∙ sym (unread-end text (length text) (omega arith))
@@ -292,22 +370,22 @@ simple-number s (noNumber e t) r = is-refused _ r
 -- Of a token: what was read, and what is unread after it.
 abbrev pub TokenSays : List ℕ → Token → Parsed → Type 0
 TokenSays text (Primitive p to) q = q ≡ encoding (primitive p) end (drop to text)
-TokenSays text (BitField n to) q = q ≡ encoding (bitField n) end (drop to text)
-TokenSays text (TypedBitField o p n to) q = q ≡ encoding (typedBitField o n) (node (primitive p) end end) (drop to text)
+TokenSays text (BitField n to d) q = q ≡ encoding (bitField n) end (drop to text)
+TokenSays text (TypedBitField o p n to d) q = q ≡ encoding (typedBitField o n) (node (primitive p) end end) (drop to text)
 TokenSays text (ArrayEnd to) q = q ≡ arrayEnd (drop to text)
 TokenSays text (ContainerEnd k to) q = q ≡ containerEnd k (drop to text)
-TokenSays text (Refused why to) q = q ≡ refused why (drop to text)
+TokenSays text (Refused why to d) q = q ≡ refused why (drop to text)
 TokenSays text Parts q = ⊥
 TokenSays text End q = ⊥
 
 -- Its place: after `at`, within the text. A typed bitfield takes two bytes or more, and a closer one.
 abbrev pub TokenBound : List ℕ → ℕ → Token → Type 0
 TokenBound text at (Primitive p to) = (at < to) × (to ≤ length text)
-TokenBound text at (BitField n to) = (at < to) × (to ≤ length text)
-TokenBound text at (TypedBitField o p n to) = (at + 1 < to) × (to ≤ length text)
+TokenBound text at (BitField n to d) = (at < to) × (to ≤ length text)
+TokenBound text at (TypedBitField o p n to d) = (at + 1 < to) × (to ≤ length text)
 TokenBound text at (ArrayEnd to) = (to ≡ at + 1) × (start (getD text at 0) ≡ R.closeArray)
 TokenBound text at (ContainerEnd k to) = (to ≡ at + 1) × (start (getD text at 0) ≡ R.closeContainer k)
-TokenBound text at (Refused why to) = to ≤ length text
+TokenBound text at (Refused why to d) = to ≤ length text
 TokenBound text at Parts = ⊥
 TokenBound text at End = ⊥
 
@@ -324,26 +402,26 @@ module _ (text : List ℕ) (at : ℕ) (h : at < length text) where
   unread-next : drop (at + 1) text ≡ drop (placeOf text (drop (at + 1) text)) text
   unread-next = ap (λ (k : ℕ). drop k text) (sym place-next)
 
-  simple-bound : (q : Parsed) → Simple (drop (at + 1) text) q → TokenBound text at (tokenOf text q) × TokenSays text (tokenOf text q) q
+  simple-bound : (d : BitsDigits) (q : Parsed) → Simple (drop (at + 1) text) q → TokenBound text at (tokenOf text d q) × TokenSays text (tokenOf text d q) q
   unfolding tokenOf labelToken typeKind kind
-  simple-bound q (is-primitive p r) = let u = unread-at {text = text} {at = at + 1} (omega arith) r in ((omega (arith, u .onward), u .within), ap (encoding (primitive p) end) (u .is))
-  simple-bound q (is-bit-field n r) = let u = unread-at {text = text} {at = at + 1} (omega arith) r in ((omega (arith, u .onward), u .within), ap (encoding (bitField n) end) (u .is))
-  simple-bound q (is-typed o n p r) =
+  simple-bound d q (is-primitive p r) = let u = unread-at {text = text} {at = at + 1} (omega arith) r in ((omega (arith, u .onward), u .within), ap (encoding (primitive p) end) (u .is))
+  simple-bound d q (is-bit-field n r) = let u = unread-at {text = text} {at = at + 1} (omega arith) r in ((omega (arith, u .onward), u .within), ap (encoding (bitField n) end) (u .is))
+  simple-bound d q (is-typed o n p r) =
       let u = unread-at {text = text} {at = at + 1} (omega arith) (r .rest) in
       ((omega (arith, r .some, length-drop (at + 1) text), u .within), ap (encoding (typedBitField o n) (node (primitive p) end end)) (u .is))
-  simple-bound q (is-refused e r) = let u = unread-at {text = text} {at = at + 1} (omega arith) r in (u .within, ap (refused e) (u .is))
+  simple-bound d q (is-refused e r) = let u = unread-at {text = text} {at = at + 1} (omega arith) r in (u .within, ap (refused e) (u .is))
 
   -- What reading gives by what the byte begins, where it has no parts.
   begun : (S : R.Start) → start (getD text at 0) ≡ S → hasParts S ≡ false
       → TokenBound text at (tokenFrom text (getD text at 0) S (drop (at + 1) text))
       × ((inner : List ℕ → Parsed) (fields : ContainerKind → List ℕ → R.Items) → TokenSays text (tokenFrom text (getD text at 0) S (drop (at + 1) text)) (begin (getD text at 0) S (drop (at + 1) text) inner fields))
   unfolding tokenFrom hasParts begin leaf tokenOf labelToken
-  begun (single p) e n = let x = simple-bound (encoding (primitive p) end (drop (at + 1) text)) (is-primitive _ rest-all) in (x .0, λ inner fields. x .1)
-  begun R.complex e n = let x = simple-bound (parseComplex (drop (at + 1) text)) (simple-complex (drop (at + 1) text)) in (x .0, λ inner fields. x .1)
-  begun R.object e n = let x = simple-bound (parseObject (drop (at + 1) text)) (simple-object (drop (at + 1) text)) in (x .0, λ inner fields. x .1)
+  begun (single p) e n = let x = simple-bound (digitsIn (numbersOf (single p) (drop (at + 1) text))) (encoding (primitive p) end (drop (at + 1) text)) (is-primitive _ rest-all) in (x .0, λ inner fields. x .1)
+  begun R.complex e n = let x = simple-bound (digitsIn (numbersOf R.complex (drop (at + 1) text))) (parseComplex (drop (at + 1) text)) (simple-complex (drop (at + 1) text)) in (x .0, λ inner fields. x .1)
+  begun R.object e n = let x = simple-bound (digitsIn (numbersOf R.object (drop (at + 1) text))) (parseObject (drop (at + 1) text)) (simple-object (drop (at + 1) text)) in (x .0, λ inner fields. x .1)
   begun R.bits e n =
       let q : R.Number = parseNumber maxU64 (drop (at + 1) text) in
-      let x = simple-bound (parseBits q) (simple-number (drop (at + 1) text) q (left-number maxU64 (drop (at + 1) text))) in
+      let x = simple-bound (digitsIn (numbersOf R.bits (drop (at + 1) text))) (parseBits q) (simple-number (drop (at + 1) text) q (left-number maxU64 (drop (at + 1) text))) in
       (x .0, λ inner fields. x .1)
   begun (R.indirection l) e n = let z : _≡_ {A = ℕ} 0 1 = cc in absurd (omega arith)
   begun R.openArray e n = let z : _≡_ {A = ℕ} 0 1 = cc in absurd (omega arith)

@@ -1,13 +1,15 @@
 // What a byte begins; what stands at a place of a text and has no parts (parse.rs, `parse_inner`): a primitive, a bitfield or a closer; and where runs of pointers and of codes end.
 ghost use mathlib.Core.Path.{_≡_};
-ghost use mathlib.Core.Bool.{_||_, cond};
+ghost use mathlib.Core.Bool.{_||_};
+ghost use mathlib.Core.List.{[]};
 ghost use Prim.Native.Nat.{_≤_};
 ghost use lib.ListN.{length, drop};
-ghost use lib.Dec.{leb, ltb, eqb};
-ghost use Rattle.kinds.specs.Parse.{maxU64, maxU8, parseNumber, parseComplex, parseQuoted, parseObject, parseBitField, parseBits, start};
+ghost use lib.Dec.{ltb, eqb};
+ghost use Rattle.kinds.specs.Parse.{maxU64, parseNumber, parseComplex, parseQuoted, parseObject, parseBitField, parseBits, start};
+ghost use Rattle.kinds.specs.Strict.{typedNumber, bitsNumbers};
 ghost use Rattle.kinds.specs.Container.{sameContainer};
 ghost use Rattle.parser.specs.Run.{runEnd};
-ghost use Rattle.codes.specs.Answer.{startWord, codeOf, isCode, isIndirection, closed, closesFields, tokenOf, tokenAt};
+ghost use Rattle.codes.specs.Answer.{startWord, codeOf, isCode, isIndirection, closed, closesFields, noDigits, digitsThen, digitsIn, untypedToken, tokenOf, tokenAt};
 use kinds::ARRAY;
 use kinds::ATOMIC;
 use kinds::ContainerKind;
@@ -17,20 +19,28 @@ use kinds::PRIMITIVES;
 use kinds::Primitive;
 use kinds::STRUCT;
 use kinds::UNION;
+use numbers::Digits;
 use numbers::Number;
 use numbers::is_digit;
 use numbers::parse_u8;
 use numbers::parse_u64;
 
-// A primitive's kind; a bitfield's size; its offset, its type's kind and its size; a closer; each with the place after it.
+// What the digits of a bitfield's numbers show, in their order; no digits for a number that was not met.
+pub struct BitsDigits {
+    pub first: Digits,
+    pub second: Digits,
+}
+
+// A primitive's kind; a bitfield's size; its offset, its type's kind and its size; a closer; each with the place after it. Digits are those of
+// a bitfield, also where it is refused.
 // `Parts`: a pointer, an atomic, an array or a container begins. `End`: the text ended.
 pub enum Token {
     Primitive(u64, usize),
-    BitField(u64, usize),
-    TypedBitField(u64, u64, u64, usize),
+    BitField(u64, usize, BitsDigits),
+    TypedBitField(u64, u64, u64, usize, BitsDigits),
     ArrayEnd(usize),
     ContainerEnd(ContainerKind, usize),
-    Refused(ErrorKind, usize),
+    Refused(ErrorKind, usize, BitsDigits),
     Parts,
     End,
 }
@@ -102,27 +112,53 @@ pub fn single_kind(b: u8) -> u64
     NO_KIND
 }
 
+// Of a number that was not met.
+fn no_digits() -> Digits
+    ensures { λ r. ⌜ r ≡ noDigits ⌝ }
+{
+    Digits {
+        count: 0,
+        surplus: false,
+    }
+}
+
+// Of a bitfield's first number alone.
+fn first_digits(first: Digits) -> BitsDigits
+    ensures { λ r. ⌜ r ≡ digitsThen first [] ⌝ }
+{
+    let second = no_digits();
+    BitsDigits { first, second }
+}
+
+// A refusal where no number was met.
+fn refused(why: ErrorKind, to: usize) -> Token
+    ensures { λ r. ⌜ r ≡ Token.Refused why to (digitsIn []) ⌝ }
+{
+    let none = first_digits(no_digits());
+    Token::Refused(why, to, none)
+}
+
 // After `j`.
 fn parse_complex(text: &[u8], at: usize) -> Token
     requires { ⌜ at ≤ length (now text) ⌝ }
-    ensures { λ r. ⌜ r ≡ tokenOf (now (text .entry)) (parseComplex (drop at (now (text .entry)))) ⌝ }
+    ensures { λ r. ⌜ r ≡ tokenOf (now (text .entry)) (digitsIn []) (parseComplex (drop at (now (text .entry)))) ⌝ }
 {
     if text.len() <= at {
-        return Token::Refused(ErrorKind::UnexpectedEnd, at);
+        return refused(ErrorKind::UnexpectedEnd, at);
     }
     let b = text[at];
     match b {
         b'f' => Token::Primitive(Primitive::FloatComplex.kind(), at + 1),
         b'd' => Token::Primitive(Primitive::DoubleComplex.kind(), at + 1),
         b'D' => Token::Primitive(Primitive::LongDoubleComplex.kind(), at + 1),
-        _ => Token::Refused(ErrorKind::UnknownAfterComplex(b), at),
+        _ => refused(ErrorKind::UnknownAfterComplex(b), at),
     }
 }
 
 // After `@"`: up to the closing quote.
 fn parse_quoted(text: &[u8], at: usize) -> Token
     requires { ⌜ at ≤ length (now text) ⌝ }
-    ensures { λ r. ⌜ r ≡ tokenOf (now (text .entry)) (parseQuoted (drop at (now (text .entry)))) ⌝ }
+    ensures { λ r. ⌜ r ≡ tokenOf (now (text .entry)) (digitsIn []) (parseQuoted (drop at (now (text .entry)))) ⌝ }
 {
     let mut i = at;
     while i < text.len() {
@@ -131,13 +167,13 @@ fn parse_quoted(text: &[u8], at: usize) -> Token
         }
         i += 1;
     }
-    Token::Refused(ErrorKind::UnexpectedEnd, i)
+    refused(ErrorKind::UnexpectedEnd, i)
 }
 
 // After `@`.
 fn parse_object(text: &[u8], at: usize) -> Token
     requires { ⌜ at ≤ length (now text) ⌝ }
-    ensures { λ r. ⌜ r ≡ tokenOf (now (text .entry)) (parseObject (drop at (now (text .entry)))) ⌝ }
+    ensures { λ r. ⌜ r ≡ tokenOf (now (text .entry)) (digitsIn []) (parseObject (drop at (now (text .entry)))) ⌝ }
 {
     if text.len() <= at {
         return Token::Primitive(Primitive::Object.kind(), at);
@@ -158,45 +194,61 @@ fn is_integral(p: u64) -> bool
 }
 
 // A bitfield without a type.
-fn untyped(size: u64, to: usize) -> Token
-    ensures { λ r. ⌜ r ≡ cond (leb size maxU8) (Token.BitField size to) (Token.Refused ErrorKind.IntegerTooLarge to) ⌝ }
+fn untyped(size: u64, to: usize, first: Digits) -> Token
+    ensures { λ r. ⌜ r ≡ untypedToken size to (digitsThen first []) ⌝ }
 {
+    let digits = first_digits(first);
     if size <= 255 {
-        Token::BitField(size, to)
+        Token::BitField(size, to, digits)
     } else {
-        Token::Refused(ErrorKind::IntegerTooLarge, to)
+        Token::Refused(ErrorKind::IntegerTooLarge, to, digits)
     }
 }
 
 // After the first number of a bitfield: with a type where a digit follows it (`try_parse_bitfield_gnustep`).
-fn parse_bit_field(text: &[u8], first: u64, to: usize) -> Token
+fn parse_bit_field(text: &[u8], first: u64, to: usize, digits: Digits) -> Token
     requires { ⌜ to ≤ length (now text) ⌝ }
-    ensures { λ r. ⌜ r ≡ tokenOf (now (text .entry)) (parseBitField first (drop to (now (text .entry)))) ⌝ }
+    ensures { λ r. ⌜ r ≡ tokenOf (now (text .entry)) (digitsThen digits (typedNumber (drop to (now (text .entry))))) (parseBitField first (drop to (now (text .entry)))) ⌝ }
 {
     if text.len() - to < 2 {
-        return untyped(first, to);
+        return untyped(first, to, digits);
     }
     let p = single_kind(text[to]);
     if !is_integral(p) {
-        return untyped(first, to);
+        return untyped(first, to, digits);
     }
     if !is_digit(text[to + 1]) {
-        return untyped(first, to);
+        return untyped(first, to, digits);
     }
     match parse_u8(text, to + 1) {
-        Number::Value(size, end) => Token::TypedBitField(first, p, size, end),
-        Number::Refused(why, end) => Token::Refused(why, end),
+        Number::Value(size, end, second) => {
+            let both = BitsDigits {
+                first: digits,
+                second,
+            };
+            Token::TypedBitField(first, p, size, end, both)
+        }
+        Number::Refused(why, end, second) => {
+            let both = BitsDigits {
+                first: digits,
+                second,
+            };
+            Token::Refused(why, end, both)
+        }
     }
 }
 
 // After `b`.
 fn parse_bits(text: &[u8], at: usize) -> Token
     requires { ⌜ at ≤ length (now text) ⌝ }
-    ensures { λ r. ⌜ r ≡ tokenOf (now (text .entry)) (parseBits (parseNumber maxU64 (drop at (now (text .entry))))) ⌝ }
+    ensures { λ r. ⌜ r ≡ tokenOf (now (text .entry)) (digitsIn (bitsNumbers (drop at (now (text .entry))))) (parseBits (parseNumber maxU64 (drop at (now (text .entry))))) ⌝ }
 {
     match parse_u64(text, at) {
-        Number::Refused(why, to) => Token::Refused(why, to),
-        Number::Value(first, to) => parse_bit_field(text, first, to),
+        Number::Refused(why, to, digits) => {
+            let first = first_digits(digits);
+            Token::Refused(why, to, first)
+        }
+        Number::Value(first, to, digits) => parse_bit_field(text, first, to, digits),
     }
 }
 
@@ -225,7 +277,7 @@ pub fn token_at(text: &[u8], at: usize) -> Token
         ARRAY_END => Token::ArrayEnd(next),
         STRUCT_END => Token::ContainerEnd(ContainerKind::Struct, next),
         UNION_END => Token::ContainerEnd(ContainerKind::Union, next),
-        _ => Token::Refused(ErrorKind::Unknown(b), next),
+        _ => refused(ErrorKind::Unknown(b), next),
     }
 }
 

@@ -4,54 +4,57 @@ use native.Mathlib.Omega.{arith}
 use lib.ListN.{length-drop}
 use borrow.Author.Tests.{not-true, not-false}
 use Rattle.kinds.specs.Parse as R
-use Rattle.numbers.proofs.NumberLaws.{number-is}
+use Rattle.numbers.proofs.NumberLaws.{number-is, number-digits}
 use Rattle.codes.proofs.CodeLaws.{integral-is, integralKind, integral-small, single-code}
-use Rattle.codes.proofs.TokenLaws.{answer-untyped, answer-typed, answer-refused, bits-short, bits-no-type, bits-no-digit, bits-typed, typed-is, typed-none}
+use Rattle.codes.proofs.TokenLaws.{numbers-short, numbers-no-type, numbers-no-digit, numbers-typed, answer-first, answer-both, refused-both, bits-short, bits-no-type, bits-no-digit, bits-typed, typed-is, typed-none}
 use borrow.Author.Needs.{needs}
 use Rattle.codes.proofs.parse_bit_field.Statement.{statement}
 use Rattle.codes.proofs.parse_bit_field.Tie as tie
 
 returns : tie.Need-returns
-returns c = c .untyped .ensures ∙ answer-untyped _ _ (search needs) _ _ (bits-short _ _ (simp length-drop (omega arith)))
+returns c =
+    let a = c .before .before .before .args in
+    c .untyped .ensures ∙ answer-first (a .text .now) (a .to) (a .first) (a .digits) (search needs) (numbers-short _ (simp length-drop (omega arith))) (bits-short _ _ (simp length-drop (omega arith)))
 
 returns-2 : tie.Need-returns-2
 returns-2 c =
-    let k = c .before .before in
-    let a = k .before .before .before .before .before .args in
-    let no = integral-is _ ∙ ap integralKind (sym (k .before .single-kind .ensures)) ∙ sym (k .is-integral .ensures) ∙ not-true _ (c .before .if2 .taken) in
-    c .untyped2 .ensures ∙ answer-untyped _ _ (search needs) _ _ (bits-no-type (a .text .now) (a .to) (omega arith) _ no)
+    let a = c .before .before .before .before .before .before .before .args in
+    let no = integral-is _ ∙ ap integralKind (sym (c .before .before .before .single-kind .ensures)) ∙ sym (c .before .before .is-integral .ensures) ∙ not-true _ (c .before .if2 .taken) in
+    c .untyped2 .ensures ∙ answer-first (a .text .now) (a .to) (a .first) (a .digits) (search needs) (numbers-no-type (a .text .now) (a .to) (omega arith) no) (bits-no-type (a .text .now) (a .to) (omega arith) _ no)
 
 returns-3 : tie.Need-returns-3
 returns-3 c =
     let a = c .before .before .before .before .before .before .before .before .before .before .args in
     let no = sym (c .before .before .is-digit .ensures) ∙ not-true _ (c .before .if3 .taken) in
-    c .untyped3 .ensures ∙ answer-untyped _ _ (search needs) _ _ (bits-no-digit (a .text .now) (a .to) (omega arith) _ no)
+    c .untyped3 .ensures ∙ answer-first (a .text .now) (a .to) (a .first) (a .digits) (search needs) (numbers-no-digit (a .text .now) (a .to) (omega arith) no) (bits-no-digit (a .text .now) (a .to) (omega arith) _ no)
 
 returns-4 : tie.Need-returns-4
 returns-4 c =
-    let u = c .before .before .before in
-    let i = u .before .before .before .before .before in
-    let a = i .before .before .before .before .before .args in
-    let n = rw (c .before .size .given .1) at (number-is (a .text .now) _ (a .to + 1) _ (omega arith) (u .parse-u8 .ensures)) in
-    let kind = i .before .single-kind .ensures in
-    let yes = sym (i .is-integral .ensures) ∙ not-false _ (u .before .before .before .before .if2 .left) in
+    let a = c .before .before .before .before .before .before .before .before .before .before .before .before .before .args in
+    let n = rw (c .before .size .given .1) at (number-is (a .text .now) _ (a .to + 1) _ (omega arith) (c .before .before .before .parse-u8 .ensures)) in
+    let shows = rw (c .before .size .given .1) at (number-digits (a .text .now) _ (a .to + 1) _ (c .before .before .before .parse-u8 .ensures)) in
+    let kind = c .before .before .before .before .before .before .before .before .before .single-kind .ensures in
+    let yes = sym (c .before .before .before .before .before .before .before .before .is-integral .ensures) ∙ not-false _ (c .before .before .before .before .before .before .before .if2 .left) in
+    let typable = integral-is _ ∙ ap integralKind (sym kind) ∙ yes in
     let known = single-code _ _ kind (integral-small _ yes) in
-    let digit = sym (u .before .before .is-digit .ensures) ∙ not-false _ (u .before .if3 .left) in
-    let e = bits-typed (a .text .now) (a .to) (omega arith) (a .first) _ (integral-is _ ∙ ap integralKind (sym kind) ∙ yes) digit known in
-    answer-typed _ _ (n .1 .1) _ _ _ _ (e ∙ ap (R.typed _ _) (n .0) ∙ typed-is _ _ _ _)
+    let digit = sym (c .before .before .before .before .before .is-digit .ensures) ∙ not-false _ (c .before .before .before .before .if3 .left) in
+    let second = numbers-typed (a .text .now) (a .to) (omega arith) typable digit in
+    let e = bits-typed (a .text .now) (a .to) (omega arith) (a .first) _ typable digit known in
+    answer-both (a .text .now) (a .to) (a .first) (a .digits) _ (n .1 .1) _ shows second _ _ (e ∙ ap (R.typed _ _) (n .0) ∙ typed-is _ _ _ _)
 
 returns-5 : tie.Need-returns-5
 returns-5 c =
-    let u = c .before .before .before in
-    let i = u .before .before .before .before .before in
-    let a = i .before .before .before .before .before .args in
-    let n = rw (c .before .why .given .1) at (number-is (a .text .now) _ (a .to + 1) _ (omega arith) (u .parse-u8 .ensures)) in
-    let kind = i .before .single-kind .ensures in
-    let yes = sym (i .is-integral .ensures) ∙ not-false _ (u .before .before .before .before .if2 .left) in
+    let a = c .before .before .before .before .before .before .before .before .before .before .before .before .before .args in
+    let n = rw (c .before .why .given .1) at (number-is (a .text .now) _ (a .to + 1) _ (omega arith) (c .before .before .before .parse-u8 .ensures)) in
+    let shows = rw (c .before .why .given .1) at (number-digits (a .text .now) _ (a .to + 1) _ (c .before .before .before .parse-u8 .ensures)) in
+    let kind = c .before .before .before .before .before .before .before .before .before .single-kind .ensures in
+    let yes = sym (c .before .before .before .before .before .before .before .before .is-integral .ensures) ∙ not-false _ (c .before .before .before .before .before .before .before .if2 .left) in
+    let typable = integral-is _ ∙ ap integralKind (sym kind) ∙ yes in
     let known = single-code _ _ kind (integral-small _ yes) in
-    let digit = sym (u .before .before .is-digit .ensures) ∙ not-false _ (u .before .if3 .left) in
-    let e = bits-typed (a .text .now) (a .to) (omega arith) (a .first) _ (integral-is _ ∙ ap integralKind (sym kind) ∙ yes) digit known in
-    answer-refused _ _ (n .1 .1) _ _ (e ∙ ap (R.typed _ _) (n .0) ∙ typed-none _ _ _ _)
+    let digit = sym (c .before .before .before .before .before .is-digit .ensures) ∙ not-false _ (c .before .before .before .before .if3 .left) in
+    let second = numbers-typed (a .text .now) (a .to) (omega arith) typable digit in
+    let e = bits-typed (a .text .now) (a .to) (omega arith) (a .first) _ typable digit known in
+    refused-both (a .text .now) (a .to) (a .first) (a .digits) _ (n .1 .1) _ shows second _ (e ∙ ap (R.typed _ _) (n .0) ∙ typed-none _ _ _ _)
 
 pub parse-bit-field-spec : {M : Type 1} → statement M
 parse-bit-field-spec =

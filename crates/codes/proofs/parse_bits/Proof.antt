@@ -1,29 +1,27 @@
-use mathlib.Core.Path.{sym, ap, _∙_}
-use Rattle.kinds.specs.Parse.{parseBits}
-use Rattle.numbers.proofs.NumberLaws.{number-is}
-use Rattle.codes.specs.Answer.{tokenOf}
-use Rattle.codes.proofs.TokenLaws.{answer-refused, bits-none, bits-value}
+use Rattle.numbers.proofs.NumberLaws.{number-is, number-digits}
+use Rattle.codes.proofs.TokenLaws.{answer-number, refused-number}
 use borrow.Author.Needs.{needs}
 use Rattle.codes.proofs.parse_bits.Statement.{statement}
 use Rattle.codes.proofs.parse_bits.Tie as tie
 
 parse-bit-field-requires : tie.Need-parse-bit-field-requires
 parse-bit-field-requires c κs =
-    let p = c .before .before .before in
-    let n = rw (c .before .first .given .1) at (number-is _ _ _ _ (p .before .before .pre) (p .parse-u64 .ensures)) in
+    let n = rw (c .before .first .given .1) at (number-is _ _ _ _ (c .before .before .before .before .before .pre) (c .before .before .before .parse-u64 .ensures)) in
     n .1 .1
 
 returns : tie.Need-returns
 returns c =
-    let p = c .before .before .before in
-    let n = rw (c .before .why .given .1) at (number-is _ _ _ _ (p .before .before .pre) (p .parse-u64 .ensures)) in
-    answer-refused _ _ (n .1 .1) _ _ (ap parseBits (n .0) ∙ bits-none _ _)
+    let a = c .before .before .before .before .before .before .args in
+    let n = rw (c .before .before .why .given .1) at (number-is _ _ _ _ (c .before .before .before .before .before .before .pre) (c .before .before .before .before .parse-u64 .ensures)) in
+    let shows = rw (c .before .before .why .given .1) at (number-digits (a .text .now) _ (a .at) _ (c .before .before .before .before .parse-u64 .ensures)) in
+    rw (c .first-digits .ensures) (refused-number (a .text .now) (a .at) _ shows _ _ (n .1 .1) (n .0))
 
 returns-2 : tie.Need-returns-2
 returns-2 c =
-    let p = c .before .before .before .before in
-    let n = rw (c .before .before .first .given .1) at (number-is _ _ _ _ (p .before .before .pre) (p .parse-u64 .ensures)) in
-    c .parse-bit-field .ensures ∙ ap (tokenOf _) (sym (ap parseBits (n .0) ∙ bits-value _ _))
+    let a = c .before .before .before .before .before .before .args in
+    let n = rw (c .before .before .first .given .1) at (number-is _ _ _ _ (c .before .before .before .before .before .before .pre) (c .before .before .before .before .parse-u64 .ensures)) in
+    let shows = rw (c .before .before .first .given .1) at (number-digits (a .text .now) _ (a .at) _ (c .before .before .before .before .parse-u64 .ensures)) in
+    answer-number (a .text .now) (a .at) _ shows (c .before .before .first .given .0 .0) (c .before .before .first .given .0 .1 .0) (n .0) (c .parse-bit-field .ensures)
 
 pub parse-bits-spec : {M : Type 1} → statement M
 parse-bits-spec =
@@ -31,6 +29,7 @@ parse-bits-spec =
     (tie.spec
     (λ c κs. search needs)
     (λ c. search needs)
+    (λ c κs. search needs)
     (λ c. search needs)
     parse-bit-field-requires
     returns
