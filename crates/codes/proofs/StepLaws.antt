@@ -35,17 +35,26 @@ module _ (text : List ℕ) (at : ℕ) where
   begins e inner fields = ap (λ (x : R.Start). begin (getD text at 0) x (drop (at + 1) text) inner fields) e
 
   -- a pointer or an atomic, from what is read of the rest
+  pub held-from : {l : Label} → start (getD text at 0) ≡ R.indirection l → (inner : List ℕ → R.Parsed) (fields : ContainerKind → List ℕ → R.Items)
+      {q : R.Parsed} → inner (drop (at + 1) text) ≡ q
+      → begin (getD text at 0) (start (getD text at 0)) (drop (at + 1) text) inner fields ≡ R.held l (drop (at + 1) text) q
+  unfolding begin
+  held-from {l} st inner fields e = begins st inner fields ∙ ap (R.held l (drop (at + 1) text)) e
+
   pub begins-held : {l : Label} → start (getD text at 0) ≡ R.indirection l → (g : ℕ) {q : R.Parsed} → parseInner g (drop (at + 1) text) ≡ q
       → begin (getD text at 0) (start (getD text at 0)) (drop (at + 1) text) (λ t. parseInner g t) (λ k t. parseItems g k t) ≡ R.held l (drop (at + 1) text) q
-  unfolding begin
-  begins-held {l} st g e = begins st (λ t. parseInner g t) (λ k t. parseItems g k t) ∙ ap (R.held l (drop (at + 1) text)) e
+  begins-held st g e = held-from st (λ t. parseInner g t) (λ k t. parseItems g k t) e
 
   -- an array whose length ends at `it`, from what is read there
   module _ (len it : ℕ) (st : start (getD text at 0) ≡ R.openArray) (num : R.parseNumber maxU64 (drop (at + 1) text) ≡ R.value len (drop it text)) where
+    pub item-from : (inner : List ℕ → R.Parsed) (fields : ContainerKind → List ℕ → R.Items) {q : R.Parsed} → inner (drop it text) ≡ q
+        → begin (getD text at 0) (start (getD text at 0)) (drop (at + 1) text) inner fields ≡ R.item len q
+    unfolding begin
+    item-from inner fields e = begins st inner fields ∙ (rw (num, begin) refl) ∙ ap (R.item len) e
+
     pub begins-item : (g : ℕ) {q : R.Parsed} → parseInner g (drop it text) ≡ q
         → begin (getD text at 0) (start (getD text at 0)) (drop (at + 1) text) (λ t. parseInner g t) (λ k t. parseItems g k t) ≡ R.item len q
-    unfolding begin
-    begins-item g e = begins st (λ t. parseInner g t) (λ k t. parseItems g k t) ∙ (rw (num, begin) refl) ∙ ap (R.item len) e
+    begins-item g e = item-from (λ t. parseInner g t) (λ k t. parseItems g k t) e
 
   -- a container's next field, from what is read there
   pub next-is : (kind : ContainerKind) (g : ℕ) {q : R.Parsed} → parseInner g (drop at text) ≡ q
@@ -53,7 +62,8 @@ module _ (text : List ℕ) (at : ℕ) where
   next-is kind g e = ap (λ (x : R.Parsed). R.nextItem kind x (λ t. parseItems g kind t)) e
 
 -- The fuel that a byte leaves is enough at a later place.
-pub fuel-on : (text : List ℕ) (at it g : ℕ) → at + 1 ≤ it → length (drop (at + 1) text) + length (drop (at + 1) text) < g → length (drop it text) + length (drop it text) ≤ g
+pub fuel-on : (text : List ℕ) (at it g : ℕ) → at + 1 ≤ it → length (drop (at + 1) text) + length (drop (at + 1) text) < g
+    → length (drop it text) + length (drop it text) ≤ g
 fuel-on text at it g on l = omega (arith, length-drop it text, length-drop (at + 1) text)
 
 -- ---- The closer of an array.
@@ -67,11 +77,13 @@ closed-is text to e = eqb-true _ _ (both (ltb to (length text)) (eqb (getD text 
 pub not-closed : (text : List ℕ) (to : ℕ) → to < length text → closed text to ≡ false → eqb (getD text to 0) 93 ≡ false
 not-closed text to h e = sym (ap (λ (x : Bool). x && eqb (getD text to 0) 93) (lt-ltb to (length text) h)) ∙ e
 
-pub closes-it : (text : List ℕ) (len : ℕ) (c : Label) (cs : Trees) (to : ℕ) → to < length text → getD text to 0 ≡ 93 → R.closeItem len c cs (drop to text) ≡ encoding (array len) (node c cs end) (drop (to + 1) text)
+pub closes-it : (text : List ℕ) (len : ℕ) (c : Label) (cs : Trees) (to : ℕ) → to < length text → getD text to 0 ≡ 93 → R.closeItem len c cs (drop to text)
+    ≡ encoding (array len) (node c cs end) (drop (to + 1) text)
 unfolding R.closeItem
 closes-it text len c cs to l e = ap (R.closeItem len c cs) (unread text to l) ∙ rw (eq-eqb _ _ e, R.closeItem) refl
 
-pub closes-not : (text : List ℕ) (len : ℕ) (c : Label) (cs : Trees) (to : ℕ) → closed text to ≡ false → R.closeItem len c cs (drop to text) ≡ refused WrongEndArray (drop to text)
+pub closes-not : (text : List ℕ) (len : ℕ) (c : Label) (cs : Trees) (to : ℕ) → closed text to ≡ false → R.closeItem len c cs (drop to text)
+    ≡ refused WrongEndArray (drop to text)
 unfolding R.closeItem
 closes-not text len c cs to e = elim (decLt to (length text)) [
   | yes l ↦ ap (R.closeItem len c cs) (unread text to l) ∙ (rw (not-closed text to l e, R.closeItem) refl) ∙ sym (ap (refused WrongEndArray) (unread text to l))

@@ -45,7 +45,8 @@ module _ (s : List ℕ) (i : ℕ) (h : i < length s) where
   unfolding parseComplex leaf
   complex-D e = complex-is s i 68 h e
 
-  pub complex-no : (getD s i 0 ≡ 102 → ⊥) → (getD s i 0 ≡ 100 → ⊥) → (getD s i 0 ≡ 68 → ⊥) → parseComplex (drop i s) ≡ refused (UnknownAfterComplex (getD s i 0)) (drop i s)
+  pub complex-no : (getD s i 0 ≡ 102 → ⊥) → (getD s i 0 ≡ 100 → ⊥) → (getD s i 0 ≡ 68 → ⊥) → parseComplex (drop i s)
+      ≡ refused (UnknownAfterComplex (getD s i 0)) (drop i s)
   unfolding parseComplex
   complex-no n1 n2 n3 =
       ap parseComplex (unread s i h)
@@ -115,7 +116,8 @@ two : (n b x : ℕ) (s : List ℕ) → integral b && isDigit x ≡ false → par
 unfolding parseBitField
 two n b x s e = rw (e, parseBitField)
 
-two-typed : (n b x p : ℕ) (s : List ℕ) → integral b ≡ true → isDigit x ≡ true → start b ≡ single p → parseBitField n (b ∷ x ∷ s) ≡ typed n p (parseNumber 255 (x ∷ s))
+two-typed : (n b x p : ℕ) (s : List ℕ) → integral b ≡ true → isDigit x ≡ true → start b ≡ single p → parseBitField n (b ∷ x ∷ s)
+    ≡ typed n p (parseNumber 255 (x ∷ s))
 unfolding parseBitField _&&_ singleKind
 two-typed n b x p s i d e = rw (i, parseBitField) (rw (d, parseBitField) (rw e refl))
 
@@ -216,7 +218,8 @@ module _ (text : List ℕ) (to : ℕ) (l : to ≤ length text) where
   unfolding tokenOf
   answer-container-end d k = ap (ContainerEnd k) (sym (place-of-drop text to l))
 
-  pub answer-typed : (d : BitsDigits) (o p n : ℕ) (q : Parsed) → q ≡ encoding (typedBitField o n) (node (primitive p) end end) (drop to text) → TypedBitField o p n to d ≡ tokenOf text d q
+  pub answer-typed : (d : BitsDigits) (o p n : ℕ) (q : Parsed) → q ≡ encoding (typedBitField o n) (node (primitive p) end end) (drop to text)
+      → TypedBitField o p n to d ≡ tokenOf text d q
   unfolding tokenOf labelToken typeKind kind
   answer-typed d o p n q e = ap (λ (k : ℕ). TypedBitField o p n k d) (sym (place-of-drop text to l)) ∙ ap (tokenOf text d) (sym e)
 
@@ -238,18 +241,21 @@ module _ (text : List ℕ) (to n : ℕ) (d : Digits) where
       → untypedToken n to (digitsThen d []) ≡ tokenOf text (digitsThen d (typedNumber (drop to text))) (parseBitField n (drop to text))
   answer-first l e f = bits-is [] e (answer-untyped text to l (digitsThen d []) n (parseBitField n (drop to text)) f)
 
-  module _ (end-at : ℕ) (l : end-at ≤ length text) (c : Digits) (shows : c ≡ digitsOf (drop (to + 1) text)) (e : typedNumber (drop to text) ≡ drop (to + 1) text ∷ []) where
+  module _ (end-at : ℕ) (l : end-at ≤ length text) (c : Digits) (shows : c ≡ digitsOf (drop (to + 1) text))
+      (e : typedNumber (drop to text) ≡ drop (to + 1) text ∷ []) where
     pub answer-both : (p m : ℕ) → parseBitField n (drop to text) ≡ encoding (typedBitField n m) (node (primitive p) end end) (drop end-at text)
         → TypedBitField n p m end-at (both d c) ≡ tokenOf text (digitsThen d (typedNumber (drop to text))) (parseBitField n (drop to text))
     answer-both p m f =
         bits-is (drop (to + 1) text ∷ []) e
-        (ap (λ (x : Digits). TypedBitField n p m end-at (both d x)) shows ∙ answer-typed text end-at l (both d (digitsOf (drop (to + 1) text))) n p m (parseBitField n (drop to text)) f)
+        (ap (λ (x : Digits). TypedBitField n p m end-at (both d x)) shows ∙ answer-typed text end-at l (both d (digitsOf (drop (to + 1) text))) n p m
+        (parseBitField n (drop to text)) f)
 
     pub refused-both : (why : ErrorKind) → parseBitField n (drop to text) ≡ refused why (drop end-at text)
         → Refused why end-at (both d c) ≡ tokenOf text (digitsThen d (typedNumber (drop to text))) (parseBitField n (drop to text))
     refused-both why f =
         bits-is (drop (to + 1) text ∷ []) e
-        (ap (λ (x : Digits). Refused why end-at (both d x)) shows ∙ answer-refused text end-at l (both d (digitsOf (drop (to + 1) text))) why (parseBitField n (drop to text)) f)
+        (ap (λ (x : Digits). Refused why end-at (both d x)) shows ∙ answer-refused text end-at l (both d (digitsOf (drop (to + 1) text))) why
+        (parseBitField n (drop to text)) f)
 
 -- A bitfield, from its first number at the place `at`.
 module _ (text : List ℕ) (at : ℕ) (d : Digits) (shows : d ≡ digitsOf (drop at text)) where
@@ -267,7 +273,8 @@ module _ (text : List ℕ) (at : ℕ) (d : Digits) (shows : d ≡ digitsOf (drop
   refused-number why to l e =
       ap (λ (x : Digits). Refused why to (digitsThen x [])) shows
       ∙ ap (λ (xs : List (List ℕ)). Refused why to (digitsIn xs)) (sym (bits-no-number (drop at text) why (drop to text) e))
-      ∙ answer-refused text to l (digitsIn (bitsNumbers (drop at text))) why (parseBits (parseNumber maxU64 (drop at text))) (ap parseBits e ∙ bits-none why (drop to text))
+      ∙ answer-refused text to l (digitsIn (bitsNumbers (drop at text))) why (parseBits (parseNumber maxU64 (drop at text)))
+      (ap parseBits e ∙ bits-none why (drop to text))
 
 pub no-text : (text : List ℕ) (at : ℕ) → length text ≤ at → drop at text ≡ drop (length text) text
 no-text text at l = unread-end text at l ∙ sym (unread-end text (length text) (omega arith))
@@ -300,7 +307,8 @@ simple-complex (b ∷ s) = go (eqb b 102) (eqb b 100) (eqb b 68)
     one : RestOf (b ∷ s) s
     one = rest-later rest-all
 
-    go : (x y z : Bool) → Simple (b ∷ s) (elim x [ true ↦ alone 13 s | false ↦ elim y [ true ↦ alone 14 s | false ↦ elim z [ true ↦ alone 15 s | false ↦ refused (UnknownAfterComplex b) (b ∷ s) ] ] ])
+    go : (x y z : Bool) → Simple (b ∷ s) (elim x [ true ↦ alone 13 s | false ↦ elim y
+        [ true ↦ alone 14 s | false ↦ elim z [ true ↦ alone 15 s | false ↦ refused (UnknownAfterComplex b) (b ∷ s) ] ] ])
     go true y z = is-primitive _ one
     go false true z = is-primitive _ one
     go false false true = is-primitive _ one
@@ -326,7 +334,8 @@ unfolding parseObject leaf
 simple-object [] = is-primitive _ rest-all
 simple-object (b ∷ s) = go (eqb b 63) (eqb b 34)
   where
-    go : (x y : Bool) → Simple (b ∷ s) (elim x [ true ↦ encoding (primitive 20) end s | false ↦ elim y [ true ↦ parseQuoted s | false ↦ encoding (primitive 19) end (b ∷ s) ] ])
+    go : (x y : Bool) → Simple (b ∷ s) (elim x [ true ↦ encoding (primitive 20) end s | false ↦ elim y
+        [ true ↦ parseQuoted s | false ↦ encoding (primitive 19) end (b ∷ s) ] ])
     go true y = is-primitive _ (rest-later rest-all)
     go false true = simple-later (simple-quoted s)
     go false false = is-primitive _ rest-all
@@ -404,8 +413,10 @@ module _ (text : List ℕ) (at : ℕ) (h : at < length text) where
 
   simple-bound : (d : BitsDigits) (q : Parsed) → Simple (drop (at + 1) text) q → TokenBound text at (tokenOf text d q) × TokenSays text (tokenOf text d q) q
   unfolding tokenOf labelToken typeKind kind
-  simple-bound d q (is-primitive p r) = let u = unread-at {text = text} {at = at + 1} (omega arith) r in ((omega (arith, u .onward), u .within), ap (encoding (primitive p) end) (u .is))
-  simple-bound d q (is-bit-field n r) = let u = unread-at {text = text} {at = at + 1} (omega arith) r in ((omega (arith, u .onward), u .within), ap (encoding (bitField n) end) (u .is))
+  simple-bound d q (is-primitive p r) = let u = unread-at {text = text} {at = at + 1} (omega arith) r
+      in ((omega (arith, u .onward), u .within), ap (encoding (primitive p) end) (u .is))
+  simple-bound d q (is-bit-field n r) = let u = unread-at {text = text} {at = at + 1} (omega arith) r
+      in ((omega (arith, u .onward), u .within), ap (encoding (bitField n) end) (u .is))
   simple-bound d q (is-typed o n p r) =
       let u = unread-at {text = text} {at = at + 1} (omega arith) (r .rest) in
       ((omega (arith, r .some, length-drop (at + 1) text), u .within), ap (encoding (typedBitField o n) (node (primitive p) end end)) (u .is))
@@ -414,14 +425,19 @@ module _ (text : List ℕ) (at : ℕ) (h : at < length text) where
   -- What reading gives by what the byte begins, where it has no parts.
   begun : (S : R.Start) → start (getD text at 0) ≡ S → hasParts S ≡ false
       → TokenBound text at (tokenFrom text (getD text at 0) S (drop (at + 1) text))
-      × ((inner : List ℕ → Parsed) (fields : ContainerKind → List ℕ → R.Items) → TokenSays text (tokenFrom text (getD text at 0) S (drop (at + 1) text)) (begin (getD text at 0) S (drop (at + 1) text) inner fields))
+      × ((inner : List ℕ → Parsed) (fields : ContainerKind → List ℕ → R.Items) → TokenSays text (tokenFrom text (getD text at 0) S (drop (at + 1) text))
+          (begin (getD text at 0) S (drop (at + 1) text) inner fields))
   unfolding tokenFrom hasParts begin leaf tokenOf labelToken
-  begun (single p) e n = let x = simple-bound (digitsIn (numbersOf (single p) (drop (at + 1) text))) (encoding (primitive p) end (drop (at + 1) text)) (is-primitive _ rest-all) in (x .0, λ inner fields. x .1)
-  begun R.complex e n = let x = simple-bound (digitsIn (numbersOf R.complex (drop (at + 1) text))) (parseComplex (drop (at + 1) text)) (simple-complex (drop (at + 1) text)) in (x .0, λ inner fields. x .1)
-  begun R.object e n = let x = simple-bound (digitsIn (numbersOf R.object (drop (at + 1) text))) (parseObject (drop (at + 1) text)) (simple-object (drop (at + 1) text)) in (x .0, λ inner fields. x .1)
+  begun (single p) e n = let x = simple-bound (digitsIn (numbersOf (single p) (drop (at + 1) text))) (encoding (primitive p) end (drop (at + 1) text))
+      (is-primitive _ rest-all) in (x .0, λ inner fields. x .1)
+  begun R.complex e n = let x = simple-bound (digitsIn (numbersOf R.complex (drop (at + 1) text))) (parseComplex (drop (at + 1) text))
+      (simple-complex (drop (at + 1) text)) in (x .0, λ inner fields. x .1)
+  begun R.object e n = let x = simple-bound (digitsIn (numbersOf R.object (drop (at + 1) text))) (parseObject (drop (at + 1) text))
+      (simple-object (drop (at + 1) text)) in (x .0, λ inner fields. x .1)
   begun R.bits e n =
       let q : R.Number = parseNumber maxU64 (drop (at + 1) text) in
-      let x = simple-bound (digitsIn (numbersOf R.bits (drop (at + 1) text))) (parseBits q) (simple-number (drop (at + 1) text) q (left-number maxU64 (drop (at + 1) text))) in
+      let x = simple-bound (digitsIn (numbersOf R.bits (drop (at + 1) text))) (parseBits q)
+      (simple-number (drop (at + 1) text) q (left-number maxU64 (drop (at + 1) text))) in
       (x .0, λ inner fields. x .1)
   begun (R.indirection l) e n = let z : _≡_ {A = ℕ} 0 1 = cc in absurd (omega arith)
   begun R.openArray e n = let z : _≡_ {A = ℕ} 0 1 = cc in absurd (omega arith)
@@ -434,7 +450,8 @@ module _ (text : List ℕ) (at : ℕ) (h : at < length text) where
   unfolding tokenAt
   token-is r n e =
       let x = begun (start (getD text at 0)) refl n in
-      let here : tokenAt text at ≡ tokenFrom text (getD text at 0) (start (getD text at 0)) (drop (at + 1) text) = rw (lt-leb (length text) at h, tokenAt) refl in
+      let here : tokenAt text at ≡ tokenFrom text (getD text at 0) (start (getD text at 0)) (drop (at + 1) text) = rw (lt-leb (length text) at h, tokenAt) refl
+      in
       rw (e ∙ here) (record { bound = x .0; says = x .1 })
 
   -- The token at a place, by what its byte begins.

@@ -90,8 +90,8 @@ fn expect_u64(n: u64, text: &[u8], at: usize) -> Expected
     ensures { λ r. ⌜ ExpectedIs (now (text .entry)) r (expectNumber maxU64 n (drop at (now (text .entry)))) ⌝ }
 {
     match parse_u64(text, at) {
-        Number::Refused(_, _) => Expected::Mismatch,
-        Number::Value(m, to) => {
+        Number::Refused(_, _, _) => Expected::Mismatch,
+        Number::Value(m, to, _) => {
             if m == n {
                 return Expected::Remaining(to);
             }
@@ -105,8 +105,8 @@ fn expect_u8(n: u64, text: &[u8], at: usize) -> Expected
     ensures { λ r. ⌜ ExpectedIs (now (text .entry)) r (expectNumber maxU8 n (drop at (now (text .entry)))) ⌝ }
 {
     match parse_u8(text, at) {
-        Number::Refused(_, _) => Expected::Mismatch,
-        Number::Value(m, to) => {
+        Number::Refused(_, _, _) => Expected::Mismatch,
+        Number::Value(m, to, _) => {
             if m == n {
                 return Expected::Remaining(to);
             }

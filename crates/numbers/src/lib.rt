@@ -1,12 +1,12 @@
 // Numbers in text (parse.rs, `parse_u64`, `parse_u8`, `chomp_digits`): read at a place of the text; a place past the end is taken as the end.
 ghost use mathlib.Core.Path.{_≡_};
-ghost use Prim.Native.Nat.{_+_, _≤_};
-ghost use lib.ListN.{length, drop};
+ghost use Prim.Native.Nat.{_+_, _*_, _≤_};
+ghost use lib.Dec.{ltb};
+ghost use lib.ListN.{drop};
 ghost use Rattle.kinds.specs.Byte.{isDigit};
 ghost use Rattle.kinds.specs.Parse.{maxU64, maxU32, maxU8, parseNumber};
-ghost use Rattle.kinds.specs.Strict.{digitCount};
 ghost use Rattle.parser.specs.Run.{runEnd};
-ghost use Rattle.numbers.specs.Answer.{digitsOf, numberAt};
+ghost use Rattle.numbers.specs.Answer.{digitsTaken, digitsIn, numberAt};
 use kinds::ErrorKind;
 
 // How many digits a number took, and whether the first is a surplus zero: there are more, and it is 0.
@@ -47,12 +47,20 @@ fn chomp_digits(text: &[u8], at: usize) -> usize
     i
 }
 
-// What the digits from `at` up to `to` show.
-fn digits_taken(text: &[u8], at: usize, to: usize) -> Digits
-    requires { ⌜ (to ≡ at + digitCount (drop at (now text))) × (to ≤ length (now text)) ⌝ }
-    ensures { λ r. ⌜ r ≡ digitsOf (drop at (now (text .entry))) ⌝ }
+// What a number's digits show, whether it is refused or not.
+pub fn number_digits(number: Number) -> Digits
+    ensures { λ r. ⌜ r ≡ digitsIn number ⌝ }
 {
-    let count = to - at;
+    match number {
+        Number::Value(_, _, digits) => digits,
+        Number::Refused(_, _, digits) => digits,
+    }
+}
+
+// What `count` digits show, of which `first` is the first.
+fn digits_taken(first: u8, count: usize) -> Digits
+    ensures { λ r. ⌜ r ≡ digitsTaken first count ⌝ }
+{
     if count < 2 {
         return Digits {
             count,
@@ -61,8 +69,19 @@ fn digits_taken(text: &[u8], at: usize, to: usize) -> Digits
     }
     Digits {
         count,
-        surplus: text[at] == b'0',
+        surplus: first == b'0',
     }
+}
+
+// The number with one digit more is above the limit. Most are far below it, and need no division.
+fn is_above(acc: u64, d: u64, limit: u64) -> bool
+    requires { ⌜ (d ≤ 9) × (9 ≤ limit) ⌝ }
+    ensures { λ r. ⌜ r ≡ ltb limit (acc * 10 + d) ⌝ }
+{
+    if acc < limit / 10 {
+        return false;
+    }
+    (limit - d) / 10 < acc
 }
 
 // Every number is read here: `parse_u64`, `parse_u32` and `parse_u8` by their limits.
@@ -71,41 +90,29 @@ fn parse_number(text: &[u8], at: usize, limit: u64) -> Number
     ensures { λ r. ⌜ r ≡ numberAt (now (text .entry)) (drop at (now (text .entry))) (parseNumber limit (drop at (now (text .entry)))) ⌝ }
 {
     if text.len() <= at {
-        return Number::Refused(
-            ErrorKind::UnexpectedEnd,
-            text.len(),
-            Digits {
-                count: 0,
-                surplus: false,
-            },
-        );
+        return Number::Refused(ErrorKind::UnexpectedEnd, text.len(), digits_taken(0, 0));
     }
-    if !is_digit(text[at]) {
-        return Number::Refused(
-            ErrorKind::ExpectedInteger,
-            at,
-            Digits {
-                count: 0,
-                surplus: false,
-            },
-        );
+    let first = text[at];
+    if !is_digit(first) {
+        return Number::Refused(ErrorKind::ExpectedInteger, at, digits_taken(0, 0));
     }
     let mut acc: u64 = 0;
     let mut i = at;
     while i < text.len() {
         let b = text[i];
         if !is_digit(b) {
-            return Number::Value(acc, i, digits_taken(text, at, i));
+            return Number::Value(acc, i, digits_taken(first, i - at));
         }
         let d = wide(b - 48);
-        if (limit - d) / 10 < acc {
+        if is_above(acc, d, limit) {
             let to = chomp_digits(text, i + 1);
-            return Number::Refused(ErrorKind::IntegerTooLarge, to, digits_taken(text, at, to));
+            let digits = digits_taken(first, to - at);
+            return Number::Refused(ErrorKind::IntegerTooLarge, to, digits);
         }
         acc = acc * 10 + d;
         i += 1;
     }
-    Number::Value(acc, i, digits_taken(text, at, i))
+    Number::Value(acc, i, digits_taken(first, i - at))
 }
 
 // A number of 64 bits.

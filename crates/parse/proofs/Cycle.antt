@@ -9,13 +9,14 @@ use lib.ListN.{length, drop, getD, length-drop, length-append}
 use lib.Seq.{sets}
 use Rattle.kinds.specs.Parse as R
 use Rattle.kinds.specs.Container.{endByte, sameContainer}
-use Rattle.kinds.specs.Parse.{start, begin, encoding, refused, parseInner, parseItems, held, item, inSingles, singles, inOthers, others, maxU64}
+use Rattle.kinds.specs.Parse.{start, begin, encoding, refused, held, item, inSingles, singles, inOthers, others, maxU64}
 use Rattle.kinds.specs.Sheet.{nodes, namesOf, first, second}
 use Rattle.kinds.specs.Tree.{Label, Trees, end, node, count, pointer, atomic, array, none, kind, name}
 use Rattle.parse.specs.Agree.{Lists, lists, Bound, ParsedIs, Simple, Reads, Ready, FoundBound, FoundIs, Frame, Kept, ItemsIs, ItemsReads, ItemsFound, ItemsBound, NamedIs, NameFound, ItemsWithin}
 use Rattle.parse.specs.Answer.{kindWord}
 use Rattle.parse.specs.Out.{After, AfterItems, pickList, pickParsed, pickItems, nodePut, noneUnder, holdOut, holdWords, itemOut, itemWords, containOut, containWords, endOut}
 use Rattle.parse.specs.Room.{slack, closes}
+use Rattle.parse.specs.Strictly.{judged, parseInnerBy, parseItemsBy}
 use Rattle.kinds.specs.declared.ContainerKind.{ContainerKind}
 use Rattle.kinds.specs.declared.ContainerKind.the-variants.{Struct, Union}
 use Rattle.parse.specs.declared.Named.the-variants.{Refused as NoName}
@@ -29,8 +30,9 @@ use Rattle.kinds.proofs.LayoutLaws.{nodes-length}
 use Rattle.kinds.proofs.ListLaws.{unread-end}
 use Rattle.codes.specs.Answer.{closed, closesFields}
 use Rattle.codes.specs.declared.Token.the-variants as T
-use Rattle.codes.proofs.StepLaws.{parse-step, parse-nil, begins, begins-held, begins-item, next-is, fuel-on, closed-in, closed-is, closes-it, closes-not, same-self, closes-in, closes-starts}
+use Rattle.codes.proofs.StepLaws.{begins, held-from, item-from, fuel-on, closed-in, closed-is, closes-it, closes-not, same-self, closes-in, closes-starts}
 use Rattle.parse.proofs.Stores.{sets-append, sets-front-append, drop-sets}
+use Rattle.parse.proofs.Judge.{Clean, step-by, nil-by, held-by, item-by, next-by, clean-held, clean-opened, clean-closed}
 use Rattle.parse.proofs.Sheets.{slack-open, slack-closed, slack-end, slack-le, simple-token}
 
 -- ---- The words and the names of a node.
@@ -66,29 +68,38 @@ count-alone l cs = ap suc (add-zero (count cs))
 -- ---- One byte of fuel.
 
 -- What a byte begins, with as much fuel as its rest takes, is what reading at its place says.
-module _ (text : List ℕ) (at n m : ℕ) (b a : Lists) (r : Parsed) (h : at < length text) where
+module _ (strict : Bool) (text : List ℕ) (at n m : ℕ) (b a : Lists) (r : Parsed) (h : at < length text) where
+  begun-by : ((g : ℕ) → length (drop (at + 1) text) + length (drop (at + 1) text) < g
+      → ParsedIs text n m b a r (judged strict (start (getD text at 0)) (drop (at + 1) text)
+      (begin (getD text at 0) (start (getD text at 0)) (drop (at + 1) text) (λ t. parseInnerBy strict g t) (λ k t. parseItemsBy strict g k t))))
+      → (f : ℕ) → length (drop at text) + length (drop at text) ≤ f → ParsedIs text n m b a r (parseInnerBy strict f (drop at text))
+  begun-by s zero l = absurd (omega (arith, length-drop at text))
+  begun-by s (suc g) l = subst (ParsedIs text n m b a r) (sym (step-by strict text at g h))
+      (s g (omega (arith, length-drop at text, length-drop (at + 1) text)))
+
   Begun : Type 0
   Begun = (g : ℕ) → length (drop (at + 1) text) + length (drop (at + 1) text) < g
-      → ParsedIs text n m b a r (begin (getD text at 0) (start (getD text at 0)) (drop (at + 1) text) (λ t. parseInner g t) (λ k t. parseItems g k t))
+      → ParsedIs text n m b a r (begin (getD text at 0) (start (getD text at 0)) (drop (at + 1) text) (λ t. parseInnerBy strict g t)
+      (λ k t. parseItemsBy strict g k t))
 
-  begun : Begun → (f : ℕ) → length (drop at text) + length (drop at text) ≤ f → ParsedIs text n m b a r (parseInner f (drop at text))
+  begun : Clean strict text at → Begun → (f : ℕ) → length (drop at text) + length (drop at text) ≤ f
+      → ParsedIs text n m b a r (parseInnerBy strict f (drop at text))
   unfolding Begun
-  begun s zero l = absurd (omega (arith, length-drop at text))
-  begun s (suc g) l = subst (ParsedIs text n m b a r) (sym (parse-step text at g h)) (s g (omega (arith, length-drop at text, length-drop (at + 1) text)))
+  begun clean s = begun-by (λ g l. subst (ParsedIs text n m b a r) (sym (clean _)) (s g l))
 
 -- ---- Nothing left, and a byte without parts.
 
-pub reads-end : (text : List ℕ) (at n m : ℕ) (b : Lists) → at ≡ length text → Reads text at n m b b Empty
-reads-end text at n m b e = record {
+pub reads-end : (strict : Bool) (text : List ℕ) (at n m : ℕ) (b : Lists) → at ≡ length text → Reads strict text at n m b b Empty
+reads-end strict text at n m b e = record {
   bound = (e, record { words-kept = refl; names-kept = refl });
-  says = λ f l. ap (parseInner f) (unread-end text at (omega arith)) ∙ parse-nil f;
+  says = λ f l. ap (parseInnerBy strict f) (unread-end text at (omega arith)) ∙ nil-by strict f;
 }
 
-pub reads-simple : (text : List ℕ) (at n m : ℕ) (w w' ns : List ℕ) (r : Parsed) → at < length text → Simple text at n m w w' r → Reads text at n m (lists w ns) (lists w' ns) r
-unfolding Begun
-reads-simple text at n m w w' ns r h s = record {
+pub reads-simple : (strict : Bool) (text : List ℕ) (at n m : ℕ) (w w' ns : List ℕ) (r : Parsed) → at < length text → Simple strict text at n m w w' r
+    → Reads strict text at n m (lists w ns) (lists w' ns) r
+reads-simple strict text at n m w w' ns r h s = record {
   bound = s .bound ns;
-  says = begun text at n m (lists w ns) (lists w' ns) r h (λ g l. s .says ns (λ t. parseInner g t) (λ k t. parseItems g k t));
+  says = begun-by strict text at n m (lists w ns) (lists w' ns) r h (λ g l. s .says ns (λ t. parseInnerBy strict g t) (λ k t. parseItemsBy strict g k t));
 }
 
 -- ---- A node over what was read under it.
@@ -133,7 +144,8 @@ none-count = refl
 
 -- A None under a node with no name.
 module _ (text : List ℕ) (n m x : ℕ) (b a : Lists) (l : Label) (bare : Bare m l x) (kept : Kept b a) where
-  pub none-found : (to : ℕ) (q : R.Parsed) → q ≡ encoding l (node none end end) (drop to text) → FoundIs text n m b (lists (noneUnder (kind l) x n (a .words)) (a .names)) to (n + 2) m q
+  pub none-found : (to : ℕ) (q : R.Parsed) → q ≡ encoding l (node none end end) (drop to text)
+      → FoundIs text n m b (lists (noneUnder (kind l) x n (a .words)) (a .names)) to (n + 2) m q
   none-found to q e =
       let ns : namesOf (node l (node none end end) end) ≡ [] = names-bare l (node none end end) (bare .name-is) ∙ none-names in
       record {
@@ -187,19 +199,22 @@ unfolding first name second
 bare-array m x = record { first-is = refl; second-is = refl; name-is = refl }
 
 -- The frame of a part is within the frame of the whole.
-frame-part : (text : List ℕ) (at n m to k : ℕ) (b a : Lists) → k + slack (drop to text) ≤ n + slack (drop at text) → at ≤ to → Frame text to k m b a → Frame text at n m b a
+frame-part : (text : List ℕ) (at n m to k : ℕ) (b a : Lists) → k + slack (drop to text) ≤ n + slack (drop at text) → at ≤ to → Frame text to k m b a
+    → Frame text at n m b a
 frame-part text at n m to k b a room on f = record {
   words-frame = λ e l. f .words-frame e (omega arith);
   names-frame = λ e l. f .names-frame e (omega arith);
 }
 
-module _ (text : List ℕ) (at n m : ℕ) (l : Label) (bare : Bare m l 0) (h : at < length text) (st : start (getD text at 0) ≡ R.indirection l) (b a : Lists) where
+module _ (strict : Bool) (text : List ℕ) (at n m : ℕ) (l : Label) (bare : Bare m l 0) (h : at < length text) (st : start (getD text at 0) ≡ R.indirection l)
+    (b a : Lists) where
   opens : slack (drop at text) ≡ length text - at + 1
   unfolding closes
   opens = slack-open text at h (ap closes st)
 
   none-bound : slack (drop (at + 1) text) ≡ length text - (at + 1) → FoundBound text at n m (at + 1) (n + 2) m
-  none-bound e = record { onward = omega arith; within = omega arith; more = omega arith; room = omega (arith, opens); names-on = omega arith; names-room = omega arith }
+  none-bound e = record { onward = omega arith; within = omega arith; more = omega arith; room = omega (arith, opens); names-on = omega arith; names-room =
+      omega arith }
 
   abbrev heldAfter : Parsed → Lists
   heldAfter p = lists (holdWords p (kind l) n (a .words)) (a .names)
@@ -207,12 +222,13 @@ module _ (text : List ℕ) (at n m : ℕ) (l : Label) (bare : Bare m l 0) (h : a
   abbrev heldOut : Parsed → Parsed
   heldOut p = holdOut p (at + 1) n m
 
-  pub reads-held : (p : Parsed) → Reads text (at + 1) (n + 1) m b a p
-      → Reads text at n m b (lists (holdWords p (kind l) n (a .words)) (a .names)) (holdOut p (at + 1) n m)
+  pub reads-held : (p : Parsed) → Reads strict text (at + 1) (n + 1) m b a p
+      → Reads strict text at n m b (lists (holdWords p (kind l) n (a .words)) (a .names)) (holdOut p (at + 1) n m)
   unfolding Begun held
   reads-held Empty r = record {
     bound = none-bound (slack-end text (at + 1) (omega (arith, r .bound .0)) ∙ omega (arith, r .bound .0));
-    says = begun text at n m b (heldAfter Empty) (heldOut Empty) h (λ g f. none-found text n m 0 b a l bare (r .bound .1) (at + 1) _ (begins-held text at st g (r .says g (omega arith))));
+    says = begun strict text at n m b (heldAfter Empty) (heldOut Empty) h (clean-held strict text at st)
+        (λ g f. none-found text n m 0 b a l bare (r .bound .1) (at + 1) _ (held-by strict text at st g (r .says g (omega arith))));
   }
   reads-held (Encoding to k j) r = record {
     bound = record {
@@ -223,19 +239,23 @@ module _ (text : List ℕ) (at n m : ℕ) (l : Label) (bare : Bare m l 0) (h : a
       names-on = r .bound .names-on;
       names-room = omega (arith, r .bound .names-room);
     };
-    says = begun text at n m b (heldAfter (Encoding to k j)) (heldOut (Encoding to k j)) h (λ g f. child-found text n m 0 b a l bare to to k j _ _ (r .says g (omega arith)) (λ c cs e. begins-held text at st g e));
+    says = begun strict text at n m b (heldAfter (Encoding to k j)) (heldOut (Encoding to k j)) h (clean-held strict text at st)
+        (λ g f. child-found text n m 0 b a l bare to to k j _ _ (r .says g (omega arith)) (λ c cs e. held-by strict text at st g e));
   }
   reads-held (ContainerEnd c to) r = record {
     bound = none-bound (r .bound .closer);
-    says = begun text at n m b (heldAfter (ContainerEnd c to)) (heldOut (ContainerEnd c to)) h (λ g f. none-found text n m 0 b a l bare (r .bound .kept) (at + 1) _ (begins-held text at st g (r .says g (omega arith))));
+    says = begun strict text at n m b (heldAfter (ContainerEnd c to)) (heldOut (ContainerEnd c to)) h (clean-held strict text at st)
+        (λ g f. none-found text n m 0 b a l bare (r .bound .kept) (at + 1) _ (held-by strict text at st g (r .says g (omega arith))));
   }
   reads-held (ArrayEnd to) r = record {
     bound = none-bound (r .bound .closer);
-    says = begun text at n m b (heldAfter (ArrayEnd to)) (heldOut (ArrayEnd to)) h (λ g f. none-found text n m 0 b a l bare (r .bound .kept) (at + 1) _ (begins-held text at st g (r .says g (omega arith))));
+    says = begun strict text at n m b (heldAfter (ArrayEnd to)) (heldOut (ArrayEnd to)) h (clean-held strict text at st)
+        (λ g f. none-found text n m 0 b a l bare (r .bound .kept) (at + 1) _ (held-by strict text at st g (r .says g (omega arith))));
   }
   reads-held (Refused why to) r = record {
     bound = (r .bound .0, frame-part text at n m (at + 1) (n + 1) b a (omega (arith, opens, slack-le text (at + 1))) (omega arith) (r .bound .1));
-    says = begun text at n m b (heldAfter (Refused why to)) (heldOut (Refused why to)) h (λ g f. begins-held text at st g (r .says g (omega arith)));
+    says = begun strict text at n m b (heldAfter (Refused why to)) (heldOut (Refused why to)) h (clean-held strict text at st)
+        (λ g f. held-by strict text at st g (r .says g (omega arith)));
   }
 
 -- ---- Frames.
@@ -246,8 +266,9 @@ kept-frame text at n m b a k = record {
   names-frame = λ e _. ap (drop e) (k .names-kept);
 }
 
-pub found-frame : (text : List ℕ) (at n m : ℕ) (b a : Lists) (to k j : ℕ) → Reads text at n m b a (Encoding to k j) → Frame text at n m b a
-found-frame text at n m b a to k j r =
+pub found-frame : (strict : Bool) (text : List ℕ) (at n m : ℕ) (b a : Lists) (to k j : ℕ) → Reads strict text at n m b a (Encoding to k j)
+    → Frame text at n m b a
+found-frame strict text at n m b a to k j r =
     let f = r .says (length (drop at text) + length (drop at text)) (omega arith) in
     let room : k + slack (drop to text) ≤ n + slack (drop at text) = r .bound .room in
     let nroom : j + (length text - to) ≤ m + (length text - at) = r .bound .names-room in
@@ -263,14 +284,14 @@ found-frame text at n m b a to k j r =
 
 -- ---- Arrays.
 
-module _ (text : List ℕ) (at n m len it : ℕ) (h : at < length text) (st : start (getD text at 0) ≡ R.openArray)
+module _ (strict : Bool) (text : List ℕ) (at n m len it : ℕ) (h : at < length text) (st : start (getD text at 0) ≡ R.openArray) (clean : Clean strict text at)
     (num : R.parseNumber maxU64 (drop (at + 1) text) ≡ R.value len (drop it text)) (on : at + 1 ≤ it) (in-text : it ≤ length text) (b a : Lists) where
   opens-array : slack (drop at text) ≡ length text - at + 1
   unfolding closes
   opens-array = slack-open text at h (ap closes st)
 
-  found-closed : (to k j : ℕ) → Reads text it (n + 1) m b a (Encoding to k j) → closed text to ≡ true
-      → Reads text at n m b (lists (nodePut (a .words) n 28 len 0 (k - n)) (a .names)) (Encoding (to + 1) k j)
+  found-closed : (to k j : ℕ) → Reads strict text it (n + 1) m b a (Encoding to k j) → closed text to ≡ true
+      → Reads strict text at n m b (lists (nodePut (a .words) n 28 len 0 (k - n)) (a .names)) (Encoding (to + 1) k j)
   unfolding Begun item kind closes start R.inSingles R.singles inOthers others
   found-closed to k j r e =
       let l : to < length text = closed-in text to e in
@@ -285,35 +306,42 @@ module _ (text : List ℕ) (at n m len it : ℕ) (h : at < length text) (st : st
           names-on = r .bound .names-on;
           names-room = omega (arith, r .bound .names-room);
         };
-        says = begun text at n m b (lists (nodePut (a .words) n 28 len 0 (k - n)) (a .names)) (Encoding (to + 1) k j) h
-            (λ g f. child-found text n m len b a (array len) (bare-array m len) to (to + 1) k j _ _ (r .says g (fuel-on text at it g on f)) (λ lab cs q. begins-item text at len it st num g q ∙ closes-it text len lab cs to l c));
+        says = begun strict text at n m b (lists (nodePut (a .words) n 28 len 0 (k - n)) (a .names)) (Encoding (to + 1) k j) h clean
+            (λ g f. child-found text n m len b a (array len) (bare-array m len) to (to + 1) k j _ _ (r .says g (fuel-on text at it g on f))
+            (λ lab cs q. item-by strict text at len it st num g q ∙ closes-it text len lab cs to l c));
       }
 
-  found-open : (to k j : ℕ) → Reads text it (n + 1) m b a (Encoding to k j) → closed text to ≡ false
-      → Reads text at n m b a (Refused WrongEndArray to)
+  found-open : (to k j : ℕ) → Reads strict text it (n + 1) m b a (Encoding to k j) → closed text to ≡ false
+      → Reads strict text at n m b a (Refused WrongEndArray to)
   unfolding Begun item
   found-open to k j r e = record {
-    bound = (r .bound .within, frame-part text at n m it (n + 1) b a (omega (arith, opens-array, slack-le text it)) (omega arith) (found-frame text it (n + 1) m b a to k j r));
-    says = begun text at n m b a (Refused WrongEndArray to) h
-        (λ g f. let q = r .says g (fuel-on text at it g on f) in begins-item text at len it st num g (q .is) ∙ closes-not text len (q .label) (q .children) to e);
+    bound = (r .bound .within, frame-part text at n m it (n + 1) b a (omega (arith, opens-array, slack-le text it)) (omega arith)
+        (found-frame strict text it (n + 1) m b a to k j r));
+    says = begun strict text at n m b a (Refused WrongEndArray to) h clean
+        (λ g f. let q = r .says g (fuel-on text at it g on f) in item-by strict text at len it st num g (q .is)
+        ∙ closes-not text len (q .label) (q .children) to e);
   }
 
-  pick-found : (to k j : ℕ) → Reads text it (n + 1) m b a (Encoding to k j) → (d : Bool) → closed text to ≡ d
-      → Reads text at n m b (lists (pickList d (nodePut (a .words) n 28 len 0 (k - n)) (a .words)) (a .names)) (pickParsed d (Encoding (to + 1) k j) (Refused WrongEndArray to))
+  pick-found : (to k j : ℕ) → Reads strict text it (n + 1) m b a (Encoding to k j) → (d : Bool) → closed text to ≡ d
+      → Reads strict text at n m b (lists (pickList d (nodePut (a .words) n 28 len 0 (k - n)) (a .words)) (a .names))
+      (pickParsed d (Encoding (to + 1) k j) (Refused WrongEndArray to))
   pick-found to k j r true e = found-closed to k j r e
   pick-found to k j r false e = found-open to k j r e
 
-  pub reads-item : (p : Parsed) → Reads text it (n + 1) m b a p
-      → Reads text at n m b (lists (itemWords p text len n (a .words)) (a .names)) (itemOut p text it n m)
+  pub reads-item : (p : Parsed) → Reads strict text it (n + 1) m b a p
+      → Reads strict text at n m b (lists (itemWords p text len n (a .words)) (a .names)) (itemOut p text it n m)
   unfolding Begun item kind
   reads-item Empty r = record {
     bound = (in-text, kept-frame text at n m b a (r .bound .1));
-    says = begun text at n m b a (Refused WrongEndArray it) h (λ g f. begins-item text at len it st num g (r .says g (fuel-on text at it g on f)) ∙ ap (refused WrongEndArray) (sym (unread-end text it (omega (arith, r .bound .0)))));
+    says = begun strict text at n m b a (Refused WrongEndArray it) h clean
+        (λ g f. item-by strict text at len it st num g (r .says g (fuel-on text at it g on f))
+        ∙ ap (refused WrongEndArray) (sym (unread-end text it (omega (arith, r .bound .0)))));
   }
   reads-item (Encoding to k j) r = pick-found to k j r (closed text to) refl
   reads-item (ContainerEnd c to) r = record {
     bound = (r .bound .within, kept-frame text at n m b a (r .bound .kept));
-    says = begun text at n m b a (Refused (Unknown (endByte c)) to) h (λ g f. begins-item text at len it st num g (r .says g (fuel-on text at it g on f)));
+    says = begun strict text at n m b a (Refused (Unknown (endByte c)) to) h clean
+        (λ g f. item-by strict text at len it st num g (r .says g (fuel-on text at it g on f)));
   }
   reads-item (ArrayEnd to) r = record {
     bound = record {
@@ -324,39 +352,41 @@ module _ (text : List ℕ) (at n m len it : ℕ) (h : at < length text) (st : st
       names-on = omega arith;
       names-room = omega (arith, r .bound .next);
     };
-    says = begun text at n m b (lists (noneUnder 28 len n (a .words)) (a .names)) (Encoding to (n + 2) m) h
-        (λ g f. none-found text n m len b a (array len) (bare-array m len) (r .bound .kept) to _ (begins-item text at len it st num g (r .says g (fuel-on text at it g on f))));
+    says = begun strict text at n m b (lists (noneUnder 28 len n (a .words)) (a .names)) (Encoding to (n + 2) m) h clean
+        (λ g f. none-found text n m len b a (array len) (bare-array m len) (r .bound .kept) to _
+        (item-by strict text at len it st num g (r .says g (fuel-on text at it g on f))));
   }
   reads-item (Refused why to) r = record {
     bound = (r .bound .0, frame-part text at n m it (n + 1) b a (omega (arith, opens-array, slack-le text it)) (omega arith) (r .bound .1));
-    says = begun text at n m b a (Refused why to) h (λ g f. begins-item text at len it st num g (r .says g (fuel-on text at it g on f)));
+    says = begun strict text at n m b a (Refused why to) h clean (λ g f. item-by strict text at len it st num g (r .says g (fuel-on text at it g on f)));
   }
 
--- No number after `[`.
-pub reads-no-number : (text : List ℕ) (at n m : ℕ) (b : Lists) (why : ErrorKind) (to : ℕ) → at < length text → start (getD text at 0) ≡ R.openArray
-    → R.parseNumber maxU64 (drop (at + 1) text) ≡ R.noNumber why (drop to text) → to ≤ length text → Reads text at n m b b (Refused why to)
-unfolding Begun begin
-reads-no-number text at n m b why to h st num l = record {
+-- No number after `[`, or one that a strict reading refuses.
+pub reads-no-number : (strict : Bool) (text : List ℕ) (at n m : ℕ) (b : Lists) (why : ErrorKind) (to : ℕ) → at < length text
+    → ((inner : List ℕ → R.Parsed) (fields : ContainerKind → List ℕ → R.Items) → judged strict (start (getD text at 0)) (drop (at + 1) text)
+    (begin (getD text at 0) (start (getD text at 0)) (drop (at + 1) text) inner fields) ≡ refused why (drop to text))
+    → to ≤ length text → Reads strict text at n m b b (Refused why to)
+reads-no-number strict text at n m b why to h num l = record {
   bound = (l, kept-frame text at n m b b (record { words-kept = refl; names-kept = refl }));
-  says = begun text at n m b b (Refused why to) h
-      (λ g f. ap (λ (x : R.Start). begin (getD text at 0) x (drop (at + 1) text) (λ t. parseInner g t) (λ k t. parseItems g k t)) st ∙ rw (num, begin) refl);
+  says = begun-by strict text at n m b b (Refused why to) h (λ g f. num (λ t. parseInnerBy strict g t) (λ k t. parseItemsBy strict g k t));
 }
 
 -- ---- The fields of a container.
 
-fields-step : (g : ℕ) (k : ContainerKind) (s : List ℕ) → parseItems (suc g) k s ≡ R.nextItem k (parseInner g s) (λ t. parseItems g k t)
-unfolding parseItems
-fields-step g k s = refl
+fields-step : (strict : Bool) (g : ℕ) (k : ContainerKind) (s : List ℕ) → parseItemsBy strict (suc g) k s
+    ≡ R.nextItem k (parseInnerBy strict g s) (λ t. parseItemsBy strict g k t)
+unfolding parseItemsBy
+fields-step strict g k s = refl
 
-module _ (text : List ℕ) (at : ℕ) (kind : ContainerKind) (n m : ℕ) (b a : Lists) (r : Items) where
+module _ (strict : Bool) (text : List ℕ) (at : ℕ) (kind : ContainerKind) (n m : ℕ) (b a : Lists) (r : Items) where
   Continued : Type 0
   Continued = (g : ℕ) → length (drop at text) + length (drop at text) ≤ g
-      → ItemsIs text n m b a r (R.nextItem kind (parseInner g (drop at text)) (λ t. parseItems g kind t))
+      → ItemsIs text n m b a r (R.nextItem kind (parseInnerBy strict g (drop at text)) (λ t. parseItemsBy strict g kind t))
 
-  continued : Continued → (f : ℕ) → length (drop at text) + length (drop at text) < f → ItemsIs text n m b a r (parseItems f kind (drop at text))
+  continued : Continued → (f : ℕ) → length (drop at text) + length (drop at text) < f → ItemsIs text n m b a r (parseItemsBy strict f kind (drop at text))
   unfolding Continued
   continued s zero l = absurd (omega arith)
-  continued s (suc g) l = subst (ItemsIs text n m b a r) (sym (fields-step g kind (drop at text))) (s g (omega arith))
+  continued s (suc g) l = subst (ItemsIs text n m b a r) (sym (fields-step strict g kind (drop at text))) (s g (omega arith))
 
 abbrev pub NotFound : Parsed → Type 0
 NotFound Empty = Unit {0}
@@ -365,9 +395,9 @@ NotFound (ContainerEnd kind to) = Unit {0}
 NotFound (ArrayEnd to) = Unit {0}
 NotFound (Refused why to) = Unit {0}
 
-module _ (text : List ℕ) (at : ℕ) (kind : ContainerKind) (n m : ℕ) (b a : Lists) where
-  end-container : (other : ContainerKind) (to : ℕ) → Reads text at n m b a (ContainerEnd other to) → (d : Bool) → sameContainer kind other ≡ d
-      → ItemsReads text at kind n m b a (pickItems d (Read to n m) (NoItems (Unknown (endByte other)) to))
+module _ (strict : Bool) (text : List ℕ) (at : ℕ) (kind : ContainerKind) (n m : ℕ) (b a : Lists) where
+  end-container : (other : ContainerKind) (to : ℕ) → Reads strict text at n m b a (ContainerEnd other to) → (d : Bool) → sameContainer kind other ≡ d
+      → ItemsReads strict text at kind n m b a (pickItems d (Read to n m) (NoItems (Unknown (endByte other)) to))
   unfolding Continued R.nextItem count namesOf nodes
   end-container other to r true e = record {
     bound = record {
@@ -378,9 +408,9 @@ module _ (text : List ℕ) (at : ℕ) (kind : ContainerKind) (n m : ℕ) (b a : 
       names-on = omega arith;
       names-room = omega (arith, r .bound .next);
     };
-    says = continued text at kind n m b a (Read to n m) (λ g l. record {
+    says = continued strict text at kind n m b a (Read to n m) (λ g l. record {
       trees = end;
-      is = next-is text at kind g (r .says g l) ∙ (rw (e, R.nextItem) refl);
+      is = next-by strict text at kind g (r .says g l) ∙ (rw (e, R.nextItem) refl);
       count-is = sym (add-zero n);
       names-is = sym (add-zero m);
       words-are = r .bound .kept .words-kept;
@@ -389,29 +419,33 @@ module _ (text : List ℕ) (at : ℕ) (kind : ContainerKind) (n m : ℕ) (b a : 
   }
   end-container other to r false e = record {
     bound = (r .bound .within, kept-frame text at n m b a (r .bound .kept));
-    says = continued text at kind n m b a (NoItems (Unknown (endByte other)) to) (λ g l. next-is text at kind g (r .says g l) ∙ (rw (e, R.nextItem) refl));
+    says = continued strict text at kind n m b a (NoItems (Unknown (endByte other)) to)
+        (λ g l. next-by strict text at kind g (r .says g l) ∙ (rw (e, R.nextItem) refl));
   }
 
-  pub items-end : (p : Parsed) → NotFound p → Reads text at n m b a p → ItemsReads text at kind n m b a (endOut p kind at n m)
+  pub items-end : (p : Parsed) → NotFound p → Reads strict text at n m b a p → ItemsReads strict text at kind n m b a (endOut p kind at n m)
   unfolding Continued R.nextItem
   items-end Empty x r = record {
     bound = (omega (arith, r .bound .0), kept-frame text at n m b a (r .bound .1));
-    says = continued text at kind n m b a (NoItems (WrongEndContainer kind) at) (λ g l. next-is text at kind g (r .says g l) ∙ ap (R.itemsRefused (WrongEndContainer kind)) (sym (unread-end text at (omega (arith, r .bound .0)))));
+    says = continued strict text at kind n m b a (NoItems (WrongEndContainer kind) at)
+        (λ g l. next-by strict text at kind g (r .says g l) ∙ ap (R.itemsRefused (WrongEndContainer kind))
+        (sym (unread-end text at (omega (arith, r .bound .0)))));
   }
   items-end (Encoding to k j) x r = absurd x
   items-end (ContainerEnd other to) x r = end-container other to r (sameContainer kind other) refl
   items-end (ArrayEnd to) x r = record {
     bound = (r .bound .within, kept-frame text at n m b a (r .bound .kept));
-    says = continued text at kind n m b a (NoItems (Unknown 93) to) (λ g l. next-is text at kind g (r .says g l));
+    says = continued strict text at kind n m b a (NoItems (Unknown 93) to) (λ g l. next-by strict text at kind g (r .says g l));
   }
   items-end (Refused why to) x r = record {
     bound = r .bound;
-    says = continued text at kind n m b a (NoItems why to) (λ g l. next-is text at kind g (r .says g l));
+    says = continued strict text at kind n m b a (NoItems why to) (λ g l. next-by strict text at kind g (r .says g l));
   }
 
   -- One field, and the fields after it.
-  both : (to k j : ℕ) (z : Lists) (end-at k2 j2 g : ℕ) → FoundIs text n m b a to k j (parseInner g (drop at text)) → ItemsFound text k j a z end-at k2 j2 (parseItems g kind (drop to text))
-      → ItemsFound text n m b z end-at k2 j2 (R.nextItem kind (parseInner g (drop at text)) (λ t. parseItems g kind t))
+  both : (to k j : ℕ) (z : Lists) (end-at k2 j2 g : ℕ) → FoundIs text n m b a to k j (parseInnerBy strict g (drop at text))
+      → ItemsFound text k j a z end-at k2 j2 (parseItemsBy strict g kind (drop to text))
+      → ItemsFound text n m b z end-at k2 j2 (R.nextItem kind (parseInnerBy strict g (drop at text)) (λ t. parseItemsBy strict g kind t))
   unfolding R.nextItem R.addItem
   both to k j z end-at k2 j2 g f t =
       let l : Label = f .label in
@@ -420,7 +454,8 @@ module _ (text : List ℕ) (at : ℕ) (kind : ContainerKind) (n m : ℕ) (b a : 
       let c : count (node l cs ts) ≡ suc (count cs + count ts) = unfold count in refl in
       let one : count (node l cs end) ≡ suc (count cs) = count-alone l cs in
       let len : length (nodes (node l cs end) m) ≡ 4 * count (node l cs end) = nodes-length (node l cs end) m in
-      let side : length (namesOf (node l cs ts)) ≡ length (namesOf (node l cs end)) + length (namesOf ts) = ap length (names-side l cs ts) ∙ length-append (namesOf (node l cs end)) (namesOf ts) in
+      let side : length (namesOf (node l cs ts)) ≡ length (namesOf (node l cs end)) + length (namesOf ts) = ap length (names-side l cs ts)
+      ∙ length-append (namesOf (node l cs end)) (namesOf ts) in
       let ki : k ≡ n + suc (count cs) = f .count-is in
       let ji : j ≡ m + length (namesOf (node l cs end)) = f .names-is in
       let k2i : k2 ≡ k + count ts = t .count-is in
@@ -428,7 +463,7 @@ module _ (text : List ℕ) (at : ℕ) (kind : ContainerKind) (n m : ℕ) (b a : 
       let place : 4 * k ≡ 4 * n + length (nodes (node l cs end) m) = omega arith in
       record {
         trees = node l cs ts;
-        is = next-is text at kind g (f .is) ∙ ap (R.addItem l cs) (t .is);
+        is = next-by strict text at kind g (f .is) ∙ ap (R.addItem l cs) (t .is);
         count-is = omega arith;
         names-is = omega arith;
         words-are =
@@ -446,7 +481,8 @@ module _ (text : List ℕ) (at : ℕ) (kind : ContainerKind) (n m : ℕ) (b a : 
             ∙ sym (ap (sets (b .names) m) (names-side l cs ts));
       }
 
-  pub items-more : (to k j : ℕ) (z : Lists) (i : Items) → Reads text at n m b a (Encoding to k j) → ItemsReads text to kind k j a z i → ItemsReads text at kind n m b z i
+  pub items-more : (to k j : ℕ) (z : Lists) (i : Items) → Reads strict text at n m b a (Encoding to k j) → ItemsReads strict text to kind k j a z i
+      → ItemsReads strict text at kind n m b z i
   unfolding Continued R.nextItem R.addItem
   items-more to k j z (Read end-at k2 j2) r s =
       let rb : FoundBound text at n m to k j = r .bound in
@@ -460,11 +496,12 @@ module _ (text : List ℕ) (at : ℕ) (kind : ContainerKind) (n m : ℕ) (b a : 
           names-on = omega arith;
           names-room = omega arith;
         };
-        says = continued text at kind n m b z (Read end-at k2 j2) (λ g l. both to k j z end-at k2 j2 g (r .says g l) (s .says g (omega (arith, length-drop at text, length-drop to text))));
+        says = continued strict text at kind n m b z (Read end-at k2 j2)
+            (λ g l. both to k j z end-at k2 j2 g (r .says g l) (s .says g (omega (arith, length-drop at text, length-drop to text))));
       }
   items-more to k j z (NoItems why end-at) r s =
       let rb : FoundBound text at n m to k j = r .bound in
-      let fr : Frame text at n m b a = found-frame text at n m b a to k j r in
+      let fr : Frame text at n m b a = found-frame strict text at n m b a to k j r in
       let fs : Frame text to k j a z = s .bound .1 in
       record {
         bound = (
@@ -474,45 +511,54 @@ module _ (text : List ℕ) (at : ℕ) (kind : ContainerKind) (n m : ℕ) (b a : 
             names-frame = λ e l. fs .names-frame e (omega arith) ∙ fr .names-frame e l;
           },
         );
-        says = continued text at kind n m b z (NoItems why end-at) (λ g l. next-is text at kind g (r .says g l .is) ∙ ap (R.addItem _ _) (s .says g (omega (arith, length-drop at text, length-drop to text))));
+        says = continued strict text at kind n m b z (NoItems why end-at)
+            (λ g l. next-by strict text at kind g (r .says g l .is) ∙ ap (R.addItem _ _) (s .says g (omega (arith, length-drop at text, length-drop to text))));
       }
 
 -- ---- Containers.
 
-container-words : (k : ContainerKind) (s : List ℕ) (m : ℕ) → (kind (R.container k s) ≡ kindWord k) × (first (R.container k s) m ≡ m) × (second (R.container k s) ≡ length s) × (name (R.container k s) ≡ s)
+container-words : (k : ContainerKind) (s : List ℕ) (m : ℕ) → (kind (R.container k s) ≡ kindWord k) × (first (R.container k s) m ≡ m) ×
+    (second (R.container k s) ≡ length s) × (name (R.container k s) ≡ s)
 unfolding kind first name second
 container-words Struct s m = (refl, refl, refl, refl)
 container-words Union s m = (refl, refl, refl, refl)
 
 -- The container's own closer ends its fields.
-pub items-closed : (text : List ℕ) (at : ℕ) (kind : ContainerKind) (n m : ℕ) (b : Lists) → closesFields text at kind ≡ true → ItemsReads text at kind n m b b (Read (at + 1) n m)
+pub items-closed : (strict : Bool) (text : List ℕ) (at : ℕ) (kind : ContainerKind) (n m : ℕ) (b : Lists) → closesFields text at kind ≡ true
+    → ItemsReads strict text at kind n m b b (Read (at + 1) n m)
 unfolding begin
-items-closed text at kind n m b e =
+items-closed strict text at kind n m b e =
     let h : at < length text = closes-in text at kind e in
     let st = closes-starts text at kind e in
-    let s = simple-token text at n m (b .words) h (T.ContainerEnd kind (at + 1)) (record { bound = (refl, st); says = λ inner fields. begins text at st inner fields }) in
-    end-container text at kind n m b b kind (at + 1) (reads-simple text at n m (b .words) (b .words) (b .names) (ContainerEnd kind (at + 1)) h s) true (same-self kind)
+    let s = simple-token text at n m (b .words) h strict (clean-closed strict text at st) (T.ContainerEnd kind (at + 1))
+    (record { bound = (refl, st); says = λ inner fields. begins text at st inner fields }) in
+    end-container strict text at kind n m b b kind (at + 1) (reads-simple strict text at n m (b .words) (b .words) (b .names) (ContainerEnd kind (at + 1)) h s)
+        true (same-self kind)
 
-module _ (text : List ℕ) (at : ℕ) (k : ContainerKind) (n m : ℕ) (h : at < length text) (st : start (getD text at 0) ≡ R.openContainer k) (b : Lists) (ns : List ℕ) where
+module _ (strict : Bool) (text : List ℕ) (at : ℕ) (k : ContainerKind) (n m : ℕ) (h : at < length text) (st : start (getD text at 0) ≡ R.openContainer k)
+    (b : Lists) (ns : List ℕ) where
   opens-container : slack (drop at text) ≡ length text - at + 1
   unfolding closes
   opens-container = slack-open text at h (ap closes st)
 
-  pub reads-no-name : (why : ErrorKind) (to : ℕ) → NamedIs text (at + 1) m (b .names) ns (NoName why to) (R.parseName k [] (drop (at + 1) text)) → Reads text at n m b (lists (b .words) ns) (Refused why to)
+  pub reads-no-name : (why : ErrorKind) (to : ℕ) → NamedIs text (at + 1) m (b .names) ns (NoName why to) (R.parseName k [] (drop (at + 1) text))
+      → Reads strict text at n m b (lists (b .words) ns) (Refused why to)
   unfolding Begun begin
   reads-no-name why to q = record {
     bound = (q .0 .1, record { words-frame = λ e l. refl; names-frame = λ e l. ap (drop e) (q .1) });
-    says = begun text at n m b (lists (b .words) ns) (Refused why to) h (λ g f. begins text at st (λ t. parseInner g t) (λ j t. parseItems g j t) ∙ rw (q .0 .0, begin) refl);
+    says = begun strict text at n m b (lists (b .words) ns) (Refused why to) h (clean-opened strict text at st)
+        (λ g f. begins text at st (λ t. parseInnerBy strict g t) (λ j t. parseItemsBy strict g j t) ∙ rw (q .0 .0, begin) refl);
   }
 
   module _ (to l : ℕ) (q : NameFound text (at + 1) m (b .names) ns to l (R.parseName k [] (drop (at + 1) text))) (a : Lists) where
-    named : (g : ℕ) → begin (getD text at 0) (start (getD text at 0)) (drop (at + 1) text) (λ t. parseInner g t) (λ j t. parseItems g j t) ≡ R.contained k (q .name) (parseItems g k (drop to text))
+    named : (g : ℕ) → begin (getD text at 0) (start (getD text at 0)) (drop (at + 1) text) (λ t. parseInnerBy strict g t) (λ j t. parseItemsBy strict g j t)
+        ≡ R.contained k (q .name) (parseItemsBy strict g k (drop to text))
     unfolding begin
-    named g = begins text at st (λ t. parseInner g t) (λ j t. parseItems g j t) ∙ rw (q .is, begin) refl
+    named g = begins text at st (λ t. parseInnerBy strict g t) (λ j t. parseItemsBy strict g j t) ∙ rw (q .is, begin) refl
 
-    contained-found : (end-at k2 j2 g : ℕ) → ItemsFound text (n + 1) l (lists (b .words) ns) a end-at k2 j2 (parseItems g k (drop to text))
+    contained-found : (end-at k2 j2 g : ℕ) → ItemsFound text (n + 1) l (lists (b .words) ns) a end-at k2 j2 (parseItemsBy strict g k (drop to text))
         → FoundIs text n m b (lists (nodePut (a .words) n (kindWord k) m (l - m) (k2 - n)) (a .names)) end-at k2 j2
-        (begin (getD text at 0) (start (getD text at 0)) (drop (at + 1) text) (λ t. parseInner g t) (λ j t. parseItems g j t))
+        (begin (getD text at 0) (start (getD text at 0)) (drop (at + 1) text) (λ t. parseInnerBy strict g t) (λ j t. parseItemsBy strict g j t))
     unfolding R.contained
     contained-found end-at k2 j2 g t =
         let lab : Label = R.container k (q .name) in
@@ -537,7 +583,8 @@ module _ (text : List ℕ) (at : ℕ) (k : ContainerKind) (n m : ℕ) (h : at < 
               ∙ ap (λ (x : ℕ). nodePut (sets (b .words) (4 * (n + 1)) (nodes ts x)) n (kindWord k) m (l - m) (k2 - n)) ml
               ∙ ap (λ (x : ℕ). nodePut (sets (b .words) (4 * (n + 1)) (nodes ts (m + length (name lab)))) n x m (l - m) (k2 - n)) (sym (facts .0))
               ∙ ap (λ (x : ℕ). nodePut (sets (b .words) (4 * (n + 1)) (nodes ts (m + length (name lab)))) n (kind lab) x (l - m) (k2 - n)) (sym (facts .1))
-              ∙ ap (λ (x : ℕ). nodePut (sets (b .words) (4 * (n + 1)) (nodes ts (m + length (name lab)))) n (kind lab) (first lab m) x (k2 - n)) (sl ∙ sym (facts .2))
+              ∙ ap (λ (x : ℕ). nodePut (sets (b .words) (4 * (n + 1)) (nodes ts (m + length (name lab)))) n (kind lab) (first lab m) x (k2 - n))
+              (sl ∙ sym (facts .2))
               ∙ over (b .words) n m (k2 - n) lab ts cl;
           names-are =
               t .names-are
@@ -547,7 +594,8 @@ module _ (text : List ℕ) (at : ℕ) (k : ContainerKind) (n m : ℕ) (h : at < 
               ∙ sym (ap (sets (b .names) m) (names-alone lab ts ∙ ap (λ (s : List ℕ). s ++ namesOf ts) (facts .3)));
         }
 
-    pub reads-contained : (i : Items) → ItemsReads text to k (n + 1) l (lists (b .words) ns) a i → Reads text at n m b (lists (containWords i k n m l (a .words)) (a .names)) (containOut i)
+    pub reads-contained : (i : Items) → ItemsReads strict text to k (n + 1) l (lists (b .words) ns) a i
+        → Reads strict text at n m b (lists (containWords i k n m l (a .words)) (a .names)) (containOut i)
     unfolding Begun R.contained
     reads-contained (Read end-at k2 j2) r =
         let rb : ItemsBound text to (n + 1) l end-at k2 j2 = r .bound in
@@ -560,7 +608,8 @@ module _ (text : List ℕ) (at : ℕ) (k : ContainerKind) (n m : ℕ) (h : at < 
             names-on = omega (arith, q .names-is);
             names-room = omega (arith, q .names-room);
           };
-          says = begun text at n m b (lists (nodePut (a .words) n (kindWord k) m (l - m) (k2 - n)) (a .names)) (Encoding end-at k2 j2) h
+          says = begun strict text at n m b (lists (nodePut (a .words) n (kindWord k) m (l - m) (k2 - n)) (a .names)) (Encoding end-at k2 j2) h
+              (clean-opened strict text at st)
               (λ g f. contained-found end-at k2 j2 g (r .says g (omega (arith, q .onward, length-drop to text, length-drop (at + 1) text))));
         }
     reads-contained (NoItems why end-at) r =
@@ -571,23 +620,26 @@ module _ (text : List ℕ) (at : ℕ) (k : ContainerKind) (n m : ℕ) (h : at < 
             r .bound .0,
             record {
               words-frame = λ e x. fr .words-frame e (omega (arith, opens-container, slack-le text to, q .onward));
-              names-frame = λ e x. fr .names-frame e (omega (arith, q .names-room)) ∙ ap (drop e) (q .names-are) ∙ drop-sets (b .names) m (q .name) e (omega (arith, q .names-room, q .within, q .onward));
+              names-frame = λ e x. fr .names-frame e (omega (arith, q .names-room)) ∙ ap (drop e) (q .names-are)
+                  ∙ drop-sets (b .names) m (q .name) e (omega (arith, q .names-room, q .within, q .onward));
             },
           );
-          says = begun text at n m b a (Refused why end-at) h
+          says = begun strict text at n m b a (Refused why end-at) h (clean-opened strict text at st)
               (λ g f. named g ∙ ap (R.contained k (q .name)) (r .says g (omega (arith, q .onward, length-drop to text, length-drop (at + 1) text))));
         }
 
 -- ---- What the calls ask.
 
-pub ready-part : (text : List ℕ) (at n m : ℕ) (b : Lists) (it : ℕ) → Ready text at n m b → at < length text → closes (start (getD text at 0)) ≡ false → at + 1 ≤ it → it ≤ length text → Ready text it (n + 1) m b
+pub ready-part : (text : List ℕ) (at n m : ℕ) (b : Lists) (it : ℕ) → Ready text at n m b → at < length text → closes (start (getD text at 0)) ≡ false
+    → at + 1 ≤ it → it ≤ length text → Ready text it (n + 1) m b
 ready-part text at n m b it r h o on l = record {
   at-place = l;
   words-room = omega (arith, r .words-room, slack-open text at h o, slack-le text it);
   names-room = omega (arith, r .names-room);
 }
 
-pub room-two : (text : List ℕ) (at n m : ℕ) (b : Lists) → Ready text at n m b → at < length text → closes (start (getD text at 0)) ≡ false → 4 * n + 8 ≤ length (b .words)
+pub room-two : (text : List ℕ) (at n m : ℕ) (b : Lists) → Ready text at n m b → at < length text → closes (start (getD text at 0)) ≡ false
+    → 4 * n + 8 ≤ length (b .words)
 room-two text at n m b r h o = omega (arith, r .words-room, slack-open text at h o)
 
 pub after-parsed : (text : List ℕ) (at n m : ℕ) (b a : Lists) (p : Parsed) → Bound text at (n + 1) m b a p → After p n
@@ -601,7 +653,8 @@ pub after-items : (text : List ℕ) (at n m : ℕ) (b a : Lists) (i : Items) →
 after-items text at n m b a (Read to k j) r = omega (arith, r .more)
 after-items text at n m b a (NoItems why to) r = tt
 
-pub ready-fields : (text : List ℕ) (at n m : ℕ) (b : Lists) (ns : List ℕ) (to l : ℕ) (q : R.Named) → Ready text at n m b → at < length text → closes (start (getD text at 0)) ≡ false
+pub ready-fields : (text : List ℕ) (at n m : ℕ) (b : Lists) (ns : List ℕ) (to l : ℕ) (q : R.Named) → Ready text at n m b → at < length text
+    → closes (start (getD text at 0)) ≡ false
     → length ns ≡ length (b .names) → NameFound text (at + 1) m (b .names) ns to l q → Ready text to (n + 1) l (lists (b .words) ns)
 ready-fields text at n m b ns to l q r h o s f = record {
   at-place = f .within;
@@ -609,7 +662,8 @@ ready-fields text at n m b ns to l q r h o s f = record {
   names-room = omega (arith, r .names-room, f .names-room, f .onward, f .within);
 }
 
-pub ready-more : (text : List ℕ) (at n m : ℕ) (b a : Lists) (to k j : ℕ) → Ready text at n m b → length (a .words) ≡ length (b .words) → length (a .names) ≡ length (b .names)
+pub ready-more : (text : List ℕ) (at n m : ℕ) (b a : Lists) (to k j : ℕ) → Ready text at n m b → length (a .words) ≡ length (b .words) → length (a .names)
+    ≡ length (b .names)
     → FoundBound text at n m to k j → Ready text to k j a
 ready-more text at n m b a to k j r w s f = record {
   at-place = f .within;

@@ -14,7 +14,7 @@ use borrow.Rule.Slice.PartMut.{putMid, midOf, same-len-mid}
 use Rattle.kinds.specs.Container.{endByte}
 use Rattle.kinds.specs.Parse as R
 use Rattle.kinds.specs.Byte.{among}
-use Rattle.kinds.specs.Parse.{start, isQualifier, parseInner, parse, parseEncodingOrNone, encodingOrNone, stripLeadingQualifiers, encoded, notEncoded}
+use Rattle.kinds.specs.Parse.{start, isQualifier, encodingOrNone, stripLeadingQualifiers, encoded, notEncoded}
 use Rattle.kinds.specs.Sheet.{nodes, namesOf, headerFor, sheetOf, headerWords, wordsUsed, maxText}
 use Rattle.kinds.specs.Tree as T
 use Rattle.kinds.specs.Tree.{Trees, end, node, count}
@@ -24,6 +24,7 @@ use Rattle.kinds.specs.declared.Refusal.the-variants.{TextTooLong, ListTooShort
 use Rattle.parse.specs.Agree.{Lists, lists, Reads, Ready, Frame, FoundBound, Bound, TreeAt, NoTree, EncodedIs}
 use Rattle.parse.specs.Answer.{used, hasRoom, turnedAway, padded, filled}
 use Rattle.parse.specs.Out.{nodePut, cleared, headed, noneSheet, codeSheet, Fits, encodedOut, encodedWords, encodedNames}
+use Rattle.parse.specs.Strictly.{parseInnerBy, encodedBy}
 use Rattle.parse.specs.declared.Encoded.{Encoded}
 use Rattle.parse.specs.declared.Encoded.the-variants as E
 use Rattle.parse.specs.declared.Parsed.{Parsed}
@@ -43,10 +44,12 @@ pub mid-rest : (a : ℕ) (w : List ℕ) → midOf a (length w - a) w ≡ drop a 
 mid-rest a w = take-all (length w - a) (drop a w) (omega (arith, length-drop a w))
 
 pub put-rest : (a : ℕ) (w ys : List ℕ) → putMid a (length w - a) w ys ≡ take a w ++ ys
-put-rest a w ys = ap (λ (t : List ℕ). take a w ++ t) (ap (λ (t : List ℕ). ys ++ t) (unread-end (drop a w) (length w - a) (omega (arith, length-drop a w))) ∙ append-nil ys)
+put-rest a w ys = ap (λ (t : List ℕ). take a w ++ t) (ap (λ (t : List ℕ). ys ++ t) (unread-end (drop a w) (length w - a) (omega (arith, length-drop a w)))
+    ∙ append-nil ys)
 
 -- A run stored in a list that was lent from the first node on.
-pub put-in-rest : (w a : List ℕ) (i : ℕ) (v : List ℕ) → headerWords ≤ length w → a ≡ sets (midOf headerWords (length w - headerWords) w) i v → putMid headerWords (length w - headerWords) w a ≡ sets w (headerWords + i) v
+pub put-in-rest : (w a : List ℕ) (i : ℕ) (v : List ℕ) → headerWords ≤ length w → a ≡ sets (midOf headerWords (length w - headerWords) w) i v
+    → putMid headerWords (length w - headerWords) w a ≡ sets w (headerWords + i) v
 put-in-rest w a i v h e =
     put-rest headerWords w a
     ∙ ap (λ (x : List ℕ). take headerWords w ++ x) (e ∙ ap (λ (x : List ℕ). sets x i v) (mid-rest headerWords w))
@@ -57,7 +60,8 @@ header-front : (w : List ℕ) (k l : ℕ) (v : List ℕ) → sets (sets w header
 header-front w k l v = sets-front-append w 0 headerWords (headerFor k l) v (omega (arith, header-length k l))
 
 -- None's node stored after the header, and the header before it.
-pub none-put : (w a r : List ℕ) → headerWords ≤ length w → a ≡ nodePut (midOf headerWords (length w - headerWords) w) 0 31 0 0 1 → r ≡ headed 1 0 (putMid headerWords (length w - headerWords) w a) → r ≡ noneSheet w
+pub none-put : (w a r : List ℕ) → headerWords ≤ length w → a ≡ nodePut (midOf headerWords (length w - headerWords) w) 0 31 0 0 1 → r
+    ≡ headed 1 0 (putMid headerWords (length w - headerWords) w a) → r ≡ noneSheet w
 none-put w a r h e f =
     let v : List ℕ = 31 ∷ 0 ∷ 0 ∷ 1 ∷ [] in
     f
@@ -103,7 +107,8 @@ stored-padded n w v h l =
 -- A primitive's node and four zeros stored after the header, and the header before them.
 pub code-put : (p : ℕ) (w a b y : List ℕ) → used 1 ≤ length w → a ≡ nodePut (midOf headerWords (length w - headerWords) w) 0 p 0 0 1
     → let x : List ℕ = putMid headerWords (length w - headerWords) w a in length x ≡ length w
-    → b ≡ nodePut (midOf headerWords (length x - headerWords) x) 1 0 0 0 0 → y ≡ headed 1 0 (putMid headerWords (length x - headerWords) x b) → y ≡ codeSheet p w
+    → b ≡ nodePut (midOf headerWords (length x - headerWords) x) 1 0 0 0 0 → y ≡ headed 1 0 (putMid headerWords (length x - headerWords) x b) → y
+    ≡ codeSheet p w
 unfolding padded
 code-put p w a b y h e l f g =
     let x : List ℕ = putMid headerWords (length w - headerWords) w a in
@@ -114,7 +119,8 @@ code-put p w a b y h e l f g =
     let vl : length (hd ++ v) ≡ length hd + length v = length-append hd v in
     let four : 4 ≡ used 1 - length (hd ++ v) = omega arith in
     g
-    ∙ ap (headed 1 0) (put-in-rest x b 4 z (omega arith) f ∙ ap (λ (t : List ℕ). sets t (headerWords + 4) z) (put-in-rest w a 0 v (omega arith) e) ∙ sym (sets-append w headerWords v z))
+    ∙ ap (headed 1 0) (put-in-rest x b 4 z (omega arith) f ∙ ap (λ (t : List ℕ). sets t (headerWords + 4) z) (put-in-rest w a 0 v (omega arith) e)
+    ∙ sym (sets-append w headerWords v z))
     ∙ header-front w 1 0 (v ++ z)
     ∙ ap (sets w 0) (sym (append-assoc hd v z) ∙ ap (λ (k : ℕ). (hd ++ v) ++ zeros k) four)
     ∙ stored-padded (used 1) w (hd ++ v) (omega arith) h
@@ -174,7 +180,8 @@ none-stored n w h l =
     ∙ sym (ap (sets (cleared n w) 0) none-sheet)
     ∙ stored-front n w (sheetOf (node T.none end end)) (omega (arith, sheet-length (node T.none end end), none-count)) l
 
-module _ (text w ns : List ℕ) (at : ℕ) (short : length text ≤ 2000) (hw : used (length text) ≤ length w) (hn : length text ≤ length ns) (hat : at ≤ length text) (st : drop at text ≡ stripLeadingQualifiers text) (a : Lists) where
+module _ (strict : Bool) (text w ns : List ℕ) (at : ℕ) (short : length text ≤ 2000) (hw : used (length text) ≤ length w) (hn : length text ≤ length ns)
+    (hat : at ≤ length text) (st : drop at text ≡ stripLeadingQualifiers text) (a : Lists) where
   abbrev front : List ℕ
   front = cleared (used (length text)) w
 
@@ -191,12 +198,12 @@ module _ (text w ns : List ℕ) (at : ℕ) (short : length text ≤ 2000) (hw : 
   front-length : length front ≡ length w
   front-length = cleared-length (used (length text)) w hw
 
-  is : {q : R.Parsed} → parseInner fuel (drop at text) ≡ q → parseEncodingOrNone text ≡ encodingOrNone q
-  unfolding parseEncodingOrNone parse fuel
-  is e = ap (λ (s : List ℕ). encodingOrNone (parseInner (length s + length s) s)) (sym st) ∙ ap encodingOrNone e
+  is : {q : R.Parsed} → parseInnerBy strict fuel (drop at text) ≡ q → encodedBy strict text ≡ encodingOrNone q
+  unfolding fuel
+  is e = ap (λ (s : List ℕ). encodingOrNone (parseInnerBy strict (length s + length s) s)) (sym st) ∙ ap encodingOrNone e
 
-  refused-is : (why : ErrorKind) (to : ℕ) → parseEncodingOrNone text ≡ notEncoded why (drop to text) → to ≤ length text → Frame text at 0 0 before a
-      → NoTree text (lists w ns) (lists (cleared (used (length text)) joined) (cleared (length text) (a .names))) why to
+  refused-is : (why : ErrorKind) (to : ℕ) → encodedBy strict text ≡ notEncoded why (drop to text) → to ≤ length text → Frame text at 0 0 before a
+      → NoTree strict text (lists w ns) (lists (cleared (used (length text)) joined) (cleared (length text) (a .names))) why to
   refused-is why to e h f =
       let m : ℕ = 4 * (length text + 1) in
       let head : length (take headerWords front) ≡ headerWords = length-take-le headerWords front (omega (arith, front-length)) in
@@ -215,7 +222,7 @@ module _ (text w ns : List ℕ) (at : ℕ) (short : length text ≤ 2000) (hw : 
         names-are = emptied (length text) ns (a .names) (f .names-frame (length text) (omega arith) ∙ drop-cleared (length text) ns);
       }
 
-  tree-is : (to k j : ℕ) → Reads text at 0 0 before a (Encoding to k j) → TreeAt text (lists w ns) (lists (headed k j joined) (a .names)) to
+  tree-is : (to k j : ℕ) → Reads strict text at 0 0 before a (Encoding to k j) → TreeAt strict text (lists w ns) (lists (headed k j joined) (a .names)) to
   unfolding fuel encodingOrNone sheetOf
   tree-is to k j r =
       let f = r .says fuel (omega arith) in
@@ -247,7 +254,7 @@ module _ (text w ns : List ℕ) (at : ℕ) (short : length text ≤ 2000) (hw : 
         names-fit = few;
       }
 
-  empty-is : Reads text at 0 0 before a Empty → TreeAt text (lists w ns) (lists (noneSheet joined) (a .names)) (length text)
+  empty-is : Reads strict text at 0 0 before a Empty → TreeAt strict text (lists w ns) (lists (noneSheet joined) (a .names)) (length text)
   unfolding fuel encodingOrNone
   empty-is r = record {
     away = not-away text w ns short hw hn;
@@ -270,12 +277,15 @@ module _ (text w ns : List ℕ) (at : ℕ) (short : length text ≤ 2000) (hw : 
     names-fit = omega (arith, ap length none-names);
   }
 
-  pub encoded-is : (p : Parsed) → Reads text at 0 0 before a p → EncodedIs text (lists w ns) (lists (encodedWords p (length text) joined) (encodedNames p (length text) (a .names))) (encodedOut p (length text))
+  pub encoded-is : (p : Parsed) → Reads strict text at 0 0 before a p → EncodedIs strict text (lists w ns)
+      (lists (encodedWords p (length text) joined) (encodedNames p (length text) (a .names))) (encodedOut p (length text))
   unfolding fuel encodingOrNone
   encoded-is Empty r = empty-is r
   encoded-is (Encoding to k j) r = tree-is to k j r
-  encoded-is (ContainerEnd kind to) r = refused-is (Unknown (endByte kind)) to (is (r .says fuel (omega arith))) (r .bound .within) (kept-frame text at 0 0 before a (r .bound .kept))
-  encoded-is (ArrayEnd to) r = refused-is (Unknown 93) to (is (r .says fuel (omega arith))) (r .bound .within) (kept-frame text at 0 0 before a (r .bound .kept))
+  encoded-is (ContainerEnd kind to) r = refused-is (Unknown (endByte kind)) to (is (r .says fuel (omega arith))) (r .bound .within)
+      (kept-frame text at 0 0 before a (r .bound .kept))
+  encoded-is (ArrayEnd to) r = refused-is (Unknown 93) to (is (r .says fuel (omega arith))) (r .bound .within)
+      (kept-frame text at 0 0 before a (r .bound .kept))
   encoded-is (Refused why to) r = refused-is why to (is (r .says fuel (omega arith))) (r .bound .0) (r .bound .1)
 
 -- ---- A text of one code.
@@ -301,7 +311,8 @@ unfolding among anySingle
 none-single b [] n e = absurd (false≢true e)
 none-single b (x ∷ xs) n e = go (λ k h. none-single b xs k h) (eqb b x) refl (isSingle (start x)) refl
   where
-    go : (anySingle xs ≡ false → among b xs ≡ true → isSingle (start b) ≡ false) → (d : Bool) → eqb b x ≡ d → (s : Bool) → isSingle (start x) ≡ s → isSingle (start b) ≡ false
+    go : (anySingle xs ≡ false → among b xs ≡ true → isSingle (start b) ≡ false) → (d : Bool) → eqb b x ≡ d → (s : Bool) → isSingle (start x) ≡ s
+        → isSingle (start b) ≡ false
     go more d ed true es = absurd (false≢true (sym n ∙ ap (λ (y : Bool). y || anySingle xs) es))
     go more true ed false es = ap (λ (y : ℕ). isSingle (start y)) (eqb-true b x ed) ∙ es
     go more false ed false es = more (sym (ap (λ (y : Bool). y || anySingle xs) es) ∙ n) (sym (ap (λ (y : Bool). y || among b xs) ed) ∙ e)
@@ -316,9 +327,10 @@ code-stays b p e = go (isQualifier b) refl
     go false q = q
 
 -- The outcome for a text of one code, from the sheet of its primitive.
-pub one-code : (text w ns : List ℕ) (p : ℕ) → length text ≡ 1 → used (length text) ≤ length w → length text ≤ length ns → start (getD text 0 0) ≡ R.single p
-    → (w2 n2 : List ℕ) → w2 ≡ codeSheet p w → n2 ≡ cleared 1 ns → EncodedIs text (lists w ns) (lists w2 n2) (E.Tree 1)
-one-code text w ns p one hw hn st w2 n2 ew en =
+pub one-code : (strict : Bool) (text w ns : List ℕ) (p : ℕ) → length text ≡ 1 → used (length text) ≤ length w → length text ≤ length ns → start (getD text 0 0)
+    ≡ R.single p
+    → (w2 n2 : List ℕ) → w2 ≡ codeSheet p w → n2 ≡ cleared 1 ns → EncodedIs strict text (lists w ns) (lists w2 n2) (E.Tree 1)
+one-code strict text w ns p one hw hn st w2 n2 ew en =
     let h : 0 < length text = omega arith in
     let front : List ℕ = cleared (used (length text)) w in
     let v : List ℕ = p ∷ 0 ∷ 0 ∷ 1 ∷ [] in
@@ -326,15 +338,16 @@ one-code text w ns p one hw hn st w2 n2 ew en =
     let kept : List ℕ = cleared (length text) ns in
     let a : Lists = lists (nodePut (drop headerWords front) 0 p 0 0 1) kept in
     let n0 : List ℕ = drop headerWords front in
-    let reads : Reads text 0 0 0 (lists n0 kept) a (Encoding 1 1 0) = reads-simple text 0 0 0 n0 (nodePut n0 0 p 0 0 1) kept (Encoding 1 1 0) h (simple-code text 0 0 0 n0 h p st) in
+    let reads : Reads strict text 0 0 0 (lists n0 kept) a (Encoding 1 1 0) = reads-simple strict text 0 0 0 n0 (nodePut n0 0 p 0 0 1) kept (Encoding 1 1 0) h
+    (simple-code text 0 0 0 n0 h strict p st) in
     let words : headed 1 0 (take headerWords front ++ a .words) ≡ w2 =
     ap (headed 1 0) (sets-part headerWords front 0 v (omega (arith, cleared-length (used (length text)) w hw)))
     ∙ header-front front 1 0 v
     ∙ ap (λ (k : ℕ). sets (cleared (used k) w) 0 (hd ++ v)) one
     ∙ sym ew in
     let names : kept ≡ n2 = ap (λ (k : ℕ). cleared k ns) one ∙ sym en in
-    subst₂ (λ (x y : List ℕ). EncodedIs text (lists w ns) (lists x y) (E.Tree 1)) words names
-    (encoded-is text w ns 0 (omega arith) hw hn (omega arith) (sym (strip-stop text 0 h (code-stays _ p st))) a (Encoding 1 1 0) reads)
+    subst₂ (λ (x y : List ℕ). EncodedIs strict text (lists w ns) (lists x y) (E.Tree 1)) words names
+    (encoded-is strict text w ns 0 (omega arith) hw hn (omega arith) (sym (strip-stop text 0 h (code-stays _ p st))) a (Encoding 1 1 0) reads)
 
 -- ---- What the calls ask.
 
@@ -353,26 +366,32 @@ fits text at b a x (ArrayEnd to) h l r = tt
 fits text at b a x (Refused why to) h l r = tt
 
 -- The outcome of `parse_encoding_or_none`, from what its callees said of the lists that they were lent.
-pub entered : (text w ns : List ℕ) (at : ℕ) (w1 n1 : List ℕ) (a : Lists) (p : Parsed) (w2 n2 : List ℕ) (r : Encoded)
+pub entered : (strict : Bool) (text w ns : List ℕ) (at : ℕ) (w1 n1 : List ℕ) (a : Lists) (p : Parsed) (w2 n2 : List ℕ) (r : Encoded)
     → length text ≤ 2000 → used (length text) ≤ length w → length text ≤ length ns → at ≤ length text → drop at text ≡ stripLeadingQualifiers text
-    → w1 ≡ cleared (used (length text)) w → n1 ≡ cleared (length text) ns → Reads text at 0 0 (lists (midOf headerWords (length w1 - headerWords) w1) n1) a p
-    → r ≡ encodedOut p (length text) → w2 ≡ encodedWords p (length text) (putMid headerWords (length w1 - headerWords) w1 (a .words)) → n2 ≡ encodedNames p (length text) (a .names)
-    → EncodedIs text (lists w ns) (lists w2 n2) r
-entered text w ns at w1 n1 a p w2 n2 r short hw hn hat st ew en reads er e2 f2 =
+    → w1 ≡ cleared (used (length text)) w → n1 ≡ cleared (length text) ns → Reads strict text at 0 0
+    (lists (midOf headerWords (length w1 - headerWords) w1) n1) a p
+    → r ≡ encodedOut p (length text) → w2 ≡ encodedWords p (length text) (putMid headerWords (length w1 - headerWords) w1 (a .words)) → n2
+    ≡ encodedNames p (length text) (a .names)
+    → EncodedIs strict text (lists w ns) (lists w2 n2) r
+entered strict text w ns at w1 n1 a p w2 n2 r short hw hn hat st ew en reads er e2 f2 =
     let W : List ℕ = cleared (used (length text)) w in
-    let ready : Reads text at 0 0 (lists (drop headerWords W) (cleared (length text) ns)) a p =
-    subst₂ (λ (x y : List ℕ). Reads text at 0 0 (lists x y) a p) (mid-rest headerWords w1 ∙ ap (drop headerWords) ew) en reads in
+    let ready : Reads strict text at 0 0 (lists (drop headerWords W) (cleared (length text) ns)) a p =
+    subst₂ (λ (x y : List ℕ). Reads strict text at 0 0 (lists x y) a p) (mid-rest headerWords w1 ∙ ap (drop headerWords) ew) en reads in
     let joined : w2 ≡ encodedWords p (length text) (take headerWords W ++ a .words) =
     e2 ∙ ap (encodedWords p (length text)) (put-rest headerWords w1 (a .words) ∙ ap (λ (x : List ℕ). take headerWords x ++ a .words) ew) in
-    subst (EncodedIs text (lists w ns) (lists w2 n2)) (sym er)
-    (subst₂ (λ (x y : List ℕ). EncodedIs text (lists w ns) (lists x y) (encodedOut p (length text))) (sym joined) (sym f2)
-    (encoded-is text w ns at short hw hn hat st a p ready))
+    subst (EncodedIs strict text (lists w ns) (lists w2 n2)) (sym er)
+    (subst₂ (λ (x y : List ℕ). EncodedIs strict text (lists w ns) (lists x y) (encodedOut p (length text))) (sym joined) (sym f2)
+    (encoded-is strict text w ns at short hw hn hat st a p ready))
 
 -- What `encoding_or_none` asks.
-pub joined-fits : (text : List ℕ) (at : ℕ) (w w1 ns n1 : List ℕ) (b a : Lists) (p : Parsed) → used (length text) ≤ length w → length text ≤ length ns → at ≤ length text
-    → length w1 ≡ length w → length (a .words) ≡ length (midOf headerWords (length w1 - headerWords) w1) → length n1 ≡ length ns → length (a .names) ≡ length n1 → Bound text at 0 0 b a p
-    → ((used (length text) ≤ length (putMid headerWords (length w1 - headerWords) w1 (a .words))) × (length text ≤ length (a .names))) × Fits p (length (putMid headerWords (length w1 - headerWords) w1 (a .words)))
+pub joined-fits : (text : List ℕ) (at : ℕ) (w w1 ns n1 : List ℕ) (b a : Lists) (p : Parsed) → used (length text) ≤ length w → length text ≤ length ns
+    → at ≤ length text
+    → length w1 ≡ length w → length (a .words) ≡ length (midOf headerWords (length w1 - headerWords) w1) → length n1 ≡ length ns → length (a .names)
+    ≡ length n1 → Bound text at 0 0 b a p
+    → ((used (length text) ≤ length (putMid headerWords (length w1 - headerWords) w1 (a .words))) × (length text ≤ length (a .names))) × Fits p
+    (length (putMid headerWords (length w1 - headerWords) w1 (a .words)))
 joined-fits text at w w1 ns n1 b a p hw hn hat e f g h r =
-    let l : length (putMid headerWords (length w1 - headerWords) w1 (a .words)) ≡ length w1 = same-len-mid headerWords (length w1 - headerWords) w1 (a .words) f in
+    let l : length (putMid headerWords (length w1 - headerWords) w1 (a .words)) ≡ length w1 = same-len-mid headerWords (length w1 - headerWords) w1 (a .words)
+    f in
     let uw : used (length text) ≤ length (putMid headerWords (length w1 - headerWords) w1 (a .words)) = omega arith in
     ((uw, omega arith), fits text at b a (length (putMid headerWords (length w1 - headerWords) w1 (a .words))) p hat uw r)

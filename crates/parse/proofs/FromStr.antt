@@ -2,7 +2,7 @@
 use Prim.Native.Nat.{ℕ, _-_, _≤_, _<_}
 use mathlib.Core.Path.{_≡_, refl, sym, ap, _∙_}
 use mathlib.Core.List.{List, [], _∷_}
-use mathlib.Core.Bool.{true, false}
+use mathlib.Core.Bool.{Bool, true, false}
 use mathlib.Core.Option.{Option, some, none}
 use native.Mathlib.Nat.{sub-self}
 use native.Mathlib.Omega.{arith}
@@ -11,7 +11,7 @@ use borrow.Rule.Slice.PartAt.{slPart}
 use borrow.Rule.Slice.Shared.{byByte}
 use lib.ListN.{length, take, drop, length-drop}
 use Rattle.kinds.specs.Parse as P
-use Rattle.kinds.specs.Parse.{Encoded, encoded, whole, fromStr, fromStart, fromStartOfStr, unknownDigit, parseEncodingOrNone}
+use Rattle.kinds.specs.Parse.{Encoded, encoded, whole, fromStart, fromStartOfStr, unknownDigit}
 use Rattle.kinds.specs.Sheet.{sheetOf, namesOf}
 use Rattle.kinds.specs.Tree as T
 use Rattle.kinds.specs.Tree.{Trees, end, node}
@@ -20,11 +20,13 @@ use Rattle.kinds.specs.declared.ErrorKind.the-variants.{NotAllConsumed}
 use Rattle.kinds.specs.declared.Refusal.{Refusal}
 use Rattle.kinds.specs.declared.Refusal.the-variants.{Parse}
 use Rattle.parse.specs.Agree.{Lists, lists, TreeAt, NoTree}
-use Rattle.parse.specs.Answer.{used, turnedAway, filled, sheetWords, sheetNames, unlessAway, wordsAfter, namesAfter, wholeTree, wholeReading, answerOr, fromStrAnswer, fromStrWords, fromStrNames, answerWords, EndOf}
+use Rattle.parse.specs.Answer.{used, turnedAway, filled, sheetWords, sheetNames, unlessAway, wordsAfter, namesAfter, wholeTree, wholeReading, answerOr, answerWords, EndOf}
 use Rattle.parse.specs.Answer.{startTree, startReading, startRest, fromStartRest, fromStartAnswer, fromStartWords, fromStartNames}
 use Rattle.parse.specs.Out.{cleared, noneSheet}
+use Rattle.parse.specs.Strictly.{encodedBy, wholeBy, wholeAnswer, wholeWords, wholeNames}
 use Rattle.parse.specs.declared.Reading.{Reading}
 use Rattle.parse.specs.declared.Reading.the-variants.{Tree, Refused}
+use Rattle.parse.proofs.StrictlyLaws.{ordinary-encoded, ordinary-whole, strict-whole}
 use Rattle.parse.proofs.Entry.{emptied, beyond, mid-rest, none-stored}
 use Rattle.parse.proofs.Cycle.{none-names}
 use Rattle.kinds.proofs.ListLaws.{unread, unread-end}
@@ -54,58 +56,65 @@ place text to h = omega (arith, length-drop to text)
 
 -- ---- Whole-text reading.
 
-abbrev pub Whole : (text w ns : List ℕ) (r : Reading) (w' ns' : List ℕ) → Type 0
-Whole text w ns r w' ns' = (r ≡ fromStrAnswer text w ns) × ((w' ≡ fromStrWords text w ns) × (ns' ≡ fromStrNames text w ns))
+abbrev pub Whole : (strict : Bool) (text w ns : List ℕ) (r : Reading) (w' ns' : List ℕ) → Type 0
+Whole strict text w ns r w' ns' = (r ≡ wholeAnswer strict text w ns) × ((w' ≡ wholeWords strict text w ns) × (ns' ≡ wholeNames strict text w ns))
 
-pub whole-away : (text w ns w' ns' : List ℕ) (why : Refusal) → turnedAway text w ns ≡ some why → w' ≡ w → ns' ≡ ns → Whole text w ns (Refused why) w' ns'
-unfolding fromStrAnswer fromStrWords fromStrNames answerOr
-whole-away text w ns w' ns' why e x y = (
-  sym (ap (λ (o : Option Refusal). answerOr o (wholeReading (fromStr text))) e),
-  (x ∙ words-kept text w ns why (wholeTree (fromStr text)) e, y ∙ names-kept text w ns why (wholeTree (fromStr text)) e),
+pub whole-away : (strict : Bool) (text w ns w' ns' : List ℕ) (why : Refusal) → turnedAway text w ns ≡ some why → w' ≡ w → ns' ≡ ns
+    → Whole strict text w ns (Refused why) w' ns'
+unfolding answerOr
+whole-away strict text w ns w' ns' why e x y = (
+  sym (ap (λ (o : Option Refusal). answerOr o (wholeReading (wholeBy strict text))) e),
+  (x ∙ words-kept text w ns why (wholeTree (wholeBy strict text)) e, y ∙ names-kept text w ns why (wholeTree (wholeBy strict text)) e),
 )
 
 -- What the definition gives, where refusals 1 and 2 do not turn the text away.
-whole-read : (text w ns w' ns' : List ℕ) (q : P.Whole) → turnedAway text w ns ≡ none → fromStr text ≡ q
-    → w' ≡ filled (used (length text)) (sheetWords (wholeTree q)) w → ns' ≡ filled (length text) (sheetNames (wholeTree q)) ns → Whole text w ns (wholeReading q) w' ns'
-unfolding fromStrAnswer fromStrWords fromStrNames answerOr
-whole-read text w ns w' ns' q e f x y = (
-  sym (ap (λ (o : Option Refusal). answerOr o (wholeReading (fromStr text))) e ∙ ap wholeReading f),
+whole-read : (strict : Bool) (text w ns w' ns' : List ℕ) (q : P.Whole) → turnedAway text w ns ≡ none → wholeBy strict text ≡ q
+    → w' ≡ filled (used (length text)) (sheetWords (wholeTree q)) w → ns' ≡ filled (length text) (sheetNames (wholeTree q)) ns
+    → Whole strict text w ns (wholeReading q) w' ns'
+unfolding answerOr
+whole-read strict text w ns w' ns' q e f x y = (
+  sym (ap (λ (o : Option Refusal). answerOr o (wholeReading (wholeBy strict text))) e ∙ ap wholeReading f),
   (
     x ∙ words-read text w ns (wholeTree q) e ∙ ap (λ (z : P.Whole). wordsAfter text w ns (wholeTree z)) (sym f),
     y ∙ names-read text w ns (wholeTree q) e ∙ ap (λ (z : P.Whole). namesAfter text w ns (wholeTree z)) (sym f),
   ),
 )
 
-from-str-is : (text : List ℕ) (q : Encoded) → parseEncodingOrNone text ≡ q → fromStr text ≡ whole (length text) q
-unfolding fromStr
-from-str-is text q e = ap (whole (length text)) e
+whole-is : (strict : Bool) (text : List ℕ) → whole (length text) (encodedBy strict text) ≡ wholeBy strict text
+whole-is false text = ordinary-whole text
+whole-is true text = strict-whole text
 
-pub whole-refused : (text w ns : List ℕ) (a : Lists) (why : ErrorKind) (to : ℕ) → NoTree text (lists w ns) a why to → Whole text w ns (Refused (Parse why to)) (a .words) (a .names)
+from-str-is : (strict : Bool) (text : List ℕ) (q : Encoded) → encodedBy strict text ≡ q → wholeBy strict text ≡ whole (length text) q
+from-str-is strict text q e = sym (whole-is strict text) ∙ ap (whole (length text)) e
+
+pub whole-refused : (strict : Bool) (text w ns : List ℕ) (a : Lists) (why : ErrorKind) (to : ℕ) → NoTree strict text (lists w ns) a why to
+    → Whole strict text w ns (Refused (Parse why to)) (a .words) (a .names)
 unfolding whole wholeReading wholeTree sheetWords sheetNames
-whole-refused text w ns a why to r =
-    whole-read text w ns (a .words) (a .names) (P.refusal why to) (r .away)
-    (from-str-is text _ (r .is) ∙ ap (P.refusal why) (place text to (r .within)))
+whole-refused strict text w ns a why to r =
+    whole-read strict text w ns (a .words) (a .names) (P.refusal why to) (r .away)
+    (from-str-is strict text _ (r .is) ∙ ap (P.refusal why) (place text to (r .within)))
     (r .words-are) (r .names-are)
 
 -- Bytes remain: the lists are cleared again.
-pub whole-rest : (text w ns : List ℕ) (a : Lists) (to : ℕ) (w' ns' : List ℕ) → TreeAt text (lists w ns) a to → to < length text
-    → w' ≡ cleared (used (length text)) (a .words) → ns' ≡ cleared (length text) (a .names) → Whole text w ns (Refused (Parse NotAllConsumed to)) w' ns'
+pub whole-rest : (strict : Bool) (text w ns : List ℕ) (a : Lists) (to : ℕ) (w' ns' : List ℕ) → TreeAt strict text (lists w ns) a to → to < length text
+    → w' ≡ cleared (used (length text)) (a .words) → ns' ≡ cleared (length text) (a .names) → Whole strict text w ns (Refused (Parse NotAllConsumed to)) w' ns'
 unfolding whole wholeReading wholeTree sheetWords sheetNames
-whole-rest text w ns a to w' ns' r h x y =
+whole-rest strict text w ns a to w' ns' r h x y =
     let t : Trees = node (r .label) (r .children) end in
-    whole-read text w ns w' ns' (P.refusal NotAllConsumed to) (r .away)
-    (from-str-is text _ (r .is)
+    whole-read strict text w ns w' ns' (P.refusal NotAllConsumed to) (r .away)
+    (from-str-is strict text _ (r .is)
     ∙ ap (λ (s : List ℕ). whole (length text) (encoded (r .label) (r .children) s)) (unread text to h)
     ∙ ap (λ (s : List ℕ). P.refusal NotAllConsumed (length text - length s)) (sym (unread text to h))
     ∙ ap (P.refusal NotAllConsumed) (place text to (r .within)))
     (x ∙ emptied (used (length text)) w (a .words) (ap (drop (used (length text))) (r .words-are) ∙ beyond (used (length text)) w (sheetOf t) (r .words-fit)))
     (y ∙ emptied (length text) ns (a .names) (ap (drop (length text)) (r .names-are) ∙ beyond (length text) ns (namesOf t) (r .names-fit)))
 
-pub whole-tree : (text w ns : List ℕ) (a : Lists) (to : ℕ) → TreeAt text (lists w ns) a to → length text ≤ to → Whole text w ns Tree (a .words) (a .names)
+pub whole-tree : (strict : Bool) (text w ns : List ℕ) (a : Lists) (to : ℕ) → TreeAt strict text (lists w ns) a to → length text ≤ to
+    → Whole strict text w ns Tree (a .words) (a .names)
 unfolding whole wholeReading wholeTree sheetWords sheetNames
-whole-tree text w ns a to r h =
-    whole-read text w ns (a .words) (a .names) (P.tree (r .label) (r .children)) (r .away)
-    (from-str-is text _ (r .is) ∙ ap (λ (s : List ℕ). whole (length text) (encoded (r .label) (r .children) s)) (unread-end text to h))
+whole-tree strict text w ns a to r h =
+    whole-read strict text w ns (a .words) (a .names) (P.tree (r .label) (r .children)) (r .away)
+    (from-str-is strict text _ (r .is) ∙ ap (λ (s : List ℕ). whole (length text) (encoded (r .label) (r .children) s)) (unread-end text to h))
     (r .words-are) (r .names-are)
 
 -- ---- Reading from the start.
@@ -130,9 +139,11 @@ end-whole text = record {
 
 abbrev pub Start : (text w ns : List ℕ) (rest answer w' ns' : List ℕ) → Type 0
 Start text w ns rest answer w' ns' =
-    (rest ≡ fromStartRest text w ns) × ((answer ≡ answerWords (fromStartAnswer text w ns)) × ((w' ≡ fromStartWords text w ns) × (ns' ≡ fromStartNames text w ns)))
+    (rest ≡ fromStartRest text w ns) × ((answer ≡ answerWords (fromStartAnswer text w ns)) ×
+    ((w' ≡ fromStartWords text w ns) × (ns' ≡ fromStartNames text w ns)))
 
-pub start-away : (text w ns answer w' ns' : List ℕ) (why : Refusal) → turnedAway text w ns ≡ some why → w' ≡ w → ns' ≡ ns → answer ≡ answerWords (Refused why) → Start text w ns text answer w' ns'
+pub start-away : (text w ns answer w' ns' : List ℕ) (why : Refusal) → turnedAway text w ns ≡ some why → w' ≡ w → ns' ≡ ns → answer ≡ answerWords (Refused why)
+    → Start text w ns text answer w' ns'
 unfolding fromStartRest fromStartAnswer fromStartWords fromStartNames answerOr unlessAway
 start-away text w ns answer w' ns' why e x y z = (
   sym (ap (λ (o : Option Refusal). unlessAway o text (startRest text (fromStartOfStr text))) e),
@@ -143,13 +154,16 @@ start-away text w ns answer w' ns' why e x y z = (
 )
 
 -- What the definition gives, where refusals 1 and 2 do not turn the text away.
-start-read : (text w ns answer w' ns' : List ℕ) (q : P.FromStart) → turnedAway text w ns ≡ none → fromStartOfStr text ≡ q → answer ≡ answerWords (startReading q)
-    → w' ≡ filled (used (length text)) (sheetWords (startTree q)) w → ns' ≡ filled (length text) (sheetNames (startTree q)) ns → Start text w ns (startRest text q) answer w' ns'
+start-read : (text w ns answer w' ns' : List ℕ) (q : P.FromStart) → turnedAway text w ns ≡ none → fromStartOfStr text ≡ q → answer
+    ≡ answerWords (startReading q)
+    → w' ≡ filled (used (length text)) (sheetWords (startTree q)) w → ns' ≡ filled (length text) (sheetNames (startTree q)) ns
+    → Start text w ns (startRest text q) answer w' ns'
 unfolding fromStartRest fromStartAnswer fromStartWords fromStartNames answerOr unlessAway
 start-read text w ns answer w' ns' q e f z x y = (
   sym (ap (λ (o : Option Refusal). unlessAway o text (startRest text (fromStartOfStr text))) e ∙ ap (startRest text) f),
   (
-    z ∙ sym (ap (λ (o : Option Refusal). answerWords (answerOr o (startReading (fromStartOfStr text)))) e ∙ ap (λ (v : P.FromStart). answerWords (startReading v)) f),
+    z ∙ sym (ap (λ (o : Option Refusal). answerWords (answerOr o (startReading (fromStartOfStr text)))) e
+        ∙ ap (λ (v : P.FromStart). answerWords (startReading v)) f),
     (
       x ∙ words-read text w ns (startTree q) e ∙ ap (λ (v : P.FromStart). wordsAfter text w ns (startTree v)) (sym f),
       y ∙ names-read text w ns (startTree q) e ∙ ap (λ (v : P.FromStart). namesAfter text w ns (startTree v)) (sym f),
@@ -157,22 +171,26 @@ start-read text w ns answer w' ns' q e f z x y = (
   ),
 )
 
-from-start-is : (text : List ℕ) (q : Encoded) → parseEncodingOrNone text ≡ q → fromStartOfStr text ≡ fromStart (length text) q
+from-start-is : (text : List ℕ) (q : Encoded) → encodedBy false text ≡ q → fromStartOfStr text ≡ fromStart (length text) q
 unfolding fromStartOfStr
-from-start-is text q e = ap (fromStart (length text)) e
+from-start-is text q e = ap (fromStart (length text)) (sym (ordinary-encoded text) ∙ e)
 
 -- The rest after a tree, as the part that is handed back.
-rest-is : (text w ns answer w' ns' : List ℕ) (to : ℕ) → Start text w ns (drop to text) answer w' ns' → Start text w ns (take (length text - to) (drop to text)) answer w' ns'
+rest-is : (text w ns answer w' ns' : List ℕ) (to : ℕ) → Start text w ns (drop to text) answer w' ns'
+    → Start text w ns (take (length text - to) (drop to text)) answer w' ns'
 rest-is text w ns answer w' ns' to s = (mid-rest to text ∙ s .0, s .1)
 
-pub start-tree : (text w ns : List ℕ) (a : Lists) (to : ℕ) → TreeAt text (lists w ns) a to → Start text w ns (take (length text - to) (drop to text)) (0 ∷ 0 ∷ 0 ∷ 0 ∷ []) (a .words) (a .names)
+pub start-tree : (text w ns : List ℕ) (a : Lists) (to : ℕ) → TreeAt false text (lists w ns) a to
+    → Start text w ns (take (length text - to) (drop to text)) (0 ∷ 0 ∷ 0 ∷ 0 ∷ []) (a .words) (a .names)
 unfolding fromStart startReading startTree startRest sheetWords sheetNames
 start-tree text w ns a to r =
     rest-is text w ns _ _ _ to
-    (start-read text w ns _ (a .words) (a .names) (P.treeThen (r .label) (r .children) (drop to text)) (r .away) (from-start-is text _ (r .is)) refl (r .words-are) (r .names-are))
+    (start-read text w ns _ (a .words) (a .names) (P.treeThen (r .label) (r .children) (drop to text)) (r .away) (from-start-is text _ (r .is)) refl
+    (r .words-are) (r .names-are))
 
 -- A digit where a type should begin.
-pub start-digit : (text w ns : List ℕ) (a : Lists) (why : ErrorKind) (to : ℕ) (w' : List ℕ) → NoTree text (lists w ns) a why to → unknownDigit why ≡ true → w' ≡ noneSheet (a .words)
+pub start-digit : (text w ns : List ℕ) (a : Lists) (why : ErrorKind) (to : ℕ) (w' : List ℕ) → NoTree false text (lists w ns) a why to → unknownDigit why ≡ true
+    → w' ≡ noneSheet (a .words)
     → Start text w ns (take (length text - to) (drop to text)) (0 ∷ 0 ∷ 0 ∷ 0 ∷ []) w' (a .names)
 unfolding fromStart startReading startTree startRest sheetWords sheetNames
 start-digit text w ns a why to w' r d x =
@@ -181,11 +199,13 @@ start-digit text w ns a why to w' r d x =
     (x ∙ ap noneSheet (r .words-are) ∙ none-stored (used (length text)) w (omega arith) (r .words-room))
     (r .names-are ∙ sym (ap (λ (v : List ℕ). filled (length text) v ns) none-names)))
 
-pub start-refused : (text w ns answer : List ℕ) (a : Lists) (why : ErrorKind) (to : ℕ) → NoTree text (lists w ns) a why to → unknownDigit why ≡ false → answer ≡ answerWords (Refused (Parse why to))
+pub start-refused : (text w ns answer : List ℕ) (a : Lists) (why : ErrorKind) (to : ℕ) → NoTree false text (lists w ns) a why to → unknownDigit why ≡ false
+    → answer ≡ answerWords (Refused (Parse why to))
     → Start text w ns text answer (a .words) (a .names)
 unfolding fromStart startReading startTree startRest sheetWords sheetNames
 start-refused text w ns answer a why to r d z =
-    start-read text w ns answer (a .words) (a .names) (P.refusal why to) (r .away) (from-start-is text _ (r .is) ∙ (rw (d, fromStart) refl) ∙ ap (P.refusal why) (place text to (r .within))) z
+    start-read text w ns answer (a .words) (a .names) (P.refusal why to) (r .away)
+        (from-start-is text _ (r .is) ∙ (rw (d, fromStart) refl) ∙ ap (P.refusal why) (place text to (r .within))) z
     (r .words-are) (r .names-are)
 
 -- A refusal leaves the rest equal to the text.

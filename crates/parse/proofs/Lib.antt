@@ -2,6 +2,8 @@
 pub mod Names
 pub mod Stores
 pub mod Text
+pub mod StrictlyLaws
+pub mod Judge
 pub mod Sheets
 pub mod Cycle
 pub mod Runs

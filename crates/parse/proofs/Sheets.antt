@@ -1,6 +1,6 @@
 -- What reading a byte without parts gives, against the definitions.
 use Prim.Native.Nat.{ℕ, suc, _+_, _*_, _-_, _≤_, _<_}
-use mathlib.Core.Path.{_≡_, refl, sym, ap, _∙_}
+use mathlib.Core.Path.{_≡_, refl, sym, ap, _∙_, subst}
 use mathlib.Core.List.{List, [], _∷_}
 use mathlib.Core.Bool.{Bool, true, false}
 use native.Mathlib.Nat.{add-zero}
@@ -8,21 +8,23 @@ use native.Mathlib.Decide.{decLt}
 use native.Mathlib.Omega.{arith}
 use lib.ListN.{length, drop, getD, length-drop}
 use Rattle.kinds.specs.Parse as R
-use Rattle.kinds.specs.Parse.{start, begin, encoding, leaf}
+use Rattle.kinds.specs.Parse.{start, begin, encoding, refused, leaf}
 use Rattle.kinds.specs.Sheet.{nodes, namesOf, first, second}
 use Rattle.kinds.specs.Tree.{Label, Trees, end, node, count, primitive, bitField, typedBitField, kind, name}
 use Rattle.codes.specs.declared.Token.{Token}
 use Rattle.codes.specs.declared.Token.the-variants as T
 use Rattle.codes.proofs.StepLaws.{begins}
 use Rattle.codes.proofs.TokenLaws.{TokenIs}
-use Rattle.parse.specs.Agree.{Simple, FoundBound}
+use Rattle.parse.specs.Agree.{lists, ParsedIs, Simple, FoundBound}
 use Rattle.parse.specs.Out.{tokenOut, tokenWords, TokenRoom, nodePut}
 use Rattle.parse.specs.Room.{slack, closes}
 use Rattle.kinds.specs.declared.ContainerKind.{ContainerKind}
-use Rattle.kinds.specs.declared.ErrorKind.the-variants.{UnexpectedEnd}
+use Rattle.kinds.specs.declared.ErrorKind.the-variants.{UnexpectedEnd, SurplusZero}
 use Rattle.parse.specs.declared.Parsed.{Parsed}
-use Rattle.parse.specs.declared.Parsed.the-variants.{Encoding}
+use Rattle.parse.specs.declared.Parsed.the-variants.{Encoding, Refused}
 use Rattle.kinds.proofs.ListLaws.{unread, unread-end}
+use Rattle.parse.specs.Strictly.{judged}
+use Rattle.parse.proofs.Judge.{Clean, clean-single}
 use Rattle.parse.proofs.Stores.{sets-front-append}
 
 -- ---- Room.
@@ -58,7 +60,8 @@ slack-le text at = elim (decLt at (length text)) [
 -- ---- A byte without parts.
 
 -- What gives a tree begins with no closer.
-opens-tree : (b : ℕ) (S : R.Start) (s : List ℕ) {l : Label} {cs : Trees} {t : List ℕ} → begin b S s (λ t. R.empty) (λ k t. R.itemsRefused UnexpectedEnd t) ≡ encoding l cs t → closes S ≡ false
+opens-tree : (b : ℕ) (S : R.Start) (s : List ℕ) {l : Label} {cs : Trees} {t : List ℕ} → begin b S s (λ t. R.empty) (λ k t. R.itemsRefused UnexpectedEnd t)
+    ≡ encoding l cs t → closes S ≡ false
 unfolding closes begin
 opens-tree b (R.single p) s e = refl
 opens-tree b R.complex s e = refl
@@ -73,25 +76,30 @@ opens-tree b R.nothing s e = refl
 
 module _ (text : List ℕ) (at n m : ℕ) (w : List ℕ) (h : at < length text) where
   open-slack : {l : Label} {cs : Trees} {t : List ℕ}
-      → ((inner : List ℕ → R.Parsed) (fields : ContainerKind → List ℕ → R.Items) → begin (getD text at 0) (start (getD text at 0)) (drop (at + 1) text) inner fields ≡ encoding l cs t)
+      → ((inner : List ℕ → R.Parsed) (fields : ContainerKind → List ℕ → R.Items) → begin (getD text at 0) (start (getD text at 0)) (drop (at + 1) text) inner
+      fields ≡ encoding l cs t)
       → slack (drop at text) ≡ length text - at + 1
-  open-slack e = slack-open text at h (opens-tree (getD text at 0) (start (getD text at 0)) (drop (at + 1) text) (e (λ t. R.empty) (λ k t. R.itemsRefused UnexpectedEnd t)))
+  open-slack e = slack-open text at h (opens-tree (getD text at 0) (start (getD text at 0)) (drop (at + 1) text)
+      (e (λ t. R.empty) (λ k t. R.itemsRefused UnexpectedEnd t)))
 
   -- One node or two that were written, and no name.
   found-bound : (to k : ℕ) → at < to → to ≤ length text → n < k → k + at ≤ n + to → slack (drop at text) ≡ length text - at + 1 → FoundBound text at n m to k m
-  found-bound to k l i o r e = record { onward = l; within = i; more = o; room = omega (arith, slack-le text to); names-on = omega arith; names-room = omega arith }
+  found-bound to k l i o r e = record { onward = l; within = i; more = o; room = omega (arith, slack-le text to); names-on = omega arith; names-room =
+      omega arith }
 
-  pub simple-token : (t : Token) → TokenIs text at t → Simple text at n m w (tokenWords t n w) (tokenOut t n m)
-  unfolding nodes count namesOf kind first name second closes
-  simple-token (T.Primitive p to) i = record {
+  plain-token : (t : Token) → TokenIs text at t → Simple false text at n m w (tokenWords t n w) (tokenOut t n m)
+  unfolding nodes count namesOf kind first name second closes judged
+  plain-token (T.Primitive p to) i = record {
     bound = λ ns. found-bound to (n + 1) (i .bound .0) (i .bound .1) (omega arith) (omega (arith, i .bound .0)) (open-slack (i .says));
-    says = λ ns inner fields. record { label = primitive p; children = end; is = i .says inner fields; count-is = refl; names-is = sym (add-zero m); words-are = refl; names-are = refl };
+    says = λ ns inner fields. record { label = primitive p; children = end; is = i .says inner fields; count-is = refl; names-is = sym (add-zero m);
+        words-are = refl; names-are = refl };
   }
-  simple-token (T.BitField size to) i = record {
+  plain-token (T.BitField size to d) i = record {
     bound = λ ns. found-bound to (n + 1) (i .bound .0) (i .bound .1) (omega arith) (omega (arith, i .bound .0)) (open-slack (i .says));
-    says = λ ns inner fields. record { label = bitField size; children = end; is = i .says inner fields; count-is = refl; names-is = sym (add-zero m); words-are = refl; names-are = refl };
+    says = λ ns inner fields. record { label = bitField size; children = end; is = i .says inner fields; count-is = refl; names-is = sym (add-zero m);
+        words-are = refl; names-are = refl };
   }
-  simple-token (T.TypedBitField offset p size to) i = record {
+  plain-token (T.TypedBitField offset p size to d) i = record {
     bound = λ ns. found-bound to (n + 2) (omega (arith, i .bound .0)) (i .bound .1) (omega arith) (omega (arith, i .bound .0)) (open-slack (i .says));
     says = λ ns inner fields. record {
       label = typedBitField offset size;
@@ -103,35 +111,59 @@ module _ (text : List ℕ) (at n m : ℕ) (w : List ℕ) (h : at < length text) 
       names-are = refl;
     };
   }
-  simple-token (T.ArrayEnd to) i = record {
-    bound = λ ns. record { next = i .bound .0; within = omega (arith, i .bound .0); closer = slack-closed text at h (ap closes (i .bound .1)); kept = record { words-kept = refl; names-kept = refl } };
+  plain-token (T.ArrayEnd to) i = record {
+    bound = λ ns. record { next = i .bound .0; within = omega (arith, i .bound .0); closer = slack-closed text at h (ap closes (i .bound .1)); kept =
+        record { words-kept = refl; names-kept = refl } };
     says = λ ns inner fields. i .says inner fields;
   }
-  simple-token (T.ContainerEnd k to) i = record {
-    bound = λ ns. record { next = i .bound .0; within = omega (arith, i .bound .0); closer = slack-closed text at h (ap closes (i .bound .1)); kept = record { words-kept = refl; names-kept = refl } };
+  plain-token (T.ContainerEnd k to) i = record {
+    bound = λ ns. record { next = i .bound .0; within = omega (arith, i .bound .0); closer = slack-closed text at h (ap closes (i .bound .1)); kept =
+        record { words-kept = refl; names-kept = refl } };
     says = λ ns inner fields. i .says inner fields;
   }
-  simple-token (T.Refused why to) i = record {
+  plain-token (T.Refused why to d) i = record {
     bound = λ ns. (i .bound, record { words-frame = λ e _. refl; names-frame = λ e _. refl });
     says = λ ns inner fields. i .says inner fields;
   }
-  simple-token T.Parts i = absurd (i .bound)
-  simple-token T.End i = absurd (i .bound)
+  plain-token T.Parts i = absurd (i .bound)
+  plain-token T.End i = absurd (i .bound)
+
+  -- The same where no number of it is judged.
+  pub simple-token : (strict : Bool) → Clean strict text at → (t : Token) → TokenIs text at t → Simple strict text at n m w (tokenWords t n w) (tokenOut t n m)
+  unfolding judged
+  simple-token strict clean t i =
+      let p = plain-token t i in
+      record {
+        bound = p .bound;
+        says = λ ns inner fields. subst (ParsedIs text n m (lists w ns) (lists (tokenWords t n w) ns) (tokenOut t n m)) (sym (clean _))
+            (p .says ns inner fields);
+      }
+
+  -- A bitfield with a surplus zero, where reading is strict.
+  pub simple-surplus : (strict : Bool) (p : ℕ) → p ≤ length text
+      → ((q : R.Parsed) → judged strict (start (getD text at 0)) (drop (at + 1) text) q ≡ refused SurplusZero (drop p text))
+      → Simple strict text at n m w w (Refused SurplusZero p)
+  simple-surplus strict p l e = record {
+    bound = λ ns. (l, record { words-frame = λ e _. refl; names-frame = λ e _. refl });
+    says = λ ns inner fields. e _;
+  }
 
   -- Room for the nodes of a token.
   pub token-room : (t : Token) → TokenIs text at t → 4 * (n + slack (drop at text)) ≤ length w → TokenRoom t n (length w)
   token-room (T.Primitive p to) i r = omega (arith, open-slack (i .says))
-  token-room (T.BitField size to) i r = omega (arith, open-slack (i .says))
-  token-room (T.TypedBitField offset p size to) i r = omega (arith, open-slack (i .says))
+  token-room (T.BitField size to d) i r = omega (arith, open-slack (i .says))
+  token-room (T.TypedBitField offset p size to d) i r = omega (arith, open-slack (i .says))
   token-room (T.ArrayEnd to) i r = tt
   token-room (T.ContainerEnd k to) i r = tt
-  token-room (T.Refused why to) i r = tt
+  token-room (T.Refused why to d) i r = tt
   token-room T.Parts i r = tt
   token-room T.End i r = tt
 
-  pub simple-code : (p : ℕ) → start (getD text at 0) ≡ R.single p → Simple text at n m w (nodePut w n p 0 0 1) (Encoding (at + 1) (n + 1) m)
+  pub simple-code : (strict : Bool) (p : ℕ) → start (getD text at 0) ≡ R.single p
+      → Simple strict text at n m w (nodePut w n p 0 0 1) (Encoding (at + 1) (n + 1) m)
   unfolding begin leaf
-  simple-code p e = simple-token (T.Primitive p (at + 1)) (record { bound = omega arith; says = λ inner fields. begins text at e inner fields })
+  simple-code strict p e = simple-token strict (clean-single strict text at e) (T.Primitive p (at + 1))
+      (record { bound = omega arith; says = λ inner fields. begins text at e inner fields })
 
 pub slack-some : (text : List ℕ) (at : ℕ) → at < length text → 1 ≤ slack (drop at text)
 slack-some text at h = go (closes (start (getD text at 0))) refl

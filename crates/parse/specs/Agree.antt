@@ -4,16 +4,17 @@ use mathlib.Core.Path.{_≡_}
 use mathlib.Core.List.{List, []}
 use lib.ListN.{length, drop, getD}
 use lib.Seq.{sets}
-use mathlib.Core.Bool.{false}
+use mathlib.Core.Bool.{Bool, false}
 use mathlib.Core.Option.{some, none}
 use Rattle.kinds.specs.Parse as R
-use Rattle.kinds.specs.Parse.{empty, encoding, containerEnd, arrayEnd, refused, items, itemsRefused, parseInner, parseItems, start}
+use Rattle.kinds.specs.Parse.{empty, encoding, containerEnd, arrayEnd, refused, items, itemsRefused, start}
 use Rattle.kinds.specs.Sheet.{nodes, namesOf, sheetOf}
 use Rattle.kinds.specs.Tree.{Label, Trees, end, node, count}
 use Rattle.parser.specs.Run.{runEnd}
 use Rattle.codes.specs.Answer.{isIndirection, hasParts}
 use Rattle.parse.specs.Out.{After}
 use Rattle.parse.specs.Room.{slack}
+use Rattle.parse.specs.Strictly.{judged, parseInnerBy, parseItemsBy, encodedBy}
 use Rattle.kinds.specs.declared.ContainerKind.{ContainerKind}
 use Rattle.parse.specs.declared.Items.{Items}
 use Rattle.parse.specs.declared.Items.the-variants.{Read, Refused as NoItems}
@@ -87,9 +88,9 @@ pub record Ready (text : List ℕ) (at n m : ℕ) (before : Lists) : Type 0 wher
   pub names-room : m + (length text - at) ≤ length (before .names)
 
 -- The outcome of reading at a place, whatever the fuel.
-pub record Reads (text : List ℕ) (at n m : ℕ) (before after : Lists) (r : Parsed) : Type 0 where
+pub record Reads (strict : Bool) (text : List ℕ) (at n m : ℕ) (before after : Lists) (r : Parsed) : Type 0 where
   pub bound : Bound text at n m before after r
-  pub says : (f : ℕ) → length (drop at text) + length (drop at text) ≤ f → ParsedIs text n m before after r (parseInner f (drop at text))
+  pub says : (f : ℕ) → length (drop at text) + length (drop at text) ≤ f → ParsedIs text n m before after r (parseInnerBy strict f (drop at text))
 
 pub record NameFound (text : List ℕ) (at m : ℕ) (before after : List ℕ) (to l : ℕ) (q : R.Named) : Type 0 where
   pub name : List ℕ
@@ -108,10 +109,10 @@ abbrev pub lists : List ℕ → List ℕ → Lists
 lists w ns = record { words = w; names = ns }
 
 -- The outcome of reading a byte that begins nothing with parts, whatever reads parts.
-pub record Simple (text : List ℕ) (at n m : ℕ) (w w' : List ℕ) (r : Parsed) : Type 0 where
+pub record Simple (strict : Bool) (text : List ℕ) (at n m : ℕ) (w w' : List ℕ) (r : Parsed) : Type 0 where
   pub bound : (ns : List ℕ) → Bound text at n m (lists w ns) (lists w' ns) r
   pub says : (ns : List ℕ) (inner : List ℕ → R.Parsed) (fields : ContainerKind → List ℕ → R.Items)
-      → ParsedIs text n m (lists w ns) (lists w' ns) r (R.begin (getD text at 0) (R.start (getD text at 0)) (drop (at + 1) text) inner fields)
+      → ParsedIs text n m (lists w ns) (lists w' ns) r (judged strict (start (getD text at 0)) (drop (at + 1) text) (R.begin (getD text at 0) (start (getD text at 0)) (drop (at + 1) text) inner fields))
 
 pub record SimpleReady (text : List ℕ) (at n : ℕ) (w : List ℕ) : Type 0 where
   pub at-place : at < length text
@@ -134,7 +135,8 @@ pub record ChildReady (text : List ℕ) (at to n : ℕ) (w : List ℕ) (child : 
 
 -- If reading at `to` gives the child, then reading the run from `at` on gives `r`.
 abbrev pub Holds : List ℕ → ℕ → ℕ → ℕ → ℕ → List ℕ → List ℕ → Parsed → Parsed → Type 0
-Holds text at to n m w w' child r = (b : Lists) (ns : List ℕ) → Reads text to (n + (to - at)) m b (lists w ns) child → Reads text at n m b (lists w' ns) r
+Holds text at to n m w w' child r =
+    (strict : Bool) (b : Lists) (ns : List ℕ) → Reads strict text to (n + (to - at)) m b (lists w ns) child → Reads strict text at n m b (lists w' ns) r
 
 -- ---- The fields of a container.
 
@@ -162,16 +164,17 @@ abbrev pub ItemsWithin : List ℕ → ℕ → ℕ → ℕ → Lists → Lists �
 ItemsWithin text at n m b a (Read to k l) = ItemsBound text at n m to k l
 ItemsWithin text at n m b a (NoItems why to) = (to ≤ length text) × Frame text at n m b a
 
-pub record ItemsReads (text : List ℕ) (at : ℕ) (kind : ContainerKind) (n m : ℕ) (before after : Lists) (r : Items) : Type 0 where
+pub record ItemsReads (strict : Bool) (text : List ℕ) (at : ℕ) (kind : ContainerKind) (n m : ℕ) (before after : Lists) (r : Items) : Type 0 where
   pub bound : ItemsWithin text at n m before after r
-  pub says : (f : ℕ) → length (drop at text) + length (drop at text) < f → ItemsIs text n m before after r (parseItems f kind (drop at text))
+  pub says : (f : ℕ) → length (drop at text) + length (drop at text) < f → ItemsIs text n m before after r (parseItemsBy strict f kind (drop at text))
 
 -- Codes stand from `at` on up to `to`, and `w'` has their nodes: whatever the fields from `to` on give, those from `at` on give.
 pub record CodesRead (text : List ℕ) (at n : ℕ) (w w' : List ℕ) (to : ℕ) : Type 0 where
   pub onward : at ≤ to
   pub within : to ≤ length text
   pub room : to - at + slack (drop to text) ≤ slack (drop at text)
-  pub reads : (kind : ContainerKind) (m : ℕ) (ns : List ℕ) (z : Lists) (i : Items) → ItemsReads text to kind (n + (to - at)) m (lists w' ns) z i → ItemsReads text at kind n m (lists w ns) z i
+  pub reads : (strict : Bool) (kind : ContainerKind) (m : ℕ) (ns : List ℕ) (z : Lists) (i : Items)
+      → ItemsReads strict text to kind (n + (to - at)) m (lists w' ns) z i → ItemsReads strict text at kind n m (lists w ns) z i
 
 -- A container is to be read: its opening byte is at the place.
 pub record ContainerReady (text : List ℕ) (at : ℕ) (kind : ContainerKind) (n m : ℕ) (before : Lists) : Type 0 where
@@ -182,11 +185,11 @@ pub record ContainerReady (text : List ℕ) (at : ℕ) (kind : ContainerKind) (n
 -- ---- The whole text.
 
 -- A tree at the start of the text, its sheet written and zeros up to what reading uses.
-pub record TreeAt (text : List ℕ) (before after : Lists) (to : ℕ) : Type 0 where
+pub record TreeAt (strict : Bool) (text : List ℕ) (before after : Lists) (to : ℕ) : Type 0 where
   pub away : turnedAway text (before .words) (before .names) ≡ none
   pub label : Label
   pub children : Trees
-  pub is : R.parseEncodingOrNone text ≡ R.encoded label children (drop to text)
+  pub is : encodedBy strict text ≡ R.encoded label children (drop to text)
   pub words-room : used (length text) ≤ length (before .words)
   pub names-room : length text ≤ length (before .names)
   pub within : to ≤ length text
@@ -196,16 +199,16 @@ pub record TreeAt (text : List ℕ) (before after : Lists) (to : ℕ) : Type 0 w
   pub names-fit : length (namesOf (node label children end)) ≤ length text
 
 -- No tree, and zeros in what reading uses.
-pub record NoTree (text : List ℕ) (before after : Lists) (why : ErrorKind) (to : ℕ) : Type 0 where
+pub record NoTree (strict : Bool) (text : List ℕ) (before after : Lists) (why : ErrorKind) (to : ℕ) : Type 0 where
   pub away : turnedAway text (before .words) (before .names) ≡ none
-  pub is : R.parseEncodingOrNone text ≡ R.notEncoded why (drop to text)
+  pub is : encodedBy strict text ≡ R.notEncoded why (drop to text)
   pub words-room : used (length text) ≤ length (before .words)
   pub names-room : length text ≤ length (before .names)
   pub within : to ≤ length text
   pub words-are : after .words ≡ filled (used (length text)) [] (before .words)
   pub names-are : after .names ≡ filled (length text) [] (before .names)
 
-abbrev pub EncodedIs : List ℕ → Lists → Lists → Encoded → Type 0
-EncodedIs text b a (E.Tree to) = TreeAt text b a to
-EncodedIs text b a (E.Away why) = (turnedAway text (b .words) (b .names) ≡ some why) × Kept b a
-EncodedIs text b a (E.Refused why to) = NoTree text b a why to
+abbrev pub EncodedIs : Bool → List ℕ → Lists → Lists → Encoded → Type 0
+EncodedIs strict text b a (E.Tree to) = TreeAt strict text b a to
+EncodedIs strict text b a (E.Away why) = (turnedAway text (b .words) (b .names) ≡ some why) × Kept b a
+EncodedIs strict text b a (E.Refused why to) = NoTree strict text b a why to

@@ -1,4 +1,4 @@
--- The two readings (encoding_box.rs): what they answer, and what the lent lists hold after (01, "The sheet" and "Why an input is turned away").
+-- The readings (encoding_box.rs; strict reading, 02, N3): what they answer, and what the lent lists hold after (01, "The sheet" and "Why an input is turned away").
 use Prim.Native.Nat.{ℕ, _+_, _-_}
 use mathlib.Core.Path.{_≡_}
 use mathlib.Core.Bool.{Bool, cond, _&&_}
@@ -8,6 +8,7 @@ use denote.Ref.{RefT, ptr, now}
 use lib.Dec.{leb, ltb}
 use lib.ListN.{length, drop, replicate}
 use Rattle.kinds.specs.Parse.{Whole, tree, refusal, FromStart, treeThen, fromStr, fromStartOfStr}
+use Rattle.kinds.specs.Strict.{fromStrStrict}
 use Rattle.kinds.specs.Refusal as R
 use Rattle.kinds.specs.Sheet.{wordsUsed, maxText, sheetOf, namesOf}
 use Rattle.kinds.specs.Tree.{Trees, end, node}
@@ -86,6 +87,20 @@ fromStrWords text words names = wordsAfter text words names (wholeTree (fromStr 
 -- The name bytes after `from_str`.
 unfoldable pub fromStrNames : List ℕ → List ℕ → List ℕ → List ℕ
 fromStrNames text words names = namesAfter text words names (wholeTree (fromStr text))
+
+-- ---- Strict whole-text reading (02, N3).
+
+-- The answer of `from_str_strict`.
+unfoldable pub fromStrStrictAnswer : List ℕ → List ℕ → List ℕ → Reading
+fromStrStrictAnswer text words names = answerOr (turnedAway text words names) (wholeReading (fromStrStrict text))
+
+-- The words after `from_str_strict`.
+unfoldable pub fromStrStrictWords : List ℕ → List ℕ → List ℕ → List ℕ
+fromStrStrictWords text words names = wordsAfter text words names (wholeTree (fromStrStrict text))
+
+-- The name bytes after `from_str_strict`.
+unfoldable pub fromStrStrictNames : List ℕ → List ℕ → List ℕ → List ℕ
+fromStrStrictNames text words names = namesAfter text words names (wholeTree (fromStrStrict text))
 
 -- ---- Reading from the start.
 

@@ -1,12 +1,14 @@
 -- What the private functions that end a reading step answer and write, as functions of what was read.
 use Prim.Native.Nat.{ℕ, _+_, _*_, _-_, _≤_}
-use mathlib.Core.Bool.{Bool, true, false, cond}
+use mathlib.Core.Bool.{Bool, true, false, cond, _||_}
 use mathlib.Core.List.{List, [], _∷_, _++_}
 use lib.ListN.{drop, replicate}
 use lib.Dec.{eqb}
 use lib.Seq.{sets}
+use Rattle.kinds.specs.Byte.{byte}
 use Rattle.kinds.specs.Container.{endByte, sameContainer}
 use Rattle.kinds.specs.declared.ContainerKind.{ContainerKind}
+use Rattle.kinds.specs.declared.ContainerKind.the-variants.{Struct, Union}
 use Rattle.kinds.specs.declared.ErrorKind.the-variants.{Unknown, WrongEndArray, WrongEndContainer}
 use Rattle.kinds.specs.Sheet.{wordsUsed, headerFor}
 use Rattle.codes.specs.Answer.{closed}
@@ -26,32 +28,32 @@ nodePut w n kind first second count = sets w (4 * n) (kind ∷ first ∷ second 
 
 abbrev pub tokenOut : Token → ℕ → ℕ → Parsed
 tokenOut (T.Primitive p to) n m = Encoding to (n + 1) m
-tokenOut (T.BitField size to) n m = Encoding to (n + 1) m
-tokenOut (T.TypedBitField offset p size to) n m = Encoding to (n + 2) m
+tokenOut (T.BitField size to d) n m = Encoding to (n + 1) m
+tokenOut (T.TypedBitField offset p size to d) n m = Encoding to (n + 2) m
 tokenOut (T.ArrayEnd to) n m = ArrayEnd to
 tokenOut (T.ContainerEnd kind to) n m = ContainerEnd kind to
-tokenOut (T.Refused why to) n m = Refused why to
+tokenOut (T.Refused why to d) n m = Refused why to
 tokenOut T.Parts n m = Empty
 tokenOut T.End n m = Empty
 
 abbrev pub tokenWords : Token → ℕ → List ℕ → List ℕ
 tokenWords (T.Primitive p to) n w = nodePut w n p 0 0 1
-tokenWords (T.BitField size to) n w = nodePut w n 24 0 size 1
-tokenWords (T.TypedBitField offset p size to) n w = nodePut (nodePut w (n + 1) p 0 0 1) n 25 offset size 2
+tokenWords (T.BitField size to d) n w = nodePut w n 24 0 size 1
+tokenWords (T.TypedBitField offset p size to d) n w = nodePut (nodePut w (n + 1) p 0 0 1) n 25 offset size 2
 tokenWords (T.ArrayEnd to) n w = w
 tokenWords (T.ContainerEnd kind to) n w = w
-tokenWords (T.Refused why to) n w = w
+tokenWords (T.Refused why to d) n w = w
 tokenWords T.Parts n w = w
 tokenWords T.End n w = w
 
 -- Room for a token's nodes in `l` words.
 abbrev pub TokenRoom : Token → ℕ → ℕ → Type 0
 TokenRoom (T.Primitive p to) n l = 4 * n + 4 ≤ l
-TokenRoom (T.BitField size to) n l = 4 * n + 4 ≤ l
-TokenRoom (T.TypedBitField offset p size to) n l = 4 * n + 8 ≤ l
+TokenRoom (T.BitField size to d) n l = 4 * n + 4 ≤ l
+TokenRoom (T.TypedBitField offset p size to d) n l = 4 * n + 8 ≤ l
 TokenRoom (T.ArrayEnd to) n l = Unit {0}
 TokenRoom (T.ContainerEnd kind to) n l = Unit {0}
-TokenRoom (T.Refused why to) n l = Unit {0}
+TokenRoom (T.Refused why to d) n l = Unit {0}
 TokenRoom T.Parts n l = Unit {0}
 TokenRoom T.End n l = Unit {0}
 
@@ -106,6 +108,18 @@ itemWords (Encoding to k l) text len n w = pickList (closed text to) (nodePut w 
 itemWords (ContainerEnd kind to) text len n w = w
 itemWords (ArrayEnd to) text len n w = noneUnder 28 len n w
 itemWords (Refused why to) text len n w = w
+
+-- A struct or a union begins.
+abbrev pub opensContainer : ℕ → Bool
+opensContainer b = eqb b (byte "{") || eqb b (byte "(")
+
+abbrev pub pickContainer : Bool → ContainerKind → ContainerKind → ContainerKind
+pickContainer true a b = a
+pickContainer false a b = b
+
+-- Which of the two.
+abbrev pub openedContainer : ℕ → ContainerKind
+openedContainer b = pickContainer (eqb b (byte "{")) Struct Union
 
 abbrev pub AfterItems : Items → ℕ → Type 0
 AfterItems (Read to k l) n = n ≤ k

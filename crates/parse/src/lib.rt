@@ -1,7 +1,8 @@
-// Reading text: parse.rs, and the two readings of encoding_box.rs. A tree is written into lent lists in one pass.
+// Reading text: parse.rs, the two readings of encoding_box.rs, and strict reading. A tree is written into lent lists in one pass.
 // Below the entry points `words` is the words from the first node on: node n is at 4 * n.
 // `&text[0..]` is handed on where `text` would be copied to memory and read back at once.
 ghost use mathlib.Core.Path.{_≡_};
+ghost use mathlib.Core.Bool.{true};
 ghost use mathlib.Core.List.{[], _∷_};
 ghost use Prim.Native.Nat.{_+_, _*_, _-_, _≤_, _<_};
 ghost use lib.ListN.{length, drop};
@@ -12,11 +13,13 @@ ghost use Rattle.parser.specs.Run.{runEnd};
 ghost use Rattle.numbers.specs.Answer.{numberAt};
 ghost use Rattle.names.specs.Answer.{nameAt};
 ghost use Rattle.codes.specs.Answer.{isIndirection, tokenAt};
-ghost use Rattle.parse.specs.Answer.{used, answerWords, fromStrAnswer, fromStrWords, fromStrNames, fromStartAnswer, fromStartWords, fromStartNames, fromStartRest, EndOf};
+ghost use Rattle.parse.specs.Answer.{used, answerWords, fromStrAnswer, fromStrWords, fromStrNames, fromStrStrictAnswer, fromStrStrictWords, fromStrStrictNames, fromStartAnswer, fromStartWords, fromStartNames, fromStartRest, EndOf};
+ghost use Rattle.parse.specs.Strictly.{judgedNumber, surplusPlace, tokenSurplus, PlaceFits, TokenFits, wholeAnswer, wholeWords, wholeNames};
 ghost use Rattle.parse.specs.Room.{slack};
 ghost use Rattle.parse.specs.Out.{tokenOut, tokenWords, TokenRoom, After, AfterItems, holdOut, holdWords, indirectionWord, itemOut, itemWords, noneUnder};
-ghost use Rattle.parse.specs.Out.{containOut, containWords, endOut, cleared, headed, noneSheet, codeSheet, Fits, encodedOut, encodedWords, encodedNames};
+ghost use Rattle.parse.specs.Out.{opensContainer, openedContainer, containOut, containWords, endOut, cleared, headed, noneSheet, codeSheet, Fits, encodedOut, encodedWords, encodedNames};
 ghost use Rattle.parse.specs.Agree.{NamedIs, Simple, SimpleReady, Ready, OneReady, Reads, ChildReady, Holds, CodesRead, ContainerReady, lists, EncodedIs};
+use codes::BitsDigits;
 use codes::Token;
 use codes::closes_fields;
 use codes::closes_item;
@@ -39,6 +42,7 @@ use kinds::unknown_digit;
 use names::Name;
 use names::parse_name;
 use numbers::Number;
+use numbers::number_digits;
 use numbers::parse_u64;
 use parser::strip_leading_qualifiers;
 use sheet::HEADER;
@@ -58,7 +62,7 @@ enum Parsed {
     Refused(ErrorKind, usize),
 }
 
-// What both readings begin with: the place after the tree that the lists now hold, why nothing was read, or why there is no tree and where.
+// What all readings begin with: the place after the tree that the lists now hold, why nothing was read, or why there is no tree and where.
 enum Encoded {
     Tree(usize),
     Away(Refusal),
@@ -104,16 +108,32 @@ fn token_here(text: &[u8], at: usize) -> Token
     token_at(&text[0..], at)
 }
 
+// A number with a surplus zero is refused at its first digit.
+fn judged_number(number: Number, at: usize) -> Number
+    ensures { λ r. ⌜ r ≡ judgedNumber true at number ⌝ }
+{
+    let digits = number_digits(number);
+    if digits.surplus {
+        return Number::Refused(ErrorKind::SurplusZero, at, digits);
+    }
+    number
+}
+
 fn name_here(text: &[u8], at: usize, kind: ContainerKind) -> Name
     ensures { λ r. ⌜ r ≡ nameAt (now (text .entry)) at (parseName kind [] (drop at (now (text .entry)))) ⌝ }
 {
     parse_name(&text[0..], at, kind)
 }
 
-fn length_here(text: &[u8], at: usize) -> Number
-    ensures { λ r. ⌜ r ≡ numberAt (now (text .entry)) (parseNumber maxU64 (drop at (now (text .entry)))) ⌝ }
+// An array's length; a strict reading refuses one with a surplus zero.
+fn length_here(text: &[u8], at: usize, strict: bool) -> Number
+    ensures { λ r. ⌜ r ≡ judgedNumber strict at (numberAt (now (text .entry)) (drop at (now (text .entry))) (parseNumber maxU64 (drop at (now (text .entry))))) ⌝ }
 {
-    parse_u64(&text[0..], at)
+    let number = parse_u64(&text[0..], at);
+    if strict {
+        return judged_number(number, at);
+    }
+    number
 }
 
 fn run_end(text: &[u8], at: usize) -> usize
@@ -146,18 +166,18 @@ fn put_token(t: Token, words: &mut [u64], n: usize, m: usize) -> Parsed
             put_node(words, n, p, 0, 0, 1);
             Parsed::Encoding(to, n + 1, m)
         }
-        Token::BitField(size, to) => {
+        Token::BitField(size, to, _) => {
             put_node(words, n, BIT_FIELD, 0, size, 1);
             Parsed::Encoding(to, n + 1, m)
         }
-        Token::TypedBitField(offset, p, size, to) => {
+        Token::TypedBitField(offset, p, size, to, _) => {
             put_node(words, n + 1, p, 0, 0, 1);
             put_node(words, n, TYPED_BIT_FIELD, offset, size, 2);
             Parsed::Encoding(to, n + 2, m)
         }
         Token::ArrayEnd(to) => Parsed::ArrayEnd(to),
         Token::ContainerEnd(kind, to) => Parsed::ContainerEnd(kind, to),
-        Token::Refused(why, to) => Parsed::Refused(why, to),
+        Token::Refused(why, to, _) => Parsed::Refused(why, to),
         Token::Parts => Parsed::Empty,
         Token::End => Parsed::Empty,
     }
@@ -284,11 +304,67 @@ fn end_items(p: Parsed, kind: ContainerKind, at: usize, n: usize, m: usize) -> I
     }
 }
 
-// A byte that begins nothing with parts.
-fn parse_simple(text: &[u8], at: usize, words: &mut [u64], n: usize, m: usize) -> Parsed
-    requires { ⌜ SimpleReady (now text) at n (now words) ⌝ }
-    ensures { λ r. ⌜ Simple (now (text .entry)) at n m (now (words .entry)) (now (words .exit)) r ⌝ }
+// Where the first number with a surplus zero begins in the bitfield at `at`; 0 for none. A bitfield's type is one byte.
+fn surplus_place(text: &[u8], at: usize, digits: BitsDigits) -> usize
+    requires { ⌜ PlaceFits at digits (length (now text)) ⌝ }
+    ensures { λ r. ⌜ r ≡ surplusPlace at digits ⌝ }
 {
+    let first = digits.first;
+    let second = digits.second;
+    if first.surplus {
+        return at + 1;
+    }
+    if second.surplus {
+        return at + 2 + first.count;
+    }
+    0
+}
+
+// The same of a token: only bitfields have numbers.
+fn token_surplus(text: &[u8], at: usize, t: Token) -> usize
+    requires { ⌜ TokenFits at t (length (now text)) ⌝ }
+    ensures { λ r. ⌜ r ≡ tokenSurplus at t ⌝ }
+{
+    match t {
+        Token::Primitive(_, _) => 0,
+        Token::BitField(_, _, digits) => surplus_place(text, at, digits),
+        Token::TypedBitField(_, _, _, _, digits) => surplus_place(text, at, digits),
+        Token::ArrayEnd(_) => 0,
+        Token::ContainerEnd(_, _) => 0,
+        Token::Refused(_, _, digits) => surplus_place(text, at, digits),
+        Token::Parts => 0,
+        Token::End => 0,
+    }
+}
+
+// A bitfield's numbers are judged before it is written.
+fn parse_strictly(text: &[u8], at: usize, words: &mut [u64], n: usize, m: usize) -> Parsed
+    requires { ⌜ SimpleReady (now text) at n (now words) ⌝ }
+    ensures { λ r. ⌜ Simple true (now (text .entry)) at n m (now (words .entry)) (now (words .exit)) r ⌝ }
+{
+    let t = token_here(text, at);
+    let place = token_surplus(text, at, t);
+    if 0 < place {
+        return Parsed::Refused(ErrorKind::SurplusZero, place);
+    }
+    put_token(t, words, n, m)
+}
+
+// A byte that begins nothing with parts.
+fn parse_simple(
+    text: &[u8],
+    at: usize,
+    strict: bool,
+    words: &mut [u64],
+    n: usize,
+    m: usize,
+) -> Parsed
+    requires { ⌜ SimpleReady (now text) at n (now words) ⌝ }
+    ensures { λ r. ⌜ Simple strict (now (text .entry)) at n m (now (words .entry)) (now (words .exit)) r ⌝ }
+{
+    if strict {
+        return parse_strictly(text, at, words, n, m);
+    }
     put_token(token_here(text, at), words, n, m)
 }
 
@@ -332,47 +408,79 @@ fn put_indirections(
 fn parse_inner(
     text: &[u8],
     at: usize,
+    strict: bool,
     words: &mut [u64],
     n: usize,
     names: &mut [u8],
     m: usize,
 ) -> Parsed
     requires { ⌜ Ready (now text) at n m (lists (now words) (now names)) ⌝ }
-    ensures { λ r. ⌜ Reads (now (text .entry)) at n m (lists (now (words .entry)) (now (names .entry))) (lists (now (words .exit)) (now (names .exit))) r ⌝ }
+    ensures { λ r. ⌜ Reads strict (now (text .entry)) at n m (lists (now (words .entry)) (now (names .entry))) (lists (now (words .exit)) (now (names .exit))) r ⌝ }
 {
     let to = run_end(text, at);
-    let p = parse_one(&text[0..], to, words, n + (to - at), names, m);
+    let p = parse_one(&text[0..], to, strict, words, n + (to - at), names, m);
     put_indirections(p, text, at, to, words, n, m)
 }
 
+// A struct or a union begins.
+fn opens_container(b: u8) -> bool
+    ensures { λ r. ⌜ r ≡ opensContainer b ⌝ }
+{
+    b == b'{' || b == b'('
+}
+
+// Which of the two.
+fn opened_container(b: u8) -> ContainerKind
+    ensures { λ r. ⌜ r ≡ openedContainer b ⌝ }
+{
+    if b == b'{' {
+        ContainerKind::Struct
+    } else {
+        ContainerKind::Union
+    }
+}
+
 // A type that is no pointer and no atomic; nothing at the end of the text. Arrays and containers are tested for here, which costs less
-// than asking `codes::start`.
+// than asking `codes::start`; containers have one call between them, so that a level of nesting is one frame on the stack.
 fn parse_one(
     text: &[u8],
     at: usize,
+    strict: bool,
     words: &mut [u64],
     n: usize,
     names: &mut [u8],
     m: usize,
 ) -> Parsed
     requires { ⌜ OneReady (now text) at n m (lists (now words) (now names)) ⌝ }
-    ensures { λ r. ⌜ Reads (now (text .entry)) at n m (lists (now (words .entry)) (now (names .entry))) (lists (now (words .exit)) (now (names .exit))) r ⌝ }
+    ensures { λ r. ⌜ Reads strict (now (text .entry)) at n m (lists (now (words .entry)) (now (names .entry))) (lists (now (words .exit)) (now (names .exit))) r ⌝ }
 {
     if text.len() <= at {
         return Parsed::Empty;
     }
     let b = text[at];
     match b {
-        b'[' => match length_here(text, at + 1) {
-            Number::Refused(why, end) => Parsed::Refused(why, end),
-            Number::Value(len, item) => {
-                let p = parse_inner(&text[0..], item, words, n + 1, names, m);
+        b'[' => match length_here(text, at + 1, strict) {
+            Number::Refused(why, end, _) => Parsed::Refused(why, end),
+            Number::Value(len, item, _) => {
+                let p = parse_inner(&text[0..], item, strict, words, n + 1, names, m);
                 put_array(p, text, item, len, words, n, m)
             }
         },
-        b'{' => parse_container(&text[0..], at, ContainerKind::Struct, words, n, names, m),
-        b'(' => parse_container(&text[0..], at, ContainerKind::Union, words, n, names, m),
-        _ => parse_simple(text, at, words, n, m),
+        _ => {
+            if opens_container(b) {
+                return parse_container(
+                    &text[0..],
+                    at,
+                    strict,
+                    opened_container(b),
+                    words,
+                    n,
+                    names,
+                    m,
+                );
+            }
+            parse_simple(text, at, strict, words, n, m)
+        }
     }
 }
 
@@ -397,6 +505,7 @@ fn put_codes(text: &[u8], at: usize, words: &mut [u64], n: usize) -> usize
 fn parse_container(
     text: &[u8],
     at: usize,
+    strict: bool,
     kind: ContainerKind,
     words: &mut [u64],
     n: usize,
@@ -404,7 +513,7 @@ fn parse_container(
     m: usize,
 ) -> Parsed
     requires { ⌜ ContainerReady (now text) at kind n m (lists (now words) (now names)) ⌝ }
-    ensures { λ r. ⌜ Reads (now (text .entry)) at n m (lists (now (words .entry)) (now (names .entry))) (lists (now (words .exit)) (now (names .exit))) r ⌝ }
+    ensures { λ r. ⌜ Reads strict (now (text .entry)) at n m (lists (now (words .entry)) (now (names .entry))) (lists (now (words .exit)) (now (names .exit))) r ⌝ }
 {
     match put_name(text, at + 1, kind, names, m) {
         Named::Refused(why, to) => Parsed::Refused(why, to),
@@ -419,7 +528,7 @@ fn parse_container(
                 if closes_fields(text, to, kind) {
                     return put_container(Items::Read(to + 1, k, l), kind, words, n, m, named);
                 }
-                let p = parse_inner(&text[0..], to, words, k, names, l);
+                let p = parse_inner(&text[0..], to, strict, words, k, names, l);
                 match p {
                     Parsed::Encoding(to2, k2, l2) => {
                         to = to2;
@@ -527,9 +636,9 @@ fn put_code(p: u64, words: &mut [u64], names: &mut [u8])
     names[0] = 0;
 }
 
-// What both readings begin with.
-fn parse_encoding_or_none(text: &[u8], words: &mut [u64], names: &mut [u8]) -> Encoded
-    ensures { λ r. ⌜ EncodedIs (now (text .entry)) (lists (now (words .entry)) (now (names .entry))) (lists (now (words .exit)) (now (names .exit))) r ⌝ }
+// What all readings begin with.
+fn parse_encoding_or_none(text: &[u8], strict: bool, words: &mut [u64], names: &mut [u8]) -> Encoded
+    ensures { λ r. ⌜ EncodedIs strict (now (text .entry)) (lists (now (words .entry)) (now (names .entry))) (lists (now (words .exit)) (now (names .exit))) r ⌝ }
 {
     let n = text.len();
     if MAX_TEXT < n {
@@ -551,18 +660,18 @@ fn parse_encoding_or_none(text: &[u8], words: &mut [u64], names: &mut [u8]) -> E
     }
     clear_sheet(n, words, names);
     let at = strip_leading_qualifiers(text);
-    let p = parse_inner(&text[0..], at, &mut words[HEADER..], 0, names, 0);
+    let p = parse_inner(&text[0..], at, strict, &mut words[HEADER..], 0, names, 0);
     encoding_or_none(p, n, words, names)
 }
 
-// Whole-text reading: `EncodingBox::from_str`.
-pub fn from_str(text: &[u8], words: &mut [u64], names: &mut [u8]) -> Reading
-    ensures answers { λ r. ⌜ r ≡ fromStrAnswer (now (text .entry)) (now (words .entry)) (now (names .entry)) ⌝ }
-    ensures fills { λ _. ⌜ now (words .exit) ≡ fromStrWords (now (text .entry)) (now (words .entry)) (now (names .entry)) ⌝ }
-    ensures names { λ _. ⌜ now (names .exit) ≡ fromStrNames (now (text .entry)) (now (words .entry)) (now (names .entry)) ⌝ }
+// Whole-text reading, strict or not.
+fn read_whole(text: &[u8], strict: bool, words: &mut [u64], names: &mut [u8]) -> Reading
+    ensures answers { λ r. ⌜ r ≡ wholeAnswer strict (now (text .entry)) (now (words .entry)) (now (names .entry)) ⌝ }
+    ensures fills { λ _. ⌜ now (words .exit) ≡ wholeWords strict (now (text .entry)) (now (words .entry)) (now (names .entry)) ⌝ }
+    ensures names { λ _. ⌜ now (names .exit) ≡ wholeNames strict (now (text .entry)) (now (words .entry)) (now (names .entry)) ⌝ }
 {
     let n = text.len();
-    match parse_encoding_or_none(text, words, names) {
+    match parse_encoding_or_none(text, strict, words, names) {
         Encoded::Away(why) => Reading::Refused(why),
         Encoded::Refused(why, to) => Reading::Refused(Refusal::Parse(why, to)),
         Encoded::Tree(to) => {
@@ -574,6 +683,24 @@ pub fn from_str(text: &[u8], words: &mut [u64], names: &mut [u8]) -> Reading
             }
         }
     }
+}
+
+// Whole-text reading: `EncodingBox::from_str`.
+pub fn from_str(text: &[u8], words: &mut [u64], names: &mut [u8]) -> Reading
+    ensures answers { λ r. ⌜ r ≡ fromStrAnswer (now (text .entry)) (now (words .entry)) (now (names .entry)) ⌝ }
+    ensures fills { λ _. ⌜ now (words .exit) ≡ fromStrWords (now (text .entry)) (now (words .entry)) (now (names .entry)) ⌝ }
+    ensures names { λ _. ⌜ now (names .exit) ≡ fromStrNames (now (text .entry)) (now (words .entry)) (now (names .entry)) ⌝ }
+{
+    read_whole(text, false, words, names)
+}
+
+// Strict whole-text reading: a number with a surplus zero is refused where it is met.
+pub fn from_str_strict(text: &[u8], words: &mut [u64], names: &mut [u8]) -> Reading
+    ensures answers { λ r. ⌜ r ≡ fromStrStrictAnswer (now (text .entry)) (now (words .entry)) (now (names .entry)) ⌝ }
+    ensures fills { λ _. ⌜ now (words .exit) ≡ fromStrStrictWords (now (text .entry)) (now (words .entry)) (now (names .entry)) ⌝ }
+    ensures names { λ _. ⌜ now (names .exit) ≡ fromStrStrictNames (now (text .entry)) (now (words .entry)) (now (names .entry)) ⌝ }
+{
+    read_whole(text, true, words, names)
 }
 
 // The number of a refusal, its place, its byte and the kind word of its container; 0 for what it does not carry.
@@ -596,7 +723,7 @@ pub fn from_start_of_str<'a>(
     ensures fills { λ _. ⌜ now (words .exit) ≡ fromStartWords (now (text .entry)) (now (words .entry)) (now (names .entry)) ⌝ }
     ensures names { λ _. ⌜ now (names .exit) ≡ fromStartNames (now (text .entry)) (now (words .entry)) (now (names .entry)) ⌝ }
 {
-    match parse_encoding_or_none(text, words, names) {
+    match parse_encoding_or_none(text, false, words, names) {
         Encoded::Tree(to) => {
             *answer = [0, 0, 0, 0];
             &text[to..]

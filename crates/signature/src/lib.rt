@@ -11,6 +11,7 @@ use kinds::ErrorKind;
 use kinds::MAX_TEXT;
 use kinds::Refusal;
 use kinds::unknown_digit;
+use numbers::Digits;
 use numbers::Number;
 use numbers::is_digit;
 use numbers::parse_u32;
@@ -24,9 +25,9 @@ pub enum SignatureReading {
     Refused(Refusal),
 }
 
-// A type's length and number with the place after the number, or why there is no entry.
+// A type's length and number with the place after the number and what its digits show, or why there is no entry.
 enum Next {
-    Entry(usize, u64, usize),
+    Entry(usize, u64, usize, Digits),
     Refused(Refusal),
 }
 
@@ -55,8 +56,8 @@ fn next_number(text: &[u8], start: usize, at: usize) -> Next
     ensures { λ r. ⌜ NumberIs (now (text .entry)) start at r ⌝ }
 {
     match parse_u32(text, at) {
-        Number::Value(number, next) => Next::Entry(at - start, number, next),
-        Number::Refused(_, to) => {
+        Number::Value(number, next, digits) => Next::Entry(at - start, number, next, digits),
+        Number::Refused(_, to, _) => {
             if starts_digit(text, at) {
                 Next::Refused(Refusal::OffsetTooLarge(to))
             } else {
@@ -99,7 +100,7 @@ fn read_entries(text: &[u8], list: &mut [u64]) -> SignatureReading
             Next::Refused(why) => {
                 return SignatureReading::Refused(why);
             }
-            Next::Entry(size, number, next) => {
+            Next::Entry(size, number, next, _) => {
                 put_entry(list, k, at, size, number);
                 k += 1;
                 at = next;

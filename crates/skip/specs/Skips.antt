@@ -82,11 +82,11 @@ pub record OpensAt (text : List ℕ) (at : ℕ) (kind : ContainerKind) : Type 0 
 
 abbrev pub tokenSkipped : Token → Skipped
 tokenSkipped (T.Primitive p to) = Encoding to
-tokenSkipped (T.BitField n to) = Encoding to
-tokenSkipped (T.TypedBitField o p n to) = Encoding to
+tokenSkipped (T.BitField n to d) = Encoding to
+tokenSkipped (T.TypedBitField o p n to d) = Encoding to
 tokenSkipped (T.ArrayEnd to) = ArrayEnd to
 tokenSkipped (T.ContainerEnd kind to) = ContainerEnd kind to
-tokenSkipped (T.Refused why to) = Refused why to
+tokenSkipped (T.Refused why to d) = Refused why to
 tokenSkipped T.Parts = Empty
 tokenSkipped T.End = Empty
 

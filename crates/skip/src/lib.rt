@@ -54,11 +54,11 @@ fn skip_token(t: Token) -> Skipped
 {
     match t {
         Token::Primitive(_, to) => Skipped::Encoding(to),
-        Token::BitField(_, to) => Skipped::Encoding(to),
-        Token::TypedBitField(_, _, _, to) => Skipped::Encoding(to),
+        Token::BitField(_, to, _) => Skipped::Encoding(to),
+        Token::TypedBitField(_, _, _, to, _) => Skipped::Encoding(to),
         Token::ArrayEnd(to) => Skipped::ArrayEnd(to),
         Token::ContainerEnd(kind, to) => Skipped::ContainerEnd(kind, to),
-        Token::Refused(why, to) => Skipped::Refused(why, to),
+        Token::Refused(why, to, _) => Skipped::Refused(why, to),
         Token::Parts => Skipped::Empty,
         Token::End => Skipped::Empty,
     }
@@ -150,8 +150,8 @@ fn skip_one(text: &[u8], at: usize) -> Skipped
     let b = text[at];
     match b {
         b'[' => match parse_u64(text, at + 1) {
-            Number::Refused(why, to) => Skipped::Refused(why, to),
-            Number::Value(_, item) => skip_item(skip_inner(&text[0..], item), text),
+            Number::Refused(why, to, _) => Skipped::Refused(why, to),
+            Number::Value(_, item, _) => skip_item(skip_inner(&text[0..], item), text),
         },
         b'{' => skip_container(&text[0..], at, ContainerKind::Struct),
         b'(' => skip_container(&text[0..], at, ContainerKind::Union),

@@ -10,20 +10,24 @@ returns c = c .refused .ensures ∙ answer-refused _ _ (search needs) _ _ _ (com
 
 returns-2 : tie.Need-returns-2
 returns-2 c =
-    answer-kind _ _ (omega arith) _ _ _ _ (c .kind .ensures) (complex-f _ _ (c .before .before .before .if1 .left) (c .before .match .keys1))
+    let c3 = c .before .before .before in
+    answer-kind _ _ (omega arith) _ _ _ _ (c .kind .ensures) (complex-f _ _ (c3 .if1 .left) (c .before .match .keys1))
 
 returns-3 : tie.Need-returns-3
 returns-3 c =
-    answer-kind _ _ (omega arith) _ _ _ _ (c .kind2 .ensures) (complex-d _ _ (c .before .before .before .if1 .left) (c .before .match .keys2))
+    let c3 = c .before .before .before in
+    answer-kind _ _ (omega arith) _ _ _ _ (c .kind2 .ensures) (complex-d _ _ (c3 .if1 .left) (c .before .match .keys2))
 
 returns-4 : tie.Need-returns-4
 returns-4 c =
-    answer-kind _ _ (omega arith) _ _ _ _ (c .kind3 .ensures) (complex-D _ _ (c .before .before .before .if1 .left) (c .before .match .keys3))
+    let c3 = c .before .before .before in
+    answer-kind _ _ (omega arith) _ _ _ _ (c .kind3 .ensures) (complex-D _ _ (c3 .if1 .left) (c .before .match .keys3))
 
 returns-5 : tie.Need-returns-5
 returns-5 c =
+    let c3 = c .before .before .before in
     let r = c .before .match .rest in
-    c .refused2 .ensures ∙ answer-refused _ _ (omega arith) _ _ _ (complex-no _ _ (c .before .before .before .if1 .left) (r .0 .0 .1) (r .0 .1) (r .1))
+    c .refused2 .ensures ∙ answer-refused _ _ (omega arith) _ _ _ (complex-no _ _ (c3 .if1 .left) (r .0 .0 .1) (r .0 .1) (r .1))
 
 pub parse-complex-spec : {M : Type 1} → statement M
 parse-complex-spec =

@@ -11,15 +11,18 @@ returns c = answer-kind _ _ (search needs) _ _ _ _ (c .kind .ensures) (object-en
 
 returns-2 : tie.Need-returns-2
 returns-2 c =
-    answer-kind _ _ (omega arith) _ _ _ _ (c .kind2 .ensures) (object-block _ _ (c .before .before .before .if1 .left) (c .before .match .keys1))
+    let c3 = c .before .before .before in
+    answer-kind _ _ (omega arith) _ _ _ _ (c .kind2 .ensures) (object-block _ _ (c3 .if1 .left) (c .before .match .keys1))
 
 returns-3 : tie.Need-returns-3
 returns-3 c =
-    c .parse-quoted .ensures ∙ ap (tokenOf _ _) (sym (object-quoted _ _ (c .before .before .before .if1 .left) (c .before .match .keys2)))
+    let c3 = c .before .before .before in
+    c .parse-quoted .ensures ∙ ap (tokenOf _ _) (sym (object-quoted _ _ (c3 .if1 .left) (c .before .match .keys2)))
 
 returns-4 : tie.Need-returns-4
 returns-4 c =
-    answer-kind _ _ (omega arith) _ _ _ _ (c .kind3 .ensures) (object-bare _ _ (c .before .before .before .if1 .left) (c .before .match .rest .0 .1) (c .before .match .rest .1))
+    let c3 = c .before .before .before in
+    answer-kind _ _ (omega arith) _ _ _ _ (c .kind3 .ensures) (object-bare _ _ (c3 .if1 .left) (c .before .match .rest .0 .1) (c .before .match .rest .1))
 
 pub parse-object-spec : {M : Type 1} → statement M
 parse-object-spec =

@@ -25,7 +25,9 @@ add-t10 c = omega arith
 
 returns : tie.Need-returns Inv-loop μ-loop
 returns c =
-    answer-kind _ _ (omega arith) _ _ _ _ (c .kind .ensures) (c .before .before .before .before .loop .inv .0 ∙ quoted-stop _ _ (c .before .before .before .loop-test .taken) (c .before .if1 .taken))
+    let c3 = c .before .before .before in
+    let c4 = c3 .before in
+    answer-kind _ _ (omega arith) _ _ _ _ (c .kind .ensures) (c4 .loop .inv .0 ∙ quoted-stop _ _ (c3 .loop-test .taken) (c .before .if1 .taken))
 
 add-i : tie.Need-add-i Inv-loop μ-loop
 add-i c = omega arith
@@ -39,7 +41,9 @@ loop-again c =
     (p .before .loop .inv .0 ∙ quoted-more _ _ (p .loop-test .taken) (c .if1 .left), omega arith)
 
 returns-2 : tie.Need-returns-2 Inv-loop μ-loop
-returns-2 c = c .refused .ensures ∙ answer-refused _ _ (omega arith) _ _ _ (c .before .before .loop .inv .0 ∙ quoted-end _ _ (c .before .loop-test .left))
+returns-2 c =
+    let c2 = c .before .before in
+    c .refused .ensures ∙ answer-refused _ _ (omega arith) _ _ _ (c2 .loop .inv .0 ∙ quoted-end _ _ (c .before .loop-test .left))
 
 pub parse-quoted-spec : {M : Type 1} → statement M
 parse-quoted-spec =

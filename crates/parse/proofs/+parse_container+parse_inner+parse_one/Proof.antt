@@ -7,9 +7,8 @@ use denote.Enum.Declared.{tagOf}
 use types.Run.{OneOf, miss}
 use lib.ListN.{length}
 use Rattle.kinds.proofs.ListLaws.{whole}
-use Rattle.kinds.specs.Parse.{start, inSingles, singles, inOthers, others}
+use Rattle.kinds.specs.Parse.{start, openContainer, inSingles, singles, inOthers, others}
 use Rattle.parser.proofs.RunLaws.{run-to}
-use Rattle.numbers.proofs.NumberLaws.{number-is}
 use Rattle.codes.specs.Answer.{isIndirection}
 use Rattle.codes.proofs.CodeLaws.{starts, without-parts, not-indirection}
 use Rattle.parse.specs.Agree.{lists, Lists, Ready, ItemsReads}
@@ -23,7 +22,8 @@ use Rattle.parse.proofs.Sheets.{slack-some}
 use Rattle.codes.proofs.StepLaws.{closes-in}
 use Rattle.parse.proofs.Cycle.{reads-end, reads-simple, reads-item, reads-no-number, reads-no-name, reads-contained, items-end, items-more, items-closed, NotFound}
 use Rattle.parse.proofs.Cycle.{ready-part, room-two, after-parsed, after-items, ready-fields, ready-more, opens-closes}
-use Rattle.parse.proofs.Runs.{ready-codes, ready-run, run-room, after-bound}
+use Rattle.parse.proofs.Judge.{length-is}
+use Rattle.parse.proofs.Runs.{opened-is, not-opened, ready-codes, ready-run, run-room, after-bound}
 use borrow.Fn.Kinds.{In}
 use borrow.Fn.PlainCycle.{Measures, is, falls, and}
 use Rattle.parse.proofs.parse_container.Reads as parse-container
@@ -40,6 +40,8 @@ use Rattle.parse.proofs.length_here.Reads as length-here-reads
 use Rattle.codes.proofs.closes_fields.Reads as closes-fields-reads
 use Rattle.parse.proofs.end_items.Reads as end-items-reads
 use Rattle.parse.proofs.parse_simple.Reads as parse-simple-reads
+use Rattle.parse.proofs.opens_container.Reads as opens-container-reads
+use Rattle.parse.proofs.opened_container.Reads as opened-container-reads
 use Rattle.parse.proofs.put_array.Reads as put-array-reads
 use Rattle.parse.proofs.put_codes.Reads as put-codes-reads
 use Rattle.parse.proofs.put_container.Reads as put-container-reads
@@ -97,12 +99,12 @@ parse-one-below t =
     and 3 parse-one-kinds.ps (falls 3 parse-one-kinds.ps _<_ μ-parse-one t) parse-one.Pre
 
 abbrev parse-container-Inv-loop : parse-container-lts.InvT-loop
-parse-container-Inv-loop text at kind words₀ n names₀ m start named to₀ k₀ l₀ words names to k l =
+parse-container-Inv-loop text at strict kind words₀ n names₀ m start named to₀ k₀ l₀ words names to k l =
     Ready text to k l (lists words names) × ((to₀ ≤ to) × (((length words ≡ length words₀) × (length names ≡ length names₀))
-    × ((z : Lists) (i : Items) → ItemsReads text to kind k l (lists words names) z i → ItemsReads text to₀ kind k₀ l₀ (lists words₀ names₀) z i)))
+    × ((z : Lists) (i : Items) → ItemsReads strict text to kind k l (lists words names) z i → ItemsReads strict text to₀ kind k₀ l₀ (lists words₀ names₀) z i)))
 
 abbrev parse-container-μ-loop : parse-container-lts.MeasureT-loop
-parse-container-μ-loop text at kind words₀ n names₀ m start named to₀ k₀ l₀ words names to k l = length text - to
+parse-container-μ-loop text at strict kind words₀ n names₀ m start named to₀ k₀ l₀ words names to k l = length text - to
 
 abbrev parse-container-claims : ℕ → parse-container-lts.Claims
 parse-container-claims t = (
@@ -138,6 +140,10 @@ parse-one-claims t = (
   parse-inner.Post,
   put-array-reads.Asked,
   put-array-reads.Learnt,
+  opens-container-reads.Asked,
+  opens-container-reads.Learnt,
+  opened-container-reads.Asked,
+  opened-container-reads.Learnt,
   parse-container-below t,
   parse-container.Post,
   parse-simple-reads.Asked,
@@ -184,12 +190,14 @@ parse-container-sub-k t c = omega (arith, c .before .before .put-codes .ensures 
 parse-container-add-k-2 : (t : ℕ) → parse-container-lts.Need-add-k-2 (parse-container-claims t) (parse-container-at t) parse-container.Post
     parse-container-Inv-loop parse-container-μ-loop
 parse-container-add-k-2 t c =
-    let v = c .before .before .before .before .loop .inv in
-    omega (arith, v .0 .words-room, c .before .before .put-codes .ensures .room, v .1 .1 .0 .0)
+    let c2 = c .before .before in
+    let c4 = c2 .before .before in
+    let v = c4 .loop .inv in
+    omega (arith, v .0 .words-room, c2 .put-codes .ensures .room, v .1 .1 .0 .0)
 
-parse-container-add-t29 : (t : ℕ) → parse-container-lts.Need-add-t29 (parse-container-claims t) (parse-container-at t) parse-container.Post
+parse-container-add-t30 : (t : ℕ) → parse-container-lts.Need-add-t30 (parse-container-claims t) (parse-container-at t) parse-container.Post
     parse-container-Inv-loop parse-container-μ-loop
-parse-container-add-t29 t c =
+parse-container-add-t30 t c =
     let c4 = c .before .before .before .before in
     let c17 = c4 .before .before .before .before .before .before .before .before .before .before .before .before .before in
     omega (arith, closes-in (c17 .args .text .now) (c4 .put-codes .result) (c17 .args .kind) (sym (c .before .closes-fields .ensures) ∙ c .if1 .taken))
@@ -209,9 +217,10 @@ parse-container-put-container-requires t c κs =
     let k : ℕ = l .k + (x .result - l .to) in
     let b : Lists = lists (x .last .1 .1 .0) (l .names) in
     let o : Items = Read (x .result + 1) k (l .l) in
-    let ends : ItemsReads (a .text .now) (x .result) (a .kind) k (l .l) b b o = items-closed (a .text .now) (x .result) (a .kind) k (l .l) b
+    let ends : ItemsReads (a .strict) (a .text .now) (x .result) (a .kind) k (l .l) b b o = items-closed (a .strict) (a .text .now) (x .result) (a .kind) k
+    (l .l) b
     (sym (c2 .closes-fields .ensures) ∙ c .before .if1 .taken) in
-    let f = l .inv .1 .1 .1 b o (x .ensures .reads (a .kind) (l .l) (l .names) b o ends) in
+    let f = l .inv .1 .1 .1 b o (x .ensures .reads (a .strict) (a .kind) (l .l) (l .names) b o ends) in
     let q = rw (c9 .start .given .1) at (c13 .put-name .ensures) in
     let p = c18 .pre .1 in
     let two = room-two (a .text .now) (a .at) (a .n) (a .m) (lists (a .words .now) (a .names .now)) (p .ready) (p .at-byte) (opens-closes _ _ (p .opens)) in
@@ -234,13 +243,14 @@ parse-container-returns t c =
     let k : ℕ = l .k + (x .result - l .to) in
     let b : Lists = lists (x .last .1 .1 .0) (l .names) in
     let o : Items = Read (x .result + 1) k (l .l) in
-    let ends : ItemsReads (a .text .now) (x .result) (a .kind) k (l .l) b b o = items-closed (a .text .now) (x .result) (a .kind) k (l .l) b
+    let ends : ItemsReads (a .strict) (a .text .now) (x .result) (a .kind) k (l .l) b b o = items-closed (a .strict) (a .text .now) (x .result) (a .kind) k
+    (l .l) b
     (sym (c5 .closes-fields .ensures) ∙ c4 .if1 .taken) in
-    let f = l .inv .1 .1 .1 b o (x .ensures .reads (a .kind) (l .l) (l .names) b o ends) in
+    let f = l .inv .1 .1 .1 b o (x .ensures .reads (a .strict) (a .kind) (l .l) (l .names) b o ends) in
     let q = rw (c12 .start .given .1) at (c16 .put-name .ensures) in
     let p = c21 .pre .1 in
     let d = c2 .put-container .ensures in
-    rw (d .0, d .1) (reads-contained (a .text .now) (a .at) (a .kind) (a .n) (a .m) (p .at-byte) (p .opens) (lists (a .words .now) (a .names .now))
+    rw (d .0, d .1) (reads-contained (a .strict) (a .text .now) (a .at) (a .kind) (a .n) (a .m) (p .at-byte) (p .opens) (lists (a .words .now) (a .names .now))
     (c16 .put-name .last .1 .1 .1 .0) _ _ q b o f)
 
 parse-container-parse-inner-requires : (t : ℕ) → parse-container-lts.Need-parse-inner-requires (parse-container-claims t) (parse-container-at t)
@@ -280,17 +290,17 @@ parse-container-loop-again t c =
     let a = c28 .args in
     let k : ℕ = l .k + (x .result - l .to) in
     let b : Lists = lists (x .last .1 .1 .0) (l .names) in
-    let z : Lists = lists (i .last .1 .1 .0) (i .last .1 .1 .1 .1 .0) in
+    let z : Lists = lists (i .last .1 .1 .1 .0) (i .last .1 .1 .1 .1 .1 .0) in
     let r = rw (whole (a .text .now)) at (rw (c .before .p .given .1) at (i .ensures)) in
     let ready = ready-codes (a .text .now) (l .to) (l .k) (l .l) (x .result) (l .words) (x .last .1 .1 .0) (l .names) (l .inv .0) (x .ensures)
     (x .kept .1 .1 .0) in (
-      ready-more (a .text .now) (x .result) k (l .l) b z _ _ _ ready (i .kept .1 .1 .0) (i .kept .1 .1 .1 .1 .0) (r .bound),
+      ready-more (a .text .now) (x .result) k (l .l) b z _ _ _ ready (i .kept .1 .1 .1 .0) (i .kept .1 .1 .1 .1 .1 .0) (r .bound),
       (
         omega (arith, l .inv .1 .0, x .ensures .onward, r .bound .onward),
         (
-          (i .kept .1 .1 .0 ∙ x .kept .1 .1 .0 ∙ l .inv .1 .1 .0 .0, i .kept .1 .1 .1 .1 .0 ∙ l .inv .1 .1 .0 .1),
-          λ y f q. l .inv .1 .1 .1 y f (x .ensures .reads (a .kind) (l .l) (l .names) y f
-              (items-more (a .text .now) (x .result) (a .kind) k (l .l) b z _ _ _ y f r q)),
+          (i .kept .1 .1 .1 .0 ∙ x .kept .1 .1 .0 ∙ l .inv .1 .1 .0 .0, i .kept .1 .1 .1 .1 .1 .0 ∙ l .inv .1 .1 .0 .1),
+          λ y f q. l .inv .1 .1 .1 y f (x .ensures .reads (a .strict) (a .kind) (l .l) (l .names) y f
+              (items-more (a .strict) (a .text .now) (x .result) (a .kind) k (l .l) b z _ _ _ y f r q)),
         ),
       ),
     )
@@ -311,17 +321,26 @@ parse-container-put-container-requires-2 t c κs =
     let a = c28 .args in
     let k : ℕ = l .k + (x .result - l .to) in
     let b : Lists = lists (x .last .1 .1 .0) (l .names) in
-    let z : Lists = lists (i .last .1 .1 .0) (i .last .1 .1 .1 .1 .0) in
+    let z : Lists = lists (i .last .1 .1 .1 .0) (i .last .1 .1 .1 .1 .1 .0) in
     let o : Items = c .before .end-items .result in
     let none = not-found (i .result) (c2 .match2 .keys2) in
-    let ends : ItemsReads (a .text .now) (x .result) (a .kind) k (l .l) b z o =
-    rw (c .before .end-items .ensures) (items-end (a .text .now) (x .result) (a .kind) k (l .l) b z (i .result) none
+    let ends : ItemsReads (a .strict) (a .text .now) (x .result) (a .kind) k (l .l) b z o =
+    rw (c .before .end-items .ensures) (items-end (a .strict) (a .text .now) (x .result) (a .kind) k (l .l) b z (i .result) none
     (rw (whole (a .text .now)) at (i .ensures))) in
-    let f = l .inv .1 .1 .1 z o (x .ensures .reads (a .kind) (l .l) (l .names) z o ends) in
+    let f = l .inv .1 .1 .1 z o (x .ensures .reads (a .strict) (a .kind) (l .l) (l .names) z o ends) in
     let q = rw (c19 .start .given .1) at (c23 .put-name .ensures) in
     let p = c28 .pre .1 in
     let two = room-two (a .text .now) (a .at) (a .n) (a .m) (lists (a .words .now) (a .names .now)) (p .ready) (p .at-byte) (opens-closes _ _ (p .opens)) in
-    ((omega (arith, two, i .kept .1 .1 .0, x .kept .1 .1 .0, l .inv .1 .1 .0 .0), omega (arith, q .names-is)), after-items _ _ _ _ _ _ o (f .bound))
+    ((omega (arith, two, i .kept .1 .1 .1 .0, x .kept .1 .1 .0, l .inv .1 .1 .0 .0), omega (arith, q .names-is)), after-items _ _ _ _ _ _ o (f .bound))
+
+parse-container-same-length-3 : (t : ℕ) → parse-container-lts.Need-same-length-3 (parse-container-claims t) (parse-container-at t) parse-container.Post
+    parse-container-Inv-loop parse-container-μ-loop
+parse-container-same-length-3 t c =
+    let c2 = c .before .before in
+    let c10 = c2 .before .before .before .before .before .before .before .before in
+    let c18 = c10 .before .before .before .before .before .before .before .before in
+    let c20 = c18 .before .before in
+    c2 .put-container2 .kept .1 .1 .0 ∙ c10 .parse-inner .kept .1 .1 .1 .0 ∙ c18 .put-codes .kept .1 .1 .0 ∙ c20 .loop .inv .1 .1 .0 .0
 
 parse-container-same-length-4 : (t : ℕ) → parse-container-lts.Need-same-length-4 (parse-container-claims t) (parse-container-at t) parse-container.Post
     parse-container-Inv-loop parse-container-μ-loop
@@ -329,7 +348,7 @@ parse-container-same-length-4 t c =
     let c10 = c .before .before .before .before .before .before .before .before .before .before in
     let c20 = c10 .before .before .before .before .before .before .before .before .before .before in
     let c26 = c20 .before .before .before .before .before .before in
-    c10 .parse-inner .kept .1 .1 .1 .1 .0
+    c10 .parse-inner .kept .1 .1 .1 .1 .1 .0
     ∙ c20 .loop .inv .1 .1 .0 .1
     ∙ c26 .put-name .kept .1 .1 .1 .0
 
@@ -351,16 +370,17 @@ parse-container-returns-2 t c =
     let a = c31 .args in
     let k : ℕ = l .k + (x .result - l .to) in
     let b : Lists = lists (x .last .1 .1 .0) (l .names) in
-    let z : Lists = lists (i .last .1 .1 .0) (i .last .1 .1 .1 .1 .0) in
+    let z : Lists = lists (i .last .1 .1 .1 .0) (i .last .1 .1 .1 .1 .1 .0) in
     let o : Items = c4 .end-items .result in
     let none = not-found (i .result) (c5 .match2 .keys2) in
-    let ends : ItemsReads (a .text .now) (x .result) (a .kind) k (l .l) b z o =
-    rw (c4 .end-items .ensures) (items-end (a .text .now) (x .result) (a .kind) k (l .l) b z (i .result) none (rw (whole (a .text .now)) at (i .ensures))) in
-    let f = l .inv .1 .1 .1 z o (x .ensures .reads (a .kind) (l .l) (l .names) z o ends) in
+    let ends : ItemsReads (a .strict) (a .text .now) (x .result) (a .kind) k (l .l) b z o =
+    rw (c4 .end-items .ensures) (items-end (a .strict) (a .text .now) (x .result) (a .kind) k (l .l) b z (i .result) none
+        (rw (whole (a .text .now)) at (i .ensures))) in
+    let f = l .inv .1 .1 .1 z o (x .ensures .reads (a .strict) (a .kind) (l .l) (l .names) z o ends) in
     let q = rw (c22 .start .given .1) at (c26 .put-name .ensures) in
     let p = c31 .pre .1 in
     let d = c2 .put-container2 .ensures in
-    rw (d .0, d .1) (reads-contained (a .text .now) (a .at) (a .kind) (a .n) (a .m) (p .at-byte) (p .opens) (lists (a .words .now) (a .names .now))
+    rw (d .0, d .1) (reads-contained (a .strict) (a .text .now) (a .at) (a .kind) (a .n) (a .m) (p .at-byte) (p .opens) (lists (a .words .now) (a .names .now))
     (c26 .put-name .last .1 .1 .1 .0) _ _ q z o f)
 
 parse-container-returns-3 : (t : ℕ) → parse-container-lts.Need-returns-3 (parse-container-claims t) (parse-container-at t) parse-container.Post
@@ -371,7 +391,7 @@ parse-container-returns-3 t c =
     let a = c10 .args in
     let p = c10 .pre .1 in
     let q = rw (c .before .why .given .1) at (c5 .put-name .ensures) in
-    reads-no-name (a .text .now) (a .at) (a .kind) (a .n) (a .m) (p .at-byte) (p .opens) (lists (a .words .now) (a .names .now))
+    reads-no-name (a .strict) (a .text .now) (a .at) (a .kind) (a .n) (a .m) (p .at-byte) (p .opens) (lists (a .words .now) (a .names .now))
     (c5 .put-name .last .1 .1 .1 .0) _ _ q
 
 parse-inner-sub-parse-one-2 : (t : ℕ) → parse-inner-lts.Need-sub-parse-one-2 (parse-inner-claims t) (parse-inner-at t) parse-inner.Post
@@ -419,7 +439,7 @@ parse-inner-put-indirections-requires t c κs =
     record {
       at-place = p .at-place;
       ends = c9 .run-end .ensures;
-      room = λ l. omega (arith, i .kept .1 .1 .0, run-room (a .text .now) (a .at) (a .n) (a .m) _ b p r l);
+      room = λ l. omega (arith, i .kept .1 .1 .1 .0, run-room (a .text .now) (a .at) (a .n) (a .m) _ b p r l);
       after = after-bound _ _ _ _ _ _ (i .result) (q .bound);
     }
 
@@ -427,10 +447,10 @@ parse-inner-same-length : (t : ℕ) → parse-inner-lts.Need-same-length (parse-
 parse-inner-same-length t c =
     let c2 = c .before .before in
     let c8 = c2 .before .before .before .before .before .before in
-    c2 .put-indirections .kept .1 .1 .1 .1 .0 ∙ c8 .parse-one .kept .1 .1 .0
+    c2 .put-indirections .kept .1 .1 .1 .1 .0 ∙ c8 .parse-one .kept .1 .1 .1 .0
 
 parse-inner-same-length-2 : (t : ℕ) → parse-inner-lts.Need-same-length-2 (parse-inner-claims t) (parse-inner-at t) parse-inner.Post
-parse-inner-same-length-2 t c = c .before .before .before .before .before .before .before .before .parse-one .kept .1 .1 .1 .1 .0
+parse-inner-same-length-2 t c = c .before .before .before .before .before .before .before .before .parse-one .kept .1 .1 .1 .1 .1 .0
 
 parse-inner-returns : (t : ℕ) → parse-inner-lts.Need-returns (parse-inner-claims t) (parse-inner-at t) parse-inner.Post
 parse-inner-returns t c =
@@ -439,10 +459,10 @@ parse-inner-returns t c =
     let c16 = c8 .before .before .before .before .before .before .before .before in
     let i = c8 .parse-one in
     let a = c16 .args in
-    c2 .put-indirections .ensures (lists (a .words .now) (a .names .now)) (i .last .1 .1 .1 .1 .0) (rw (whole (a .text .now)) at (i .ensures))
+    c2 .put-indirections .ensures (a .strict) (lists (a .words .now) (a .names .now)) (i .last .1 .1 .1 .1 .1 .0) (rw (whole (a .text .now)) at (i .ensures))
 
 parse-one-returns : (t : ℕ) → parse-one-lts.Need-returns (parse-one-claims t) (parse-one-at t) parse-one.Post
-parse-one-returns t c = reads-end _ _ _ _ _ (omega (arith, c .if1 .taken, c .before .before .before .before .pre .1 .ready .at-place))
+parse-one-returns t c = reads-end _ _ _ _ _ _ (omega (arith, c .if1 .taken, c .before .before .before .before .pre .1 .ready .at-place))
 
 parse-one-shared-slice-read-b : (t : ℕ) → parse-one-lts.Need-shared-slice-read-b (parse-one-claims t) (parse-one-at t) parse-one.Post
 parse-one-shared-slice-read-b t c = c .before .if1 .left
@@ -471,9 +491,9 @@ parse-one-parse-inner-requires t c κs =
     let h = c9 .if1 .left in
     let b : Lists = lists (a .words .now) (a .names .now) in
     let st = starts _ 91 (c7 .match .keys1) refl in
-    let q = rw (c4 .len .given .1) at (number-is (a .text .now) _ (a .at + 1) _ (omega arith) (c6 .length-here .ensures)) in
-    let ready = ready-part (a .text .now) (a .at) (a .n) (a .m) b _ (c13 .pre .1 .ready) h (ap closes st) (q .1 .0) (q .1 .1) in
-    rw (whole (a .text .now)) (omega (arith, c13 .pre .0, q .1), ready)
+    let q = rw (c4 .len .given .1) at (length-is (a .text .now) (a .at) h st (a .strict) _ (c6 .length-here .ensures)) in
+    let ready = ready-part (a .text .now) (a .at) (a .n) (a .m) b _ (c13 .pre .1 .ready) h (ap closes st) (q .1 .1 .0) (q .1 .1 .1) in
+    rw (whole (a .text .now)) (omega (arith, c13 .pre .0, q .1 .1), ready)
 
 parse-one-put-array-requires : (t : ℕ) → parse-one-lts.Need-put-array-requires (parse-one-claims t) (parse-one-at t) parse-one.Post
 unfolding start inSingles singles inOthers others closes
@@ -486,44 +506,42 @@ parse-one-put-array-requires t c κs =
     let a = c19 .args in
     let st = starts _ 91 (c13 .match .keys1) refl in
     let two = room-two (a .text .now) (a .at) (a .n) (a .m) (lists (a .words .now) (a .names .now)) (c19 .pre .1 .ready) (c15 .if1 .left) (ap closes st) in
-    (omega (arith, two, i .kept .1 .1 .0), after-parsed _ _ _ _ _ _ (i .result) (i .ensures .bound))
+    (omega (arith, two, i .kept .1 .1 .1 .0), after-parsed _ _ _ _ _ _ (i .result) (i .ensures .bound))
 
 parse-one-parse-container-requires : (t : ℕ) → parse-one-lts.Need-parse-container-requires (parse-one-claims t) (parse-one-at t) parse-one.Post
-unfolding start inSingles singles inOthers others closes
 parse-one-parse-container-requires t c κs =
-    let c3 = c .before .before .before in
-    let c5 = c3 .before .before in
-    let c9 = c5 .before .before .before .before in
-    let p = c9 .pre .1 in
-    rw (whole (c9 .args .text .now)) (
-      omega (arith, c9 .pre .0),
-      record { ready = p .ready; at-byte = c5 .if1 .left; opens = starts _ 123 (c3 .match .keys2) refl },
+    let c2 = c .before .before in
+    let c4 = c2 .before .before in
+    let c5 = c4 .before in
+    let c8 = c5 .before .before .before in
+    let c12 = c8 .before .before .before .before in
+    let p = c12 .pre .1 in
+    let opens = opened-is _ (sym (c5 .opens-container .ensures) ∙ c4 .if2 .taken) in
+    rw (whole (c12 .args .text .now)) (
+      omega (arith, c12 .pre .0),
+      record { ready = p .ready; at-byte = c8 .if1 .left; opens = opens ∙ ap openContainer (sym (c2 .opened-container .ensures)) },
     )
 
-parse-one-parse-container-requires-2 : (t : ℕ) → parse-one-lts.Need-parse-container-requires-2 (parse-one-claims t) (parse-one-at t) parse-one.Post
-unfolding start inSingles singles inOthers others closes
-parse-one-parse-container-requires-2 t c κs =
-    let c3 = c .before .before .before in
-    let c5 = c3 .before .before in
-    let c9 = c5 .before .before .before .before in
-    let p = c9 .pre .1 in
-    rw (whole (c9 .args .text .now)) (
-      omega (arith, c9 .pre .0),
-      record { ready = p .ready; at-byte = c5 .if1 .left; opens = starts _ 40 (c3 .match .keys3) refl },
-    )
+parse-one-returns-2 : (t : ℕ) → parse-one-lts.Need-returns-2 (parse-one-claims t) (parse-one-at t) parse-one.Post
+parse-one-returns-2 t c =
+    let c4 = c .before .before .before .before in
+    let c17 = c4 .before .before .before .before .before .before .before .before .before .before .before .before .before in
+    rw (whole (c17 .args .text .now)) at (c4 .parse-container .ensures)
 
 parse-one-parse-simple-requires : (t : ℕ) → parse-one-lts.Need-parse-simple-requires (parse-one-claims t) (parse-one-at t) parse-one.Post
 parse-one-parse-simple-requires t c κs =
-    let c3 = c .before .before .before in
-    let c7 = c3 .before .before .before .before in
-    let p = c7 .pre .1 in
-    let r = c .before .match .rest in
-    let d = not-indirection _ (p .direct (c3 .if1 .left)) in
-    record { at-place = c3 .if1 .left; words-room = p .ready .words-room; plain = without-parts _ (((d, r .0 .0 .1), r .0 .1), r .1) }
+    let c2 = c .before .before in
+    let c3 = c2 .before in
+    let c5 = c3 .before .before in
+    let c9 = c5 .before .before .before .before in
+    let p = c9 .pre .1 in
+    let o = not-opened _ (sym (c2 .opens-container .ensures) ∙ c .before .if2 .left) in
+    let d = not-indirection _ (p .direct (c5 .if1 .left)) in
+    record { at-place = c5 .if1 .left; words-room = p .ready .words-room; plain = without-parts _ (((d, c3 .match .rest .1), o .0), o .1) }
 
-parse-one-returns-2 : (t : ℕ) → parse-one-lts.Need-returns-2 (parse-one-claims t) (parse-one-at t) parse-one.Post
+parse-one-returns-3 : (t : ℕ) → parse-one-lts.Need-returns-3 (parse-one-claims t) (parse-one-at t) parse-one.Post
 unfolding start inSingles singles inOthers others closes
-parse-one-returns-2 t c =
+parse-one-returns-3 t c =
     let c3 = c .before .before .before in
     let c4 = c3 .before in
     let c6 = c4 .before .before in
@@ -532,21 +550,21 @@ parse-one-returns-2 t c =
     let h = c6 .if1 .left in
     let b : Lists = lists (a .words .now) (a .names .now) in
     let st = starts _ 91 (c4 .match .keys1) refl in
-    let q = rw (c .before .why .given .1) at (number-is (a .text .now) _ (a .at + 1) _ (omega arith) (c3 .length-here .ensures)) in
-    reads-no-number (a .text .now) _ (a .n) (a .m) b _ _ h st (q .0) (q .1 .1)
+    let q = rw (c .before .why .given .1) at (length-is (a .text .now) (a .at) h st (a .strict) _ (c3 .length-here .ensures)) in
+    reads-no-number (a .strict) (a .text .now) _ (a .n) (a .m) b _ _ h (q .0) (q .1)
 
-parse-one-same-length : (t : ℕ) → parse-one-lts.Need-same-length (parse-one-claims t) (parse-one-at t) parse-one.Post
-parse-one-same-length t c =
+parse-one-same-length-3 : (t : ℕ) → parse-one-lts.Need-same-length-3 (parse-one-claims t) (parse-one-at t) parse-one.Post
+parse-one-same-length-3 t c =
     let c2 = c .before .before in
     let c8 = c2 .before .before .before .before .before .before in
-    c2 .put-array .kept .1 .1 .1 .1 .0 ∙ c8 .parse-inner .kept .1 .1 .0
+    c2 .put-array .kept .1 .1 .1 .1 .0 ∙ c8 .parse-inner .kept .1 .1 .1 .0
 
-parse-one-same-length-2 : (t : ℕ) → parse-one-lts.Need-same-length-2 (parse-one-claims t) (parse-one-at t) parse-one.Post
-parse-one-same-length-2 t c = c .before .before .before .before .before .before .before .before .parse-inner .kept .1 .1 .1 .1 .0
+parse-one-same-length-4 : (t : ℕ) → parse-one-lts.Need-same-length-4 (parse-one-claims t) (parse-one-at t) parse-one.Post
+parse-one-same-length-4 t c = c .before .before .before .before .before .before .before .before .parse-inner .kept .1 .1 .1 .1 .1 .0
 
-parse-one-returns-3 : (t : ℕ) → parse-one-lts.Need-returns-3 (parse-one-claims t) (parse-one-at t) parse-one.Post
+parse-one-returns-4 : (t : ℕ) → parse-one-lts.Need-returns-4 (parse-one-claims t) (parse-one-at t) parse-one.Post
 unfolding start inSingles singles inOthers others closes
-parse-one-returns-3 t c =
+parse-one-returns-4 t c =
     let c2 = c .before .before in
     let c8 = c2 .before .before .before .before .before .before in
     let c13 = c8 .before .before .before .before .before in
@@ -558,29 +576,18 @@ parse-one-returns-3 t c =
     let h = c18 .if1 .left in
     let b : Lists = lists (a .words .now) (a .names .now) in
     let st = starts _ 91 (c16 .match .keys1) refl in
-    let q = rw (c13 .len .given .1) at (number-is (a .text .now) _ (a .at + 1) _ (omega arith) (c15 .length-here .ensures)) in
+    let q = rw (c13 .len .given .1) at (length-is (a .text .now) (a .at) h st (a .strict) _ (c15 .length-here .ensures)) in
     let i = c8 .parse-inner in
-    let z : Lists = lists (i .last .1 .1 .0) (i .last .1 .1 .1 .1 .0) in
+    let z : Lists = lists (i .last .1 .1 .1 .0) (i .last .1 .1 .1 .1 .1 .0) in
     let d = c2 .put-array .ensures in
-    rw (d .0, d .1) (reads-item (a .text .now) _ (a .n) (a .m) _ _ h st (q .0) (q .1 .0) (q .1 .1) b z (i .result) (rw (whole (a .text .now)) at (i .ensures)))
-
-parse-one-returns-4 : (t : ℕ) → parse-one-lts.Need-returns-4 (parse-one-claims t) (parse-one-at t) parse-one.Post
-parse-one-returns-4 t c =
-    let c4 = c .before .before .before .before in
-    let c14 = c4 .before .before .before .before .before .before .before .before .before .before in
-    rw (whole (c14 .args .text .now)) at (c4 .parse-container .ensures)
+    rw (d .0, d .1) (reads-item (a .strict) (a .text .now) _ (a .n) (a .m) _ _ h st (q .0) (q .1 .0) (q .1 .1 .0) (q .1 .1 .1) b z (i .result)
+        (rw (whole (a .text .now)) at (i .ensures)))
 
 parse-one-returns-5 : (t : ℕ) → parse-one-lts.Need-returns-5 (parse-one-claims t) (parse-one-at t) parse-one.Post
 parse-one-returns-5 t c =
-    let c4 = c .before .before .before .before in
-    let c14 = c4 .before .before .before .before .before .before .before .before .before .before in
-    rw (whole (c14 .args .text .now)) at (c4 .parse-container2 .ensures)
-
-parse-one-returns-6 : (t : ℕ) → parse-one-lts.Need-returns-6 (parse-one-claims t) (parse-one-at t) parse-one.Post
-parse-one-returns-6 t c =
     let c2 = c .before .before in
-    let c6 = c2 .before .before .before .before in
-    reads-simple _ _ _ _ _ _ _ _ (c6 .if1 .left) (c2 .parse-simple .ensures)
+    let c8 = c2 .before .before .before .before .before .before in
+    reads-simple _ _ _ _ _ _ _ _ _ (c8 .if1 .left) (c2 .parse-simple .ensures)
 
 pub +parse-container+parse-inner+parse-one-spec : {M : Type 1} → statement M
 +parse-container+parse-inner+parse-one-spec =
@@ -597,7 +604,7 @@ pub +parse-container+parse-inner+parse-one-spec : {M : Type 1} → statement M
     (parse-container-sub-k t)
     (parse-container-add-k-2 t)
     (λ c κs. search needs)
-    (parse-container-add-t29 t)
+    (parse-container-add-t30 t)
     (parse-container-put-container-requires t)
     (λ c. search needs)
     (λ c. search needs)
@@ -611,7 +618,7 @@ pub +parse-container+parse-inner+parse-one-spec : {M : Type 1} → statement M
     (parse-container-loop-again t)
     (λ c κs. search needs)
     (parse-container-put-container-requires-2 t)
-    (λ c. search needs)
+    (parse-container-same-length-3 t)
     (parse-container-same-length-4 t)
     (parse-container-returns-2 t)
     (λ c. search needs)
@@ -641,24 +648,19 @@ pub +parse-container+parse-inner+parse-one-spec : {M : Type 1} → statement M
     (parse-one-add-parse-inner t)
     (parse-one-parse-inner-requires t)
     (parse-one-put-array-requires t)
+    (λ c κs. search needs)
     (λ c. search needs)
     (λ c. search needs)
     (λ c. search needs)
+    (λ c κs. search needs)
     (parse-one-parse-container-requires t)
     (λ c. search needs)
     (λ c. search needs)
-    (λ c. search needs)
-    (parse-one-parse-container-requires-2 t)
-    (parse-one-parse-simple-requires t)
     (parse-one-returns-2 t)
-    (parse-one-same-length t)
-    (parse-one-same-length-2 t)
+    (parse-one-parse-simple-requires t)
     (parse-one-returns-3 t)
-    (λ c. search needs)
-    (λ c. search needs)
+    (parse-one-same-length-3 t)
+    (parse-one-same-length-4 t)
     (parse-one-returns-4 t)
     (λ c. search needs)
-    (λ c. search needs)
     (parse-one-returns-5 t)
-    (λ c. search needs)
-    (parse-one-returns-6 t)

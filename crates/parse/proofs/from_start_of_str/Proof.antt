@@ -22,7 +22,7 @@ put-none-requires c κs =
     let c4 = c .before .before .before .before in
     let c10 = c4 .before .before .before .before .before .before in
     let r = rw (c4 .why2 .given .1) at (c10 .parse-encoding-or-none .ensures) in
-    omega (arith, r .words-room, c10 .parse-encoding-or-none .kept .1 .0)
+    omega (arith, r .words-room, c10 .parse-encoding-or-none .kept .1 .1 .0)
 
 sub-result-2 : tie.Need-sub-result-2
 sub-result-2 c =

@@ -34,7 +34,8 @@ returns-4 c =
     let a = c17 .args in
     let code = single-code _ _ (c8 .single-kind .ensures) (omega (arith, c7 .if5 .taken)) in
     let put = c4 .put-code .ensures in
-    one-code (a .text .now) (a .words .now) (a .names .now) (c8 .single-kind .result) (c10 .if4 .taken) (c12 .if2 .left) (c11 .if3 .left) code _ _ (put .0) (put .1)
+    one-code (a .strict) (a .text .now) (a .words .now) (a .names .now) (c8 .single-kind .result) (c10 .if4 .taken) (c12 .if2 .left) (c11 .if3 .left) code _ _
+        (put .0) (put .1)
 
 parse-inner-requires : tie.Need-parse-inner-requires
 parse-inner-requires c κs =
@@ -64,9 +65,10 @@ encoding-or-none-requires c κs =
     let clear = c15 .clear-sheet in
     let i = c6 .parse-inner in
     let T : List ℕ = a .text .now in
-    let z : Lists = lists (i .last .1 .1 .0) (i .last .1 .1 .1 .1 .0) in
+    let z : Lists = lists (i .last .1 .1 .1 .0) (i .last .1 .1 .1 .1 .1 .0) in
     joined-fits T (strip .result) (a .words .now) (clear .last .1 .0) (a .names .now) (clear .last .1 .1 .0) _ z (i .result) (c20 .if2 .left) (c19 .if3 .left)
-    (strip-place T _ (strip .ensures) .1) (clear .kept .1 .0) (i .kept .1 .1 .0) (clear .kept .1 .1 .0) (i .kept .1 .1 .1 .1 .0) ((rw (whole T) at (i .ensures)) .bound)
+    (strip-place T _ (strip .ensures) .1) (clear .kept .1 .0) (i .kept .1 .1 .1 .0) (clear .kept .1 .1 .0) (i .kept .1 .1 .1 .1 .1 .0)
+    ((rw (whole T) at (i .ensures)) .bound)
 
 returns-5 : tie.Need-returns-5
 returns-5 c =
@@ -81,11 +83,12 @@ returns-5 c =
     let a = c30 .args in
     let i = c11 .parse-inner in
     let T : List ℕ = a .text .now in
-    let z : Lists = lists (i .last .1 .1 .0) (i .last .1 .1 .1 .1 .0) in
+    let z : Lists = lists (i .last .1 .1 .1 .0) (i .last .1 .1 .1 .1 .1 .0) in
     let strip = strip-place T _ (c15 .strip-leading-qualifiers .ensures) in
     let clear = c20 .clear-sheet .ensures in
     let ends = c4 .encoding-or-none .ensures in
-    entered T (a .words .now) (a .names .now) (c15 .strip-leading-qualifiers .result) _ _ z (i .result) _ _ _ (c26 .if1 .left) (c25 .if2 .left) (c24 .if3 .left)
+    entered (a .strict) T (a .words .now) (a .names .now) (c15 .strip-leading-qualifiers .result) _ _ z (i .result) _ _ _ (c26 .if1 .left) (c25 .if2 .left)
+        (c24 .if3 .left)
     (strip .1) (strip .0) (clear .0) (clear .1) (rw (whole T) at (i .ensures)) (ends .0 .0) (ends .0 .1) (ends .1)
 
 pub parse-encoding-or-none-spec : {M : Type 1} → statement M
