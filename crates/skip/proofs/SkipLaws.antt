@@ -59,14 +59,14 @@ module _ (text : List ℕ) (at : ℕ) (h : at < length text) where
   tokened : (t : Token) → TokenIs text at t → Skips text at (tokenSkipped t)
   unfolding Begun
   tokened (T.Primitive p to) i = record { bound = i .bound; says = begun text at (Encoding to) h (λ g f. record { label = primitive p; children = end; is = i .says _ _ }) }
-  tokened (T.BitField n to) i = record { bound = i .bound; says = begun text at (Encoding to) h (λ g f. record { label = bitField n; children = end; is = i .says _ _ }) }
-  tokened (T.TypedBitField o p n to) i = record {
+  tokened (T.BitField n to d) i = record { bound = i .bound; says = begun text at (Encoding to) h (λ g f. record { label = bitField n; children = end; is = i .says _ _ }) }
+  tokened (T.TypedBitField o p n to d) i = record {
     bound = (omega (arith, i .bound .0), i .bound .1);
     says = begun text at (Encoding to) h (λ g f. record { label = typedBitField o n; children = node (primitive p) end end; is = i .says _ _ });
   }
   tokened (T.ArrayEnd to) i = record { bound = omega (arith, i .bound .0); says = begun text at (ArrayEnd to) h (λ g f. i .says _ _) }
   tokened (T.ContainerEnd k to) i = record { bound = omega (arith, i .bound .0); says = begun text at (ContainerEnd k to) h (λ g f. i .says _ _) }
-  tokened (T.Refused why to) i = record { bound = i .bound; says = begun text at (Refused why to) h (λ g f. i .says _ _) }
+  tokened (T.Refused why to d) i = record { bound = i .bound; says = begun text at (Refused why to) h (λ g f. i .says _ _) }
   tokened T.Parts i = absurd (i .bound)
   tokened T.End i = absurd (i .bound)
 
