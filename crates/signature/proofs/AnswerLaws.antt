@@ -12,6 +12,7 @@ use Rattle.kinds.proofs.ListLaws.{unread-end}
 use Rattle.kinds.specs.Sheet.{maxText}
 use Rattle.kinds.specs.declared.Refusal.{Refusal}
 use Rattle.kinds.specs.declared.Refusal.the-variants.{TextTooLong, ListTooShort, EmptySignature}
+use Rattle.numbers.specs.declared.Digits.{Digits}
 use Rattle.parse.specs.Answer.{padded, filled, unlessAway}
 use Rattle.signature.specs.Answer.{used, turnedAway, numbers, kept, reading, answerOr, signatureAnswer, signatureList}
 use Rattle.signature.specs.Reads.{EntryAt, addEntries, ReadTo, SomeRead, EntriesRead}
@@ -45,8 +46,8 @@ module _ (text before now : List ℕ) (at k : ℕ) (r : ReadTo text before now a
   read-length = ap length (r .stands) ∙ length-sets before 0 (numbers (r .read))
 
   -- The entry at the place, and what is read behind it.
-  pub read-more : (size number next : ℕ) (after : List ℕ) → EntryAt text at size number next → after ≡ sets now (3 * k) (at ∷ size ∷ number ∷ []) → ReadTo text before after next (k + 1)
-  read-more size number next after e w = record {
+  pub read-more : (size number next : ℕ) (digits : Digits) (after : List ℕ) → EntryAt text at size number next digits → after ≡ sets now (3 * k) (at ∷ size ∷ number ∷ []) → ReadTo text before after next (k + 1)
+  read-more size number next digits after e w = record {
     read = r .read ++ (entry at size number ∷ []);
     many = length-append (r .read) (entry at size number ∷ []) ∙ omega (arith, r .many);
     few = omega (arith, r .few, e .onward);

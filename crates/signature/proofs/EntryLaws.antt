@@ -1,5 +1,5 @@
 -- One entry of a signature: what reading gives at a place, from what is found there.
-use Prim.Native.Nat.{ℕ, suc, _-_, _≤_, _<_}
+use Prim.Native.Nat.{ℕ, suc, _+_, _-_, _≤_, _<_}
 use mathlib.Core.Path.{_≡_, refl, sym, ap, ap₂, _∙_}
 use mathlib.Core.Bool.{Bool, true, false, cond}
 use mathlib.Core.List.{List}
@@ -11,6 +11,8 @@ use Rattle.kinds.specs.Parse.{maxU32, value, noNumber, parseNumber, notEncoded,
 use Rattle.kinds.specs.declared.ErrorKind.{ErrorKind}
 use Rattle.kinds.specs.declared.Refusal.the-variants.{Parse, ExpectedOffset, OffsetTooLarge}
 use Rattle.parser.proofs.RestLaws.{place-of-drop}
+use Rattle.numbers.specs.Answer.{digitsOf}
+use Rattle.numbers.specs.declared.Digits.{Digits}
 use Rattle.numbers.proofs.NumberLaws.{value-shorter}
 use Rattle.skip.proofs.RestLaws.{EncodingPassed}
 use Rattle.signature.specs.Signature.{entry, refused, typeFromStart, Offset, noOffset, limited, parseOffset, addEntry, numberThen, typeThen, signatureFrom}
@@ -31,14 +33,16 @@ digit-end text at h = ap startsDigit (unread-end text at h)
 -- ---- The number behind a type.
 
 module _ (text : List ℕ) (at : ℕ) (inside : at ≤ length text) where
-  pub number-read : (start v to : ℕ) → to ≤ length text → parseNumber maxU32 (drop at text) ≡ value v (drop to text) → NumberIs text start at (N.Entry (at - start) v to)
+  pub number-read : (start v to : ℕ) (d : Digits) → to ≤ length text → parseNumber maxU32 (drop at text) ≡ value v (drop to text) → d ≡ digitsOf (drop at text)
+      → NumberIs text start at (N.Entry (at - start) v to d)
   unfolding parseOffset limited
-  number-read start v to l e = (
+  number-read start v to d l e shown = (
     refl,
     record {
       is = ap (limited (length text) (startsDigit (drop at text))) e;
       onward = omega (arith, value-shorter maxU32 (drop at text) v (drop to text) e, length-drop at text, length-drop to text);
       within = l;
+      shown = shown;
     },
   )
 
@@ -95,7 +99,7 @@ module _ (text : List ℕ) (at : ℕ) (h : at < length text) where
 
     entry-next : (r : Next) → NumberIs text at to r → NextIs text at r
     unfolding numberThen
-    entry-next (N.Entry size v next) n =
+    entry-next (N.Entry size v next d) n =
         let l = p .onward h in
         let w = p .within in
         let o = n .1 in
@@ -103,10 +107,12 @@ module _ (text : List ℕ) (at : ℕ) (h : at < length text) where
         let b = length-drop to text in
         let begin : length text - length (drop at text) ≡ at = omega arith in
         let long : length (drop at text) - length (drop to text) ≡ size = omega (arith, n .0) in
+        let behind : to ≡ at + size = omega (arith, n .0) in
         record {
           onward = omega (arith, o .onward);
           within = o .within;
           says = λ f. goes-on f _ (o .is) ∙ ap₂ (λ (x y : ℕ). addEntry (entry x y v) (signatureFrom f (length text) (drop next text))) begin long;
+          shown = o .shown ∙ ap (λ (k : ℕ). digitsOf (drop k text)) behind;
         }
     entry-next (N.Refused why) n = λ f. goes-on f _ n
 

@@ -7,6 +7,8 @@ use lib.ListN.{length, drop}
 use lib.Seq.{sets}
 use Rattle.kinds.specs.Parse.{unknownDigit}
 use Rattle.kinds.specs.declared.ErrorKind.{ErrorKind}
+use Rattle.numbers.specs.Answer.{digitsOf}
+use Rattle.numbers.specs.declared.Digits.{Digits}
 use Rattle.signature.specs.Answer.{numbers}
 use Rattle.signature.specs.Signature.{Entry, entry, Signature, entries, refused, addEntry, Offset, offset, noOffset, parseOffset, signatureFrom}
 use Rattle.signature.specs.declared.Next.{Next}
@@ -18,25 +20,27 @@ use Rattle.signature.specs.declared.SignatureReading.the-variants as S
 abbrev pub ownPlace : ErrorKind → ℕ → ℕ
 ownPlace why to = cond (unknownDigit why) (to - 1) to
 
--- The number behind a type that ends at `at`, and the place after it.
-pub record OffsetAt (text : List ℕ) (at number next : ℕ) (q : Offset) : Type 0 where
+-- The number behind a type that ends at `at`, the place after it, and what its digits show.
+pub record OffsetAt (text : List ℕ) (at number next : ℕ) (digits : Digits) (q : Offset) : Type 0 where
   pub is : q ≡ offset number (drop next text)
   pub onward : at < next
   pub within : next ≤ length text
+  pub shown : digits ≡ digitsOf (drop at text)
 
 abbrev pub NumberIs : List ℕ → ℕ → ℕ → Next → Type 0
-NumberIs text start at (N.Entry size number next) = (size ≡ at - start) × OffsetAt text at number next (parseOffset (length text) (drop at text))
+NumberIs text start at (N.Entry size number next digits) = (size ≡ at - start) × OffsetAt text at number next digits (parseOffset (length text) (drop at text))
 NumberIs text start at (N.Refused why) = parseOffset (length text) (drop at text) ≡ noOffset why
 
--- An entry of two bytes at least begins at a place.
-pub record EntryAt (text : List ℕ) (at size number next : ℕ) : Type 0 where
+-- An entry of two bytes at least begins at a place; its number stands after its type.
+pub record EntryAt (text : List ℕ) (at size number next : ℕ) (digits : Digits) : Type 0 where
   pub onward : at + 2 ≤ next
   pub within : next ≤ length text
   pub says : (f : ℕ) → signatureFrom (suc f) (length text) (drop at text) ≡ addEntry (entry at size number) (signatureFrom f (length text) (drop next text))
+  pub shown : digits ≡ digitsOf (drop (at + size) text)
 
 -- Reading a signature goes on with an entry, or is refused, whatever the fuel.
 abbrev pub NextIs : List ℕ → ℕ → Next → Type 0
-NextIs text at (N.Entry size number next) = EntryAt text at size number next
+NextIs text at (N.Entry size number next digits) = EntryAt text at size number next digits
 NextIs text at (N.Refused why) = (f : ℕ) → signatureFrom (suc f) (length text) (drop at text) ≡ refused why
 
 -- The entries before those of a signature, where it is not refused.

@@ -1,6 +1,6 @@
 use mathlib.Core.Path.{sym, _∙_}
 use Rattle.kinds.specs.Parse.{maxU32}
-use Rattle.numbers.proofs.NumberLaws.{number-is}
+use Rattle.numbers.proofs.NumberLaws.{number-is, number-digits}
 use Rattle.signature.proofs.EntryLaws.{number-read, number-large, number-missing}
 use borrow.Author.Needs.{needs}
 use Rattle.signature.proofs.next_number.Statement.{statement}
@@ -12,7 +12,8 @@ returns c =
     let n = c3 in
     let p = n .before .before in
     let r = rw (c .before .number .given .1) at (number-is (p .args .text .now) maxU32 (p .args .at) _ (p .pre .1) (n .parse-u32 .ensures)) in
-    number-read _ _ (p .pre .1) _ _ _ (r .1 .1) (r .0)
+    let d = rw (c .before .number .given .1) at (number-digits (p .args .text .now) maxU32 (p .args .at) _ (n .parse-u32 .ensures)) in
+    number-read _ _ (p .pre .1) _ _ _ _ (r .1 .1) (r .0) d
 
 returns-2 : tie.Need-returns-2
 returns-2 c =

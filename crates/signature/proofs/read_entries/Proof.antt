@@ -62,7 +62,7 @@ loop-again c =
     let n = c7 in
     let l = n .before .before .loop in
     let e = rw (c5 .size .given .1) at (n .next-entry .ensures) in
-    read-more _ _ _ _ _ (l .inv) _ _ _ _ e (c2 .put-entry .ensures)
+    read-more _ _ _ _ _ (l .inv) _ _ _ _ _ e (c2 .put-entry .ensures)
 
 same-length-2 : tie.Need-same-length-2 Inv-loop μ-loop
 same-length-2 c = read-length _ _ _ _ _ (c .before .loop .inv)
