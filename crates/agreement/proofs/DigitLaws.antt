@@ -23,11 +23,11 @@ digits-more : (n d : ℕ) (s : List ℕ) → d < 10 → moreDigits n ((byte "0" 
 unfolding moreDigits
 digits-more n d s h = rw (digit-byte d h, moreDigits) (ap (λ x. moreDigits (n * 10 + x) s) (omega arith))
 
-last-digit : (f n : ℕ) (acc : List ℕ) → n < 10 → digits (suc f) n acc ≡ (byte "0" + n) ∷ acc
+pub last-digit : (f n : ℕ) (acc : List ℕ) → n < 10 → digits (suc f) n acc ≡ (byte "0" + n) ∷ acc
 unfolding digits
 last-digit f n acc h = rw (lt-ltb n 10 h, digits)
 
-one-digit : (f n : ℕ) (acc : List ℕ) → 10 ≤ n → digits (suc f) n acc ≡ digits f (n / 10) ((byte "0" + n % 10) ∷ acc)
+pub one-digit : (f n : ℕ) (acc : List ℕ) → 10 ≤ n → digits (suc f) n acc ≡ digits f (n / 10) ((byte "0" + n % 10) ∷ acc)
 unfolding digits
 one-digit f n acc h = rw (le-ltb n 10 h, digits)
 

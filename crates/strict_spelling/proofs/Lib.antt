@@ -1,0 +1,3 @@
+-- One spelling for registration, and below it the laws that it rests on.
+pub mod Spelling
+pub mod SpellingLaws

@@ -1,0 +1,2 @@
+-- What one spelling for registration is stated with.
+pub mod Spelling
