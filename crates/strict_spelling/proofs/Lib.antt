@@ -1,3 +1,4 @@
 -- One spelling for registration, and below it the laws that it rests on.
 pub mod Spelling
+pub mod SpelledReading
 pub mod SpellingLaws

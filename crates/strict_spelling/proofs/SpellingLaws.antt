@@ -37,20 +37,20 @@ pub record Written (s x t : List ℕ) : Type 0 where
   pub text : short s ≡ x ++ short t
   pub clean : unquoted s ≡ true → unquoted t ≡ true
 
-at-once : (s : List ℕ) → Written s [] s
+pub at-once : (s : List ℕ) → Written s [] s
 at-once s = record { text = refl; clean = λ h. h }
 
-_then_ : {s x t y u : List ℕ} → Written s x t → Written t y u → Written s (x ++ y) u
+pub _then_ : {s x t y u : List ℕ} → Written s x t → Written t y u → Written s (x ++ y) u
 _then_ {s} {x} {t} {y} {u} a b = record { text = a .text ∙ ap (λ z. x ++ z) (b .text) ∙ sym (append-assoc x y (short u)); clean = λ h. b .clean (a .clean h) }
 
-respelled : {s x y t : List ℕ} → x ≡ y → Written s x t → Written s y t
+pub respelled : {s x y t : List ℕ} → x ≡ y → Written s x t → Written s y t
 respelled {s} {x} {y} {t} e w = subst (λ z. Written s z t) e w
 
 neither : (a b : Bool) → not (a || b) ≡ true → not b ≡ true
 neither true b h = absurd (false≢true h)
 neither false b h = h
 
-unquoted-later : (b : ℕ) (s : List ℕ) → unquoted (b ∷ s) ≡ true → unquoted s ≡ true
+pub unquoted-later : (b : ℕ) (s : List ℕ) → unquoted (b ∷ s) ≡ true → unquoted s ≡ true
 unfolding unquoted among
 unquoted-later b s h = neither (eqb (byte "\"") b) (among (byte "\"") s) h
 
@@ -58,11 +58,11 @@ short-later : (b : ℕ) (s : List ℕ) → eqb b (byte "=") ≡ false → short 
 unfolding short
 short-later b s e = rw (e, short)
 
-one-byte : (b : ℕ) (s : List ℕ) → eqb b (byte "=") ≡ false → Written (b ∷ s) (b ∷ []) s
+pub one-byte : (b : ℕ) (s : List ℕ) → eqb b (byte "=") ≡ false → Written (b ∷ s) (b ∷ []) s
 one-byte b s e = record { text = short-later b s e; clean = unquoted-later b s }
 
 -- Bytes of which none is `=`.
-all-bytes : (x t : List ℕ) → lacks (byte "=") x ≡ true → Written (x ++ t) x t
+pub all-bytes : (x t : List ℕ) → lacks (byte "=") x ≡ true → Written (x ++ t) x t
 unfolding lacks
 all-bytes [] t h = at-once t
 all-bytes (b ∷ x) t h =
@@ -140,7 +140,7 @@ more-say (b ∷ s) n h = go (isDigit b) refl (λ m i. more-say s m i)
     go true e rec = rw (digit-read n b e s) (digit-more n b s (moreDigits (n * 10 + (b - byte "0")) s) h e (rec (n * 10 + (b - byte "0")) (omega arith)))
     go false e rec = rw (e, moreDigits) ([], sym (append-nil (decimal n)), at-once (b ∷ s))
 
-abbrev NumberSays : List ℕ → Number → Type 0
+abbrev pub NumberSays : List ℕ → Number → Type 0
 NumberSays s (value n t) = Written s (decimal n) t
 NumberSays s (noNumber e t) = Unit {0}
 
@@ -192,11 +192,11 @@ number-says limit (b ∷ s) h = go (isDigit b) refl
 -- ---- Names.
 
 -- The name `m` goes up to `=`, or up to the closer, which is left.
-data NameEnd (k : ContainerKind) (s m t : List ℕ) : Type 0 where
+pub data NameEnd (k : ContainerKind) (s m t : List ℕ) : Type 0 where
   by-equals : s ≡ m ++ (byte "=" ∷ t) → NameEnd k s m t
   by-closer : (u : List ℕ) → t ≡ endByte k ∷ u → s ≡ m ++ t → NameEnd k s m t
 
-abbrev NameSays : ContainerKind → List ℕ → Named → Type 0
+abbrev pub NameSays : ContainerKind → List ℕ → Named → Type 0
 NameSays k s (named m t) = (verifyName m ≡ true) × NameEnd k s m t
 NameSays k s (unnamed e t) = Unit {0}
 
@@ -208,7 +208,7 @@ checked-says k s m here next h = go (verifyName m) refl
     go true e = rw (e, checkName) (e, h)
     go false e = rw (e, checkName) tt
 
-name-says : (k : ContainerKind) (s m : List ℕ) → NameSays k (m ++ s) (parseName k m s)
+pub name-says : (k : ContainerKind) (s m : List ℕ) → NameSays k (m ++ s) (parseName k m s)
 unfolding parseName
 name-says k [] m = tt
 name-says k (b ∷ s) m = go (eqb b (byte "=")) refl (eqb b (endByte k)) refl (name-says k s (m ++ (b ∷ [])))
@@ -222,11 +222,11 @@ name-says k (b ∷ s) m = go (eqb b (byte "=")) refl (eqb b (endByte k)) refl (n
 -- ---- What a byte begins.
 
 -- It is neither `=` nor a container's closer.
-abbrev Plain : ℕ → Type 0
+abbrev pub Plain : ℕ → Type 0
 Plain b = (eqb b (byte "=") ≡ false) × (among b (bytes "})") ≡ false)
 
 -- Which byte it is.
-abbrev Begins : ℕ → Start → Type 0
+abbrev pub Begins : ℕ → Start → Type 0
 Begins b (single p) = (code p ≡ b ∷ []) × Plain b
 Begins b complex = b ≡ byte "j"
 Begins b object = b ≡ byte "@"
@@ -278,12 +278,12 @@ all-singles =
     also (refl, (refl, refl)) also (refl, (refl, refl)) also (refl, (refl, refl)) also (refl, (refl, refl)) also (refl, (refl, refl))
     also (refl, (refl, refl)) also (refl, (refl, refl)) also (refl, (refl, refl)) also (refl, (refl, refl)) also tt
 
-begins : (b : ℕ) → Begins b (start b)
+pub begins : (b : ℕ) → Begins b (start b)
 unfolding start
 begins b = in-singles b singles all-singles (in-others b others all-others)
 
 -- The type of a bitfield is one byte.
-integral-code : (b : ℕ) → integral b ≡ true → (code (singleKind (start b)) ≡ b ∷ []) × (eqb b (byte "=") ≡ false)
+pub integral-code : (b : ℕ) → integral b ≡ true → (code (singleKind (start b)) ≡ b ∷ []) × (eqb b (byte "=") ≡ false)
 unfolding integral start singles inSingles singleKind code codes
 integral-code b h = each (λ c. (code (singleKind (start c)) ≡ c ∷ []) × (eqb c (byte "=") ≡ false)) (bytes "csilqCSILQB")
     ((refl, refl) also (refl, refl) also (refl, refl) also (refl, refl) also (refl, refl) also (refl, refl)

@@ -1,0 +1,219 @@
+-- What is read strictly, in its short spelling, is the text of what it gives: over the cycle of reading, and for whole texts.
+use Prim.Native.Nat.{ℕ, zero, suc, _+_, _≤_}
+use native.Mathlib.Omega.{arith}
+use mathlib.Core.Path.{_≡_, refl, sym, ap, subst, _∙_}
+use mathlib.Core.List.{List, [], _∷_, _++_, append-assoc, append-nil}
+use mathlib.Core.Bool.{Bool, true, false, cond, not, _&&_, _||_, false≢true, true≢false}
+use mathlib.Core.Option.{Option, some, none}
+use lib.Dec.{leb, eqb}
+use lib.ListN.{length}
+use borrow.Author.Tests.{eqb-true, eq-eqb}
+use Rattle.kinds.specs.Byte.{byte, bytes, among, isDigit}
+use Rattle.kinds.specs.Container.{startByte, endByte, sameContainer}
+use Rattle.kinds.specs.Parse.{container, maxU64, maxU8, Number, value, noNumber, parseNumber, Parsed, empty, encoding, containerEnd, arrayEnd, refused, Items, items}
+use Rattle.kinds.specs.Parse.{itemsRefused, Start, single, complex, object, bits, indirection, openArray, closeArray, openContainer, closeContainer, nothing, start, leaf, parseComplex}
+use Rattle.kinds.specs.Parse.{parseObject, integral, singleKind, typed, untyped, parseBitField, parseBits, Named, named, unnamed, parseName, held, closeItem, item, contained, addItem}
+use Rattle.kinds.specs.Parse.{begin, nextItem, parseInner, parseItems, parse, stripLeadingQualifiers, encodingOrNone, parseEncodingOrNone, Whole, tree, whole, fromStr}
+use Rattle.kinds.specs.Primitive.{codes, code}
+use Rattle.kinds.specs.Print.{decimal, printNode}
+use Rattle.kinds.specs.Strict.{surplusZero, typedNumber, bitsNumbers, numbersOf, numbersInside, numbersAfter, innerNumbers, itemsNumbers, numbers, numbersMet, firstSurplus, unlessSurplus}
+use Rattle.kinds.specs.Strict.{fromStrStrict}
+use Rattle.kinds.specs.Tree as T
+use Rattle.kinds.specs.Tree.{Label, Trees, end, node, primitive, bitField, typedBitField, array, isEnd}
+use Rattle.kinds.specs.declared.ContainerKind.{ContainerKind}
+use Rattle.kinds.specs.declared.ContainerKind.the-variants.{Struct, Union}
+use Rattle.kinds.proofs.TableLaws.{both}
+use Rattle.agreement.proofs.ReadLaws.{Well, well}
+use Rattle.agreement.proofs.RoundTrip.{lacks-equals, body, container-text, isEnd-end}
+use Rattle.strict_spelling.specs.Spelling.{closesContainer, short, levelBy, spelled, unquoted, Registers}
+use Rattle.strict_spelling.proofs.SpellingLaws.{Written, at-once, _then_, respelled, one-byte, all-bytes, unquoted-later, NumberSays, number-says, NameEnd, by-equals, by-closer}
+use Rattle.strict_spelling.proofs.SpellingLaws.{NameSays, name-says, Begins, begins, integral-code}
+
+-- ---- Numbers without a surplus zero.
+
+abbrev Strict : List (List ℕ) → Type 0
+Strict ss = firstSurplus ss ≡ none
+
+strict-first : (s : List ℕ) (ss : List (List ℕ)) → Strict (s ∷ ss) → (surplusZero s ≡ false) × Strict ss
+unfolding firstSurplus
+strict-first s ss h = go (surplusZero s) refl h
+  where
+    go : (t : Bool) → surplusZero s ≡ t → cond t (some s) (firstSurplus ss) ≡ none → (surplusZero s ≡ false) × Strict ss
+    go true e i = let z : _≡_ {A = ℕ} 0 1 = cc in absurd (omega arith)
+    go false e i = (e, i)
+
+strict-parts : (ss ts : List (List ℕ)) → Strict (ss ++ ts) → Strict ss × Strict ts
+unfolding firstSurplus
+strict-parts [] ts h = (refl, h)
+strict-parts (s ∷ ss) ts h =
+    let i = strict-first s (ss ++ ts) h in
+    let j = strict-parts ss ts (i .1) in
+    (rw (i .0, firstSurplus) (j .0), j .1)
+
+-- ---- What reading says of the text that it was given.
+
+-- The text of one tree.
+abbrev Text : Label → Trees → List ℕ
+Text l cs = printNode l (levelBy cs) (spelled cs)
+
+-- A type does not begin with a container's closer.
+abbrev Says : List ℕ → Parsed → Type 0
+Says s empty = Unit {0}
+Says s (encoding l cs t) = Written s (Text l cs) t × (closesContainer s ≡ false)
+Says s (containerEnd k t) = s ≡ endByte k ∷ t
+Says s (arrayEnd t) = s ≡ byte "]" ∷ t
+Says s (refused e t) = Unit {0}
+
+-- Items begin with the closer exactly if there are none.
+abbrev ItemsSay : ContainerKind → List ℕ → Items → Type 0
+ItemsSay k s (items ts t) = Written s (spelled ts ++ (endByte k ∷ [])) t × (closesContainer s ≡ isEnd ts)
+ItemsSay k s (itemsRefused e t) = Unit {0}
+
+spelled-one : (l : Label) (cs : Trees) → Text l cs ≡ spelled (node l cs end)
+unfolding spelled
+spelled-one l cs = sym (append-nil (Text l cs))
+
+-- ---- Leaves.
+
+single-says : (b p : ℕ) (s : List ℕ) → Begins b (single p) → Says (b ∷ s) (leaf (primitive p) s)
+unfolding leaf printNode closesContainer
+single-says b p s h = (respelled (sym (h .0)) (one-byte b s (h .1 .0)), h .1 .1)
+
+two-bytes : (a b c : ℕ) (s : List ℕ) → eqb a (byte "=") ≡ false → eqb b (byte "=") ≡ false → eqb c b ≡ true → Written (a ∷ c ∷ s) (a ∷ b ∷ []) s
+two-bytes a b c s e f h = subst (λ x. Written (a ∷ x ∷ s) (a ∷ b ∷ []) s) (sym (eqb-true c b h)) (one-byte a (b ∷ s) e then one-byte b s f)
+
+complex-says : (s : List ℕ) → Says (byte "j" ∷ s) (parseComplex s)
+unfolding parseComplex leaf printNode code codes closesContainer among
+complex-says [] = tt
+complex-says (c ∷ s) = go (eqb c (byte "f")) refl (eqb c (byte "d")) refl (eqb c (byte "D")) refl
+  where
+    go : (x : Bool) → eqb c (byte "f") ≡ x → (y : Bool) → eqb c (byte "d") ≡ y → (z : Bool) → eqb c (byte "D") ≡ z → Says (byte "j" ∷ c ∷ s) (parseComplex (c ∷ s))
+    go true e y f z g = rw (e, parseComplex) (two-bytes (byte "j") (byte "f") c s refl refl e, refl)
+    go false e true f z g = rw (e, parseComplex) (rw f (two-bytes (byte "j") (byte "d") c s refl refl f, refl))
+    go false e false f true g = rw (e, parseComplex) (rw f (rw g (two-bytes (byte "j") (byte "D") c s refl refl g, refl)))
+    go false e false f false g = rw (e, parseComplex) (rw f (rw g tt))
+
+quoted : (b : ℕ) (s : List ℕ) → eqb b (byte "\"") ≡ true → unquoted (b ∷ s) ≡ false
+unfolding unquoted among
+quoted b s e = rw (eqb-true b (byte "\"") e)
+
+object-says : (s : List ℕ) → unquoted s ≡ true → Says (byte "@" ∷ s) (parseObject s)
+unfolding parseObject leaf printNode code codes closesContainer among
+object-says [] u = (one-byte (byte "@") [] refl, refl)
+object-says (b ∷ s) u = go (eqb b (byte "?")) refl (eqb b (byte "\"")) refl
+  where
+    go : (x : Bool) → eqb b (byte "?") ≡ x → (y : Bool) → eqb b (byte "\"") ≡ y → Says (byte "@" ∷ b ∷ s) (parseObject (b ∷ s))
+    go true e y f = rw (e, parseObject) (two-bytes (byte "@") (byte "?") b s refl refl e, refl)
+    go false e true f = absurd (false≢true (sym (quoted b s f) ∙ u))
+    go false e false f = rw (e, parseObject) (rw f (one-byte (byte "@") (b ∷ s) refl, refl))
+
+-- ---- Bitfields.
+
+module _ (s : List ℕ) (n : ℕ) where
+  untyped-says : (t : List ℕ) → Written s (decimal n) t → Says (byte "b" ∷ s) (untyped n t)
+  unfolding untyped leaf printNode closesContainer among
+  untyped-says t w = go (leb n maxU8) refl
+    where
+      go : (x : Bool) → leb n maxU8 ≡ x → Says (byte "b" ∷ s) (untyped n t)
+      go true e = rw (e, untyped) (one-byte (byte "b") s refl then w, refl)
+      go false e = rw (e, untyped) tt
+
+  typed-says : (b : ℕ) (t : List ℕ) → Written s (decimal n) (b ∷ t) → integral b ≡ true → (q : Number) → NumberSays t q → Says (byte "b" ∷ s) (typed n (singleKind (start b)) q)
+  unfolding typed printNode spelled closesContainer among
+  typed-says b t w i (value m u) v =
+      let c = integral-code b i in
+      let type : b ∷ [] ≡ code (singleKind (start b)) ++ [] = sym (c .0) ∙ sym (append-nil (code (singleKind (start b)))) in
+      (one-byte (byte "b") s refl then w then respelled type (one-byte b t (c .1)) then v, refl)
+  typed-says b t w i (noNumber e u) v = tt
+
+  field-says : (t : List ℕ) → Written s (decimal n) t → Strict (typedNumber t) → Says (byte "b" ∷ s) (parseBitField n t)
+  unfolding parseBitField typedNumber
+  field-says [] w h = untyped-says [] w
+  field-says (b ∷ []) w h = untyped-says (b ∷ []) w
+  field-says (b ∷ c ∷ t) w h = go (integral b && isDigit c) refl h
+    where
+      go : (x : Bool) → (integral b && isDigit c) ≡ x → Strict (cond x ((c ∷ t) ∷ []) []) → Says (byte "b" ∷ s) (parseBitField n (b ∷ c ∷ t))
+      go true e i =
+          rw (e, parseBitField)
+          (typed-says b (c ∷ t) w (both (integral b) (isDigit c) e .0) (parseNumber maxU8 (c ∷ t)) (number-says maxU8 (c ∷ t) (strict-first (c ∷ t) [] i .0)))
+      go false e i = rw (e, parseBitField) (untyped-says (b ∷ c ∷ t) w)
+
+bits-say : (s : List ℕ) (q : Number) → NumberSays s q → Strict (elim q [ value n t ↦ typedNumber t | noNumber e t ↦ [] ]) → Says (byte "b" ∷ s) (parseBits q)
+unfolding parseBits
+bits-say s (value n t) w h = field-says s n t w h
+bits-say s (noNumber e t) w h = tt
+
+-- ---- What holds others.
+
+module _ (b : ℕ) (s : List ℕ) (l : Label) (h : Begins b (indirection l)) where
+  bare-says : Says (b ∷ s) (encoding l (node T.none end end) s)
+  unfolding spelled printNode closesContainer
+  bare-says = (respelled (sym (h .0 (node T.none end end))) (one-byte b s (h .1 .0)), h .1 .1)
+
+  held-says : (q : Parsed) → Says s q → Says (b ∷ s) (held l s q)
+  unfolding held closesContainer
+  held-says empty r = bare-says
+  held-says (encoding m ds t) r =
+      (respelled (sym (h .0 (node m ds end))) (one-byte b s (h .1 .0) then respelled (spelled-one m ds) (r .0)), h .1 .1)
+  held-says (containerEnd k t) r = bare-says
+  held-says (arrayEnd t) r = bare-says
+  held-says (refused e t) r = tt
+
+module _ (n : ℕ) (s t : List ℕ) (w : Written s (decimal n) t) where
+  close-says : (m : Label) (ds : Trees) (u : List ℕ) → Written t (Text m ds) u → Says (byte "[" ∷ s) (closeItem n m ds u)
+  unfolding closeItem printNode closesContainer among
+  close-says m ds [] v = tt
+  close-says m ds (c ∷ u) v = go (eqb c (byte "]")) refl
+    where
+      go : (x : Bool) → eqb c (byte "]") ≡ x → Says (byte "[" ∷ s) (closeItem n m ds (c ∷ u))
+      go true e =
+          let closer : Written (c ∷ u) (bytes "]") u = subst (λ x. Written (x ∷ u) (bytes "]") u) (sym (eqb-true c (byte "]") e)) (one-byte (byte "]") u refl) in
+          rw (e, closeItem) (one-byte (byte "[") s refl then w then respelled (spelled-one m ds) v then closer, refl)
+      go false e = rw (e, closeItem) tt
+
+  item-says : (q : Parsed) → Says t q → Says (byte "[" ∷ s) (item n q)
+  unfolding item printNode spelled closesContainer among
+  item-says empty r = tt
+  item-says (encoding m ds u) r = close-says m ds u (r .0)
+  item-says (containerEnd k u) r = tt
+  item-says (arrayEnd u) r = (one-byte (byte "[") s refl then w then subst (λ x. Written x (bytes "]") u) (sym r) (one-byte (byte "]") u refl), refl)
+  item-says (refused e u) r = tt
+
+closer-byte : (k : ContainerKind) (u : List ℕ) → (eqb (endByte k) (byte "=") ≡ false) × (closesContainer (endByte k ∷ u) ≡ true)
+unfolding closesContainer among
+closer-byte Struct u = (refl, refl)
+closer-byte Union u = (refl, refl)
+
+opener-byte : (k : ContainerKind) (u : List ℕ) → (eqb (startByte k) (byte "=") ≡ false) × (closesContainer (startByte k ∷ u) ≡ false)
+unfolding closesContainer among
+opener-byte Struct u = (refl, refl)
+opener-byte Union u = (refl, refl)
+
+module _ (k : ContainerKind) (t : List ℕ) (u : List ℕ) where
+  -- `=` falls away exactly where no fields follow it.
+  fields-written : (ts : Trees) → Written t (spelled ts ++ (endByte k ∷ [])) u → closesContainer t ≡ isEnd ts → Written (byte "=" ∷ t) (body k (levelBy ts) (spelled ts) []) u
+  unfolding short spelled levelBy body isEnd
+  fields-written end w c = record { text = rw (c, short) (w .text); clean = λ h. w .clean (unquoted-later (byte "=") t h) }
+  fields-written (node l cs ts) w c = record { text = rw (c, short) (ap (λ x. byte "=" ∷ x) (w .text)); clean = λ h. w .clean (unquoted-later (byte "=") t h) }
+
+  -- No fields follow the closer.
+  closer-written : (ts : Trees) → Written t (spelled ts ++ (endByte k ∷ [])) u → isEnd ts ≡ true → Written t (body k (levelBy ts) (spelled ts) []) u
+  unfolding spelled levelBy body isEnd
+  closer-written end w c = w
+  closer-written (node l cs ts) w c = absurd (false≢true c)
+
+module _ (k : ContainerKind) (s : List ℕ) where
+  rest-written : (m t u : List ℕ) (ts : Trees) → NameSays k s (named m t) → ItemsSay k t (items ts u) → Written s (m ++ body k (levelBy ts) (spelled ts) []) u
+  rest-written m t u ts (g, by-equals e) (w, c) =
+      subst (λ x. Written x (m ++ body k (levelBy ts) (spelled ts) []) u) (sym e) (all-bytes m (byte "=" ∷ t) (lacks-equals m g) then fields-written k t u ts w c)
+  rest-written m t u ts (g, by-closer v f e) (w, c) =
+      subst (λ x. Written x (m ++ body k (levelBy ts) (spelled ts) []) u) (sym e)
+      (all-bytes m t (lacks-equals m g) then closer-written k t u ts w (sym c ∙ ap closesContainer f ∙ closer-byte k v .1))
+
+  contained-says : (m t : List ℕ) → NameSays k s (named m t) → (q : Items) → ItemsSay k t q → Says (startByte k ∷ s) (contained k m q)
+  unfolding contained
+  contained-says m t g (items ts u) r =
+      let whole-text : startByte k ∷ (m ++ body k (levelBy ts) (spelled ts) []) ≡ Text (container k m) ts
+            = sym (container-text k (levelBy ts) m (spelled ts) []) ∙ append-nil (Text (container k m) ts) in
+      (respelled whole-text (one-byte (startByte k) s (opener-byte k s .0) then rest-written m t u ts g r), opener-byte k s .1)
+  contained-says m t g (itemsRefused e u) r = tt
