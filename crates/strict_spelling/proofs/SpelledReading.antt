@@ -217,3 +217,119 @@ module _ (k : ContainerKind) (s : List ℕ) where
             = sym (container-text k (levelBy ts) m (spelled ts) []) ∙ append-nil (Text (container k m) ts) in
       (respelled whole-text (one-byte (startByte k) s (opener-byte k s .0) then rest-written m t u ts g r), opener-byte k s .1)
   contained-says m t g (itemsRefused e u) r = tt
+
+-- ---- The cycle.
+
+-- What readers of types and of items say of the texts in which they meet no surplus zero.
+module _ (s : List ℕ) (u : unquoted s ≡ true) (inner : List ℕ → Parsed) (fields : ContainerKind → List ℕ → Items)
+    (met : List ℕ → List (List ℕ)) (fieldsMet : ContainerKind → List ℕ → List (List ℕ))
+    (types : (t : List ℕ) → Strict (met t) → unquoted t ≡ true → Says t (inner t))
+    (within : (k : ContainerKind) (t : List ℕ) → Strict (fieldsMet k t) → unquoted t ≡ true → ItemsSay k t (fields k t)) where
+  array-says : (q : Number) → NumberSays s q → Strict (elim q [ value n t ↦ met t | noNumber e t ↦ [] ])
+      → Says (byte "[" ∷ s) (elim q [ value n t ↦ item n (inner t) | noNumber e t ↦ refused e t ])
+  array-says (value n t) w h = item-says n s t w (inner t) (types t h (w .clean u))
+  array-says (noNumber e t) w h = tt
+
+  named-clean : (k : ContainerKind) (m t : List ℕ) → NameSays k s (named m t) → unquoted t ≡ true
+  named-clean k m t (g, by-equals e) = unquoted-later (byte "=") t (all-bytes m (byte "=" ∷ t) (lacks-equals m g) .clean (subst (λ x. unquoted x ≡ true) e u))
+  named-clean k m t (g, by-closer v f e) = all-bytes m t (lacks-equals m g) .clean (subst (λ x. unquoted x ≡ true) e u)
+
+  container-says : (k : ContainerKind) (q : Named) → NameSays k s q → Strict (elim q [ named m t ↦ fieldsMet k t | unnamed e t ↦ [] ])
+      → Says (startByte k ∷ s) (elim q [ named m t ↦ contained k m (fields k t) | unnamed e t ↦ refused e t ])
+  container-says k (named m t) g h = contained-says k s m t g (fields k t) (within k t h (named-clean k m t g))
+  container-says k (unnamed e t) g h = tt
+
+  begin-says : (b : ℕ) (S : Start) → Begins b S → Strict (numbersOf S s ++ numbersInside S s met fieldsMet) → Says (b ∷ s) (begin b S s inner fields)
+  unfolding begin numbersOf numbersInside bitsNumbers
+  begin-says b (single p) g h = single-says b p s g
+  begin-says b complex g h = rw g (complex-says s)
+  begin-says b object g h = rw g (object-says s u)
+  begin-says b bits g h =
+      let i = strict-first s (elim (parseNumber maxU64 s) [ value n t ↦ typedNumber t | noNumber e t ↦ [] ]) (strict-parts (bitsNumbers s) [] h .0) in
+      rw g (bits-say s (parseNumber maxU64 s) (number-says maxU64 s (i .0)) (i .1))
+  begin-says b (indirection l) g h = held-says b s l g (inner s) (types s h u)
+  begin-says b openArray g h =
+      let i = strict-first s (elim (parseNumber maxU64 s) [ value n t ↦ met t | noNumber e t ↦ [] ]) h in
+      rw g (array-says (parseNumber maxU64 s) (number-says maxU64 s (i .0)) (i .1))
+  begin-says b closeArray g h = ap (λ x. x ∷ s) g
+  begin-says b (openContainer k) g h = rw g (container-says k (parseName k [] s) (name-says k s []) h)
+  begin-says b (closeContainer k) g h = ap (λ x. x ∷ s) g
+  begin-says b nothing g h = tt
+
+add-says : (k : ContainerKind) (s t : List ℕ) (m : Label) (ds : Trees) → Says s (encoding m ds t) → (q : Items) → ItemsSay k t q → ItemsSay k s (addItem m ds q)
+unfolding addItem spelled isEnd
+add-says k s t m ds r (items ts v) w = (respelled (sym (append-assoc (Text m ds) (spelled ts) (endByte k ∷ []))) (r .0 then w .0), r .1)
+add-says k s t m ds r (itemsRefused e v) w = tt
+
+-- The closer of the container itself.
+end-says : (k j : ContainerKind) (s t : List ℕ) → s ≡ endByte j ∷ t → (more : List ℕ → Items) → ItemsSay k s (nextItem k (containerEnd j t) more)
+unfolding nextItem spelled isEnd
+end-says k j s t e more = rw e (go k j)
+  where
+    go : (k j : ContainerKind) → ItemsSay k (endByte j ∷ t) (nextItem k (containerEnd j t) more)
+    go Struct Struct = (one-byte (endByte Struct) t refl, closer-byte Struct t .1)
+    go Struct Union = tt
+    go Union Struct = tt
+    go Union Union = (one-byte (endByte Union) t refl, closer-byte Union t .1)
+
+next-says : (k : ContainerKind) (s : List ℕ) → unquoted s ≡ true → (more : List ℕ → Items) (met : List ℕ → List (List ℕ))
+    → ((t : List ℕ) → Strict (met t) → unquoted t ≡ true → ItemsSay k t (more t)) → (q : Parsed) → Says s q → Strict (numbersAfter q met) → ItemsSay k s (nextItem k q more)
+unfolding nextItem numbersAfter
+next-says k s u more met rest empty r h = tt
+next-says k s u more met rest (encoding m ds t) r h = add-says k s t m ds r (more t) (rest t h (r .0 .clean u))
+next-says k s u more met rest (containerEnd j t) r h = end-says k j s t r more
+next-says k s u more met rest (arrayEnd t) r h = tt
+next-says k s u more met rest (refused e t) r h = tt
+
+mutual
+  unfolding parseInner parseItems innerNumbers itemsNumbers
+
+  inner-says : (f : ℕ) (s : List ℕ) → Strict (innerNumbers f s) → unquoted s ≡ true → Says s (parseInner f s)
+  inner-says zero s h u = tt
+  inner-says (suc f) [] h u = tt
+  inner-says (suc f) (b ∷ s) h u =
+      begin-says s (unquoted-later b s u) (λ t. parseInner f t) (λ k t. parseItems f k t) (λ t. innerNumbers f t) (λ k t. itemsNumbers f k t)
+      (λ t i v. inner-says f t i v) (λ k t i v. items-say f k t i v) b (start b) (begins b) h
+
+  items-say : (f : ℕ) (k : ContainerKind) (s : List ℕ) → Strict (itemsNumbers f k s) → unquoted s ≡ true → ItemsSay k s (parseItems f k s)
+  items-say zero k s h u = tt
+  items-say (suc f) k s h u =
+      let i = strict-parts (innerNumbers f s) (numbersAfter (parseInner f s) (λ t. itemsNumbers f k t)) h in
+      next-says k s u (λ t. parseItems f k t) (λ t. itemsNumbers f k t) (λ t j v. items-say f k t j v) (parseInner f s) (inner-says f s (i .0) u) (i .1)
+
+-- ---- Whole texts.
+
+-- Strict reading gives a tree exactly as whole-text reading does, where it meets no surplus zero.
+strict-read : (s : List ℕ) (l : Label) (cs : Trees) → fromStrStrict s ≡ tree l cs → Strict (numbersMet s) × (fromStr s ≡ tree l cs)
+unfolding fromStrStrict unlessSurplus
+strict-read s l cs h = go (firstSurplus (numbersMet s)) refl h
+  where
+    go : (o : Option (List ℕ)) → firstSurplus (numbersMet s) ≡ o → unlessSurplus (length s) o (fromStr s) ≡ tree l cs → Strict (numbersMet s) × (fromStr s ≡ tree l cs)
+    go (some t) e i = let z : _≡_ {A = ℕ} 0 1 = cc in absurd (omega arith)
+    go none e i = (e, i)
+
+nothing-short : (s : List ℕ) → length s ≡ 0 → short s ≡ []
+unfolding short
+nothing-short [] h = refl
+nothing-short (b ∷ s) h = absurd (omega arith)
+
+whole-says : (s : List ℕ) (n : ℕ) (l : Label) (cs : Trees) (q : Parsed) → Says s q → Well s q → whole n (encodingOrNone q) ≡ tree l cs → short s ≡ spelled (node l cs end)
+unfolding encodingOrNone whole spelled printNode short
+whole-says s n l cs empty r w h =
+    let same : spelled (node T.none end end) ≡ spelled (node l cs end) = cc in
+    nothing-short s w ∙ same
+whole-says s n l cs (encoding m ds []) r w h =
+    let same : spelled (node m ds end) ≡ spelled (node l cs end) = cc in
+    r .0 .text ∙ same
+whole-says s n l cs (encoding m ds (b ∷ t)) r w h = let z : _≡_ {A = ℕ} 0 1 = cc in absurd (omega arith)
+whole-says s n l cs (containerEnd k t) r w h = let z : _≡_ {A = ℕ} 0 1 = cc in absurd (omega arith)
+whole-says s n l cs (arrayEnd t) r w h = let z : _≡_ {A = ℕ} 0 1 = cc in absurd (omega arith)
+whole-says s n l cs (refused e t) r w h = let z : _≡_ {A = ℕ} 0 1 = cc in absurd (omega arith)
+
+pub text-spelled : (s : List ℕ) (l : Label) (cs : Trees) → Registers s l cs → short s ≡ spelled (node l cs end)
+unfolding fromStr parseEncodingOrNone numbersMet numbers parse
+text-spelled s l cs g =
+    let i = strict-read s l cs (g .read) in
+    let met : Strict (numbers s) = rw (g .unqualified) at (i .0) in
+    let read : whole (length s) (encodingOrNone (parse s)) ≡ tree l cs = rw (g .unqualified) at (i .1) in
+    whole-says s (length s) l cs (parse s) (inner-says (length s + length s) s met (g .no-class-name)) (well (length s + length s) s (omega arith)) read

@@ -41,3 +41,8 @@ pub record Registers (s : List ℕ) (l : Label) (cs : Trees) : Type 0 where
   pub read : fromStrStrict s ≡ tree l cs
   pub unqualified : stripLeadingQualifiers s ≡ s
   pub no-class-name : unquoted s ≡ true
+
+-- Two texts that differ and of which `read` gives the same.
+pub record TwoSpellings {A : Type 0} (read : List ℕ → A) (s t : List ℕ) : Type 0 where
+  pub same : read s ≡ read t
+  pub differ : s ≡ t → ⊥
