@@ -1,32 +1,32 @@
 -- What is read strictly, in its short spelling, is the text of what it gives: over the cycle of reading, and for whole texts.
-use Prim.Native.Nat.{ℕ, zero, suc, _+_, _≤_}
+use Prim.Native.Nat.{ℕ, zero, suc, _+_}
 use native.Mathlib.Omega.{arith}
 use mathlib.Core.Path.{_≡_, refl, sym, ap, subst, _∙_}
 use mathlib.Core.List.{List, [], _∷_, _++_, append-assoc, append-nil}
-use mathlib.Core.Bool.{Bool, true, false, cond, not, _&&_, _||_, false≢true, true≢false}
+use mathlib.Core.Bool.{Bool, true, false, cond, _&&_, false≢true}
 use mathlib.Core.Option.{Option, some, none}
 use lib.Dec.{leb, eqb}
 use lib.ListN.{length}
-use borrow.Author.Tests.{eqb-true, eq-eqb}
+use borrow.Author.Tests.{eqb-true}
 use Rattle.kinds.specs.Byte.{byte, bytes, among, isDigit}
-use Rattle.kinds.specs.Container.{startByte, endByte, sameContainer}
+use Rattle.kinds.specs.Container.{startByte, endByte}
 use Rattle.kinds.specs.Parse.{container, maxU64, maxU8, Number, value, noNumber, parseNumber, Parsed, empty, encoding, containerEnd, arrayEnd, refused, Items, items}
 use Rattle.kinds.specs.Parse.{itemsRefused, Start, single, complex, object, bits, indirection, openArray, closeArray, openContainer, closeContainer, nothing, start, leaf, parseComplex}
 use Rattle.kinds.specs.Parse.{parseObject, integral, singleKind, typed, untyped, parseBitField, parseBits, Named, named, unnamed, parseName, held, closeItem, item, contained, addItem}
-use Rattle.kinds.specs.Parse.{begin, nextItem, parseInner, parseItems, parse, stripLeadingQualifiers, encodingOrNone, parseEncodingOrNone, Whole, tree, whole, fromStr}
+use Rattle.kinds.specs.Parse.{begin, nextItem, parseInner, parseItems, parse, encodingOrNone, parseEncodingOrNone, tree, whole, fromStr}
 use Rattle.kinds.specs.Primitive.{codes, code}
 use Rattle.kinds.specs.Print.{decimal, printNode}
 use Rattle.kinds.specs.Strict.{surplusZero, typedNumber, bitsNumbers, numbersOf, numbersInside, numbersAfter, innerNumbers, itemsNumbers, numbers, numbersMet, firstSurplus, unlessSurplus}
 use Rattle.kinds.specs.Strict.{fromStrStrict}
 use Rattle.kinds.specs.Tree as T
-use Rattle.kinds.specs.Tree.{Label, Trees, end, node, primitive, bitField, typedBitField, array, isEnd}
+use Rattle.kinds.specs.Tree.{Label, Trees, end, node, primitive, isEnd}
 use Rattle.kinds.specs.declared.ContainerKind.{ContainerKind}
 use Rattle.kinds.specs.declared.ContainerKind.the-variants.{Struct, Union}
 use Rattle.kinds.proofs.TableLaws.{both}
 use Rattle.agreement.proofs.ReadLaws.{Well, well}
-use Rattle.agreement.proofs.RoundTrip.{lacks-equals, body, container-text, isEnd-end}
+use Rattle.agreement.proofs.RoundTrip.{lacks-equals, body, container-text}
 use Rattle.strict_spelling.specs.Spelling.{closesContainer, short, levelBy, spelled, unquoted, Registers}
-use Rattle.strict_spelling.proofs.SpellingLaws.{Written, at-once, _then_, respelled, one-byte, all-bytes, unquoted-later, NumberSays, number-says, NameEnd, by-equals, by-closer}
+use Rattle.strict_spelling.proofs.SpellingLaws.{Written, _then_, respelled, one-byte, all-bytes, unquoted-later, NumberSays, number-says, by-equals, by-closer}
 use Rattle.strict_spelling.proofs.SpellingLaws.{NameSays, name-says, Begins, begins, integral-code}
 
 -- ---- Numbers without a surplus zero.
@@ -214,7 +214,7 @@ module _ (k : ContainerKind) (s : List ℕ) where
   unfolding contained
   contained-says m t g (items ts u) r =
       let whole-text : startByte k ∷ (m ++ body k (levelBy ts) (spelled ts) []) ≡ Text (container k m) ts
-            = sym (container-text k (levelBy ts) m (spelled ts) []) ∙ append-nil (Text (container k m) ts) in
+      = sym (container-text k (levelBy ts) m (spelled ts) []) ∙ append-nil (Text (container k m) ts) in
       (respelled whole-text (one-byte (startByte k) s (opener-byte k s .0) then rest-written m t u ts g r), opener-byte k s .1)
   contained-says m t g (itemsRefused e u) r = tt
 

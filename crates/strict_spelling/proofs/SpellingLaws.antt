@@ -1,37 +1,32 @@
 -- What is read strictly is, in its short spelling, the text of the tree that it gives.
-use Prim.Native.Nat.{ℕ, zero, suc, _+_, _*_, _-_, _/_, _%_, _≤_, _<_}
+use Prim.Native.Nat.{ℕ, zero, suc, _+_, _*_, _-_, _/_, _%_, _<_}
 use native.Mathlib.Omega.{arith}
 use mathlib.Core.Path.{_≡_, refl, sym, ap, subst, _∙_}
 use mathlib.Core.List.{List, [], _∷_, _++_, append-assoc, append-nil}
-use mathlib.Core.Bool.{Bool, true, false, cond, not, _&&_, _||_, false≢true, true≢false}
-use mathlib.Core.Option.{Option, some, none}
+use mathlib.Core.Bool.{Bool, true, false, not, _||_, false≢true}
 use lib.Dec.{leb, ltb, eqb}
 use borrow.Author.Tests.{eqb-true, eqb-false, ltb-true, ltb-false, leb-true, not-true, lt-ltb}
 use Rattle.kinds.specs.Byte.{byte, bytes, among, isDigit, startsDigit}
-use Rattle.kinds.specs.Container.{startByte, endByte, sameContainer}
+use Rattle.kinds.specs.Container.{startByte, endByte}
 use Rattle.kinds.specs.Name.{verifyName}
-use Rattle.kinds.specs.Parse.{container, maxU64, maxU8, Number, value, noNumber, moreDigits, bounded, parseNumber, Parsed, empty, encoding, containerEnd, arrayEnd, refused}
-use Rattle.kinds.specs.Parse.{Items, items, itemsRefused, Start, single, complex, object, bits, indirection, openArray, closeArray, openContainer, closeContainer, nothing}
-use Rattle.kinds.specs.Parse.{singles, others, inSingles, inOthers, start, leaf, parseComplex, parseQuoted, parseObject, integral, singleKind, typed, untyped, parseBitField, parseBits}
-use Rattle.kinds.specs.Parse.{Named, named, unnamed, checkName, parseName, held, closeItem, item, contained, addItem, begin, nextItem, parseInner, parseItems}
+use Rattle.kinds.specs.Parse.{Number, value, noNumber, moreDigits, bounded, parseNumber}
+use Rattle.kinds.specs.Parse.{Start, single, complex, object, bits, indirection, openArray, closeArray, openContainer, closeContainer, nothing}
+use Rattle.kinds.specs.Parse.{singles, others, inSingles, inOthers, start, integral, singleKind}
+use Rattle.kinds.specs.Parse.{Named, named, unnamed, checkName, parseName}
 use Rattle.kinds.specs.Primitive.{codes, code}
 use Rattle.kinds.specs.Print.{digits, decimal, printNode}
-use Rattle.kinds.specs.Strict.{digitCount, surplusZero, typedNumber, bitsNumbers, numbersOf, numbersInside, numbersAfter, innerNumbers, itemsNumbers, firstSurplus}
-use Rattle.kinds.specs.Tree as T
-use Rattle.kinds.specs.Tree.{Label, Trees, end, node, primitive, bitField, typedBitField, pointer, atomic, array, isEnd}
+use Rattle.kinds.specs.Strict.{digitCount, surplusZero}
+use Rattle.kinds.specs.Tree.{Trees}
 use Rattle.kinds.specs.declared.ContainerKind.{ContainerKind}
-use Rattle.kinds.specs.declared.ContainerKind.the-variants.{Struct, Union}
 use Rattle.kinds.proofs.TableLaws.{both, each}
 use Rattle.agreement.proofs.ByteLaws.{apart, lacks, _also_}
 use Rattle.agreement.proofs.DigitLaws.{digits-stop, last-digit, one-digit}
 use Rattle.agreement.proofs.ReadLaws.{digit-read}
-use Rattle.agreement.proofs.RoundTrip.{lacks-equals, body, container-text, isEnd-end}
-use Rattle.strict_spelling.specs.Spelling.{closesContainer, short, levelBy, spelled, unquoted}
+use Rattle.strict_spelling.specs.Spelling.{short, levelBy, spelled, unquoted}
 
 -- ---- Text and its short spelling.
 
 infixr 20 _then_
-
 -- The text `s` is in short `x` before `t`, and holds the quotes of `t`.
 pub record Written (s x t : List ℕ) : Type 0 where
   pub text : short s ≡ x ++ short t

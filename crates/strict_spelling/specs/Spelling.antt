@@ -5,7 +5,7 @@ use mathlib.Core.Bool.{Bool, true, false, cond, not, _&&_}
 use mathlib.Core.List.{List, [], _∷_, _++_}
 use lib.Dec.{eqb}
 use Rattle.kinds.specs.Byte.{byte, bytes, among}
-use Rattle.kinds.specs.Parse.{Whole, tree, stripLeadingQualifiers}
+use Rattle.kinds.specs.Parse.{tree, stripLeadingQualifiers}
 use Rattle.kinds.specs.Print.{printNode}
 use Rattle.kinds.specs.Strict.{fromStrStrict}
 use Rattle.kinds.specs.Tree.{Label, Trees, end, node}
@@ -41,9 +41,3 @@ pub record Registers (s : List ℕ) (l : Label) (cs : Trees) : Type 0 where
   pub read : fromStrStrict s ≡ tree l cs
   pub unqualified : stripLeadingQualifiers s ≡ s
   pub no-class-name : unquoted s ≡ true
-
--- `read` gives a tree of `s` that `t` registers, and the texts differ in more than `=` before a closer.
-pub record AnotherSpelling (read : List ℕ → Whole) (s t : List ℕ) (l : Label) (cs : Trees) : Type 0 where
-  pub gives : read s ≡ tree l cs
-  pub registers : Registers t l cs
-  pub differ : short s ≡ short t → ⊥
