@@ -1,14 +1,15 @@
 -- Decimal numbers are read back.
-use Prim.Native.Nat.{ℕ, zero, suc, _+_, _*_, _/_, _%_, _≤_, _<_}
+use Prim.Native.Nat.{ℕ, zero, suc, _+_, _*_, _/_, _%_, _<_}
 use mathlib.Core.Path.{_≡_, refl, ap, _∙_}
 use mathlib.Core.List.{List, [], _∷_, _++_}
 use mathlib.Core.Bool.{Bool, true, false, false≢true}
 use native.Mathlib.Omega.{arith}
 use lib.Dec.{ltb}
-use borrow.Author.Tests.{ltb-true, ltb-false, lt-ltb, le-ltb, le-leb}
+use borrow.Author.Tests.{ltb-true, ltb-false, le-leb}
 use Rattle.kinds.specs.Byte.{byte, isDigit, startsDigit}
 use Rattle.kinds.specs.Parse.{value, moreDigits, bounded, parseNumber}
 use Rattle.kinds.specs.Print.{digits, decimal}
+use Rattle.kinds.proofs.DecimalLaws.{last-digit, one-digit}
 
 pub digit-byte : (n : ℕ) → n < 10 → isDigit (byte "0" + n) ≡ true
 unfolding isDigit
@@ -22,14 +23,6 @@ digits-stop n (b ∷ s) h = rw (h, moreDigits)
 digits-more : (n d : ℕ) (s : List ℕ) → d < 10 → moreDigits n ((byte "0" + d) ∷ s) ≡ moreDigits (n * 10 + d) s
 unfolding moreDigits
 digits-more n d s h = rw (digit-byte d h, moreDigits) (ap (λ x. moreDigits (n * 10 + x) s) (omega arith))
-
-pub last-digit : (f n : ℕ) (acc : List ℕ) → n < 10 → digits (suc f) n acc ≡ (byte "0" + n) ∷ acc
-unfolding digits
-last-digit f n acc h = rw (lt-ltb n 10 h, digits)
-
-pub one-digit : (f n : ℕ) (acc : List ℕ) → 10 ≤ n → digits (suc f) n acc ≡ digits f (n / 10) ((byte "0" + n % 10) ∷ acc)
-unfolding digits
-one-digit f n acc h = rw (le-ltb n 10 h, digits)
 
 read-digits : (f n : ℕ) (acc : List ℕ) (r : List ℕ) → n < f → moreDigits 0 (digits f n acc ++ r) ≡ moreDigits n (acc ++ r)
 read-digits zero n acc r h = absurd (omega arith)

@@ -7,6 +7,7 @@ pub mod SheetLaws
 pub mod NodeLaws
 pub mod KindLaws
 pub mod ParseLaws
+pub mod DecimalLaws
 pub mod SizeLaws
 pub mod LayoutLaws
 pub mod HoldsLaws

@@ -1,11 +1,11 @@
 -- What is read strictly is, in its short spelling, the text of the tree that it gives.
-use Prim.Native.Nat.{ℕ, zero, suc, _+_, _*_, _-_, _/_, _%_, _<_}
+use Prim.Native.Nat.{ℕ, suc, _+_, _*_, _-_, _/_, _%_, _<_}
 use native.Mathlib.Omega.{arith}
 use mathlib.Core.Path.{_≡_, refl, sym, ap, subst, _∙_}
 use mathlib.Core.List.{List, [], _∷_, _++_, append-assoc, append-nil}
 use mathlib.Core.Bool.{Bool, true, false, not, _||_, false≢true}
-use lib.Dec.{leb, ltb, eqb}
-use borrow.Author.Tests.{eqb-true, eqb-false, ltb-true, ltb-false, leb-true, not-true, lt-ltb}
+use lib.Dec.{leb, eqb}
+use borrow.Author.Tests.{eqb-true, eqb-false, leb-true, not-true, lt-ltb}
 use Rattle.kinds.specs.Byte.{byte, bytes, among, isDigit, startsDigit}
 use Rattle.kinds.specs.Container.{startByte, endByte}
 use Rattle.kinds.specs.Name.{verifyName}
@@ -14,13 +14,14 @@ use Rattle.kinds.specs.Parse.{Start, single, complex, object, bits, indirection
 use Rattle.kinds.specs.Parse.{singles, others, inSingles, inOthers, start, integral, singleKind}
 use Rattle.kinds.specs.Parse.{Named, named, unnamed, checkName, parseName}
 use Rattle.kinds.specs.Primitive.{codes, code}
-use Rattle.kinds.specs.Print.{digits, decimal, printNode}
+use Rattle.kinds.specs.Print.{decimal, printNode}
 use Rattle.kinds.specs.Strict.{digitCount, surplusZero}
 use Rattle.kinds.specs.Tree.{Trees}
 use Rattle.kinds.specs.declared.ContainerKind.{ContainerKind}
+use Rattle.kinds.proofs.DecimalLaws.{decimal-low, decimal-high}
 use Rattle.kinds.proofs.TableLaws.{both, each}
 use Rattle.agreement.proofs.ByteLaws.{apart, lacks, _also_}
-use Rattle.agreement.proofs.DigitLaws.{digits-stop, last-digit, one-digit}
+use Rattle.agreement.proofs.DigitLaws.{digits-stop}
 use Rattle.agreement.proofs.ReadLaws.{digit-read}
 use Rattle.strict_spelling.specs.Spelling.{short, levelBy, spelled, unquoted}
 
@@ -76,43 +77,15 @@ digit-value b h =
     let i = both (leb (byte "0") b) (leb b (byte "9")) h in
     (omega (arith, leb-true (byte "0") b (i .0)), omega (arith, leb-true b (byte "9") (i .1)))
 
--- The digits of `n` before others, by any fuel that is enough.
-digits-before : (f : ℕ) (n : ℕ) (after : List ℕ) → digits f n after ≡ digits f n [] ++ after
-unfolding digits
-digits-before zero n after = refl
-digits-before (suc f) n after = go (ltb n 10) refl (λ a. digits-before f (n / 10) a)
-  where
-    go : (t : Bool) → ltb n 10 ≡ t → ((a : List ℕ) → digits f (n / 10) a ≡ digits f (n / 10) [] ++ a) → digits (suc f) n after ≡ digits (suc f) n [] ++ after
-    go true e rec = rw (e, digits)
-    go false e rec = rw (e, digits) (rec ((byte "0" + n % 10) ∷ after) ∙ sym (rw (rec ((byte "0" + n % 10) ∷ [])) (append-assoc (digits f (n / 10) []) ((byte "0" + n % 10) ∷ []) after)))
-
-digits-enough : (f g n : ℕ) → n < f → n < g → digits f n [] ≡ digits g n []
-digits-enough zero g n h i = absurd (omega arith)
-digits-enough (suc f) zero n h i = absurd (omega arith)
-digits-enough (suc f) (suc g) n h i = go (ltb n 10) refl (λ j k. digits-enough f g (n / 10) j k)
-  where
-    go : (t : Bool) → ltb n 10 ≡ t → (n / 10 < f → n / 10 < g → digits f (n / 10) [] ≡ digits g (n / 10) []) → digits (suc f) n [] ≡ digits (suc g) n []
-    go true e rec = last-digit f n [] (ltb-true n 10 e) ∙ sym (last-digit g n [] (ltb-true n 10 e))
-    go false e rec =
-        let l = ltb-false n 10 e in
-        let d : List ℕ = (byte "0" + n % 10) ∷ [] in
-        one-digit f n [] l ∙ digits-before f (n / 10) d ∙ ap (λ x. x ++ d) (rec (omega arith) (omega arith)) ∙ sym (one-digit g n [] l ∙ digits-before g (n / 10) d)
-
 -- A digit more.
 decimal-grown : (n d : ℕ) → 0 < n → d < 10 → decimal (n * 10 + d) ≡ decimal n ++ ((byte "0" + d) ∷ [])
-unfolding decimal
 decimal-grown n d h l =
     let tenth : (n * 10 + d) / 10 ≡ n = omega arith in
     let last : (n * 10 + d) % 10 ≡ d = omega arith in
-    one-digit (n * 10 + d) (n * 10 + d) [] (omega arith)
-    ∙ ap (λ x. digits (n * 10 + d) ((n * 10 + d) / 10) ((byte "0" + x) ∷ [])) last
-    ∙ ap (λ x. digits (n * 10 + d) x ((byte "0" + d) ∷ [])) tenth
-    ∙ digits-before (n * 10 + d) n ((byte "0" + d) ∷ [])
-    ∙ ap (λ x. x ++ ((byte "0" + d) ∷ [])) (digits-enough (n * 10 + d) (suc n) n (omega arith) (omega arith))
+    decimal-high (n * 10 + d) (omega arith) ∙ rw (tenth, last)
 
 decimal-digit : (b : ℕ) → isDigit b ≡ true → decimal (b - byte "0") ≡ b ∷ []
-unfolding decimal
-decimal-digit b h = let i = digit-value b h in last-digit (b - byte "0") (b - byte "0") [] (i .1) ∙ ap (λ x. x ∷ []) (i .0)
+decimal-digit b h = let i = digit-value b h in decimal-low (b - byte "0") (i .1) ∙ ap (λ x. x ∷ []) (i .0)
 
 -- The digits `x` that follow those of `n`.
 abbrev MoreSay : ℕ → List ℕ → Number → Type 0

@@ -3,7 +3,7 @@ use mathlib.Core.Path.{sym, _∙_}
 use mathlib.Core.List.{[], _∷_}
 use borrow.Author.Needs.{needs}
 use Rattle.kinds.specs.Print.{decimal}
-use Rattle.static_str.proofs.NumberLaws.{decimal-low, decimal-high}
+use Rattle.kinds.proofs.DecimalLaws.{decimal-low, decimal-high}
 use Rattle.lines.proofs.PutLaws.{put-same, put-append}
 use Prim.Native.Nat.{ℕ, _+_, _/_, _%_, _<_}
 use borrow.Fn.Kinds.{In}

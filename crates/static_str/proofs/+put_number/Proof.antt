@@ -7,7 +7,8 @@ use borrow.Author.Needs.{needs}
 use lib.ListN.{length}
 use Rattle.kinds.specs.Print.{decimal}
 use Rattle.static_str.proofs.OutputLaws.{wrote-same, wrote-append}
-use Rattle.static_str.proofs.NumberLaws.{decimal-low, decimal-high, decimal-one, decimal-more}
+use Rattle.kinds.proofs.DecimalLaws.{decimal-low, decimal-high}
+use Rattle.static_str.proofs.NumberLaws.{decimal-one, decimal-more}
 use borrow.Fn.Kinds.{In}
 use borrow.Fn.PlainCycle.{Measures, is, falls, and}
 use Rattle.static_str.proofs.put_number.Reads as put-number
