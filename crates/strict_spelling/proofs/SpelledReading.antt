@@ -282,7 +282,7 @@ next-says k s u more met rest (arrayEnd t) r h = tt
 next-says k s u more met rest (refused e t) r h = tt
 
 mutual
-  unfolding parseInner parseItems innerNumbers itemsNumbers
+  unfolding parseItems itemsNumbers
 
   inner-says : (f : ℕ) (s : List ℕ) → Strict (innerNumbers f s) → unquoted s ≡ true → Says s (parseInner f s)
   inner-says zero s h u = tt

@@ -1,4 +1,4 @@
--- What is read strictly is, in its short spelling, the text of the tree that it gives.
+-- The short spelling of what strict reading takes at once: bytes, numbers and names; and which byte begins what.
 use Prim.Native.Nat.{ℕ, suc, _+_, _*_, _-_, _/_, _%_, _<_}
 use native.Mathlib.Omega.{arith}
 use mathlib.Core.Path.{_≡_, refl, sym, ap, subst, _∙_}
@@ -33,7 +33,7 @@ pub record Written (s x t : List ℕ) : Type 0 where
   pub text : short s ≡ x ++ short t
   pub clean : unquoted s ≡ true → unquoted t ≡ true
 
-pub at-once : (s : List ℕ) → Written s [] s
+at-once : (s : List ℕ) → Written s [] s
 at-once s = record { text = refl; clean = λ h. h }
 
 pub _then_ : {s x t y u : List ℕ} → Written s x t → Written t y u → Written s (x ++ y) u

@@ -22,17 +22,17 @@ unfoldable pub short : List ℕ → List ℕ
 short [] = []
 short (b ∷ s) = cond (eqb b (byte "=") && closesContainer s) (short s) (b ∷ short s)
 
--- A container's level for its text: it shows `=` and fields exactly if it has any.
+-- The level of a node's text: a container shows `=` and fields exactly if it has any.
 unfoldable pub levelBy : Trees → NestingLevel
 levelBy end = Bottom
 levelBy (node l cs ts) = Top
 
--- The text of trees with all their fields, `{x}` for a container without.
+-- The text of trees with all their fields at every level, `{x}` for a container without fields.
 unfoldable pub spelled : Trees → List ℕ
 spelled end = []
 spelled (node l cs ts) = printNode l (levelBy cs) (spelled cs) ++ spelled ts
 
--- Reading takes quotes only around class names.
+-- No byte is `"`, which reading takes only around class names.
 unfoldable pub unquoted : List ℕ → Bool
 unquoted s = not (among (byte "\"") s)
 
