@@ -1,0 +1,2 @@
+-- The theorems, and below them the laws that they rest on.
+pub mod CasesHold

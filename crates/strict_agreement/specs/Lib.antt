@@ -1,0 +1,4 @@
+-- What the theorems over strict reading are stated with, beside the definitions of kinds and agreement.
+pub mod Surplus
+pub mod Printed
+pub mod Cases
