@@ -24,17 +24,17 @@ use Rattle.agreement.proofs.CutLeaves.{complex-cut, object-cut, bits-cu
 -- ---- What a reader of types gives, and a reader of items.
 
 -- A pointer or an atomic holds nothing, whatever beginning of `s` follows it.
-abbrev Bare : (List ℕ → Parsed) → List ℕ → Type 0
+abbrev pub Bare : (List ℕ → Parsed) → List ℕ → Type 0
 Bare read s = (t w : List ℕ) → s ≡ t ++ w → (l : Label) → held l t (read t) ≡ encoding l (node none end end) t
 
-abbrev Cuts : (List ℕ → Parsed) → List ℕ → Parsed → Type 0
+abbrev pub Cuts : (List ℕ → Parsed) → List ℕ → Parsed → Type 0
 Cuts read s empty = Bare read s
 Cuts read s (encoding l cs u) = Cut read (encoding l cs) s u
 Cuts read s (containerEnd k u) = Cut read (containerEnd k) s u × Bare read s
 Cuts read s (arrayEnd u) = Cut read arrayEnd s u × Bare read s
 Cuts read s (refused e u) = Unit {0}
 
-abbrev CutsItems : (List ℕ → Items) → List ℕ → Items → Type 0
+abbrev pub CutsItems : (List ℕ → Items) → List ℕ → Items → Type 0
 CutsItems read s (items ts u) = Cut read (items ts) s u
 CutsItems read s (itemsRefused e u) = Unit {0}
 
@@ -165,7 +165,7 @@ no-items (suc f) k ts u e =
 mutual
   unfolding parseInner parseItems held
 
-  inner-cut : (f : ℕ) (s : List ℕ) → Cuts (λ x. parseInner f x) s (parseInner f s)
+  pub inner-cut : (f : ℕ) (s : List ℕ) → Cuts (λ x. parseInner f x) s (parseInner f s)
   inner-cut zero s = λ t w e l. refl
   inner-cut (suc f) [] = λ t w e l. rw (none-left t w e)
   inner-cut (suc f) (b ∷ s) =
