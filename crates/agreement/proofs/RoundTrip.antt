@@ -134,7 +134,7 @@ integral-child (node l ds ts) o g h =
     (i .0, ap (λ x. node x ds ts) (i .1) ∙ ap₂ (λ x y. node (primitive (i .0)) x y) (isEnd-end ds n) (isEnd-end ts o), i .2)
 
 -- Names.
-name-until : (k : ContainerKind) (acc s u : List ℕ) → lacks (byte "=") s ≡ true → lacks (endByte k) s ≡ true → parseName k acc (s ++ (byte "=" ∷ u)) ≡ checkName k (acc ++ s) (byte "=" ∷ u) u
+pub name-until : (k : ContainerKind) (acc s u : List ℕ) → lacks (byte "=") s ≡ true → lacks (endByte k) s ≡ true → parseName k acc (s ++ (byte "=" ∷ u)) ≡ checkName k (acc ++ s) (byte "=" ∷ u) u
 unfolding parseName lacks
 name-until k acc [] u a b = rw append-nil
 name-until k acc (x ∷ s) u a b =
@@ -148,7 +148,7 @@ unfolding parseName
 name-end Struct acc u = refl
 name-end Union acc u = refl
 
-name-only : (k : ContainerKind) (acc s u : List ℕ) → lacks (byte "=") s ≡ true → lacks (endByte k) s ≡ true
+pub name-only : (k : ContainerKind) (acc s u : List ℕ) → lacks (byte "=") s ≡ true → lacks (endByte k) s ≡ true
     → parseName k acc (s ++ (endByte k ∷ u)) ≡ checkName k (acc ++ s) (endByte k ∷ u) (endByte k ∷ u)
 unfolding parseName lacks
 name-only k acc [] u a b = name-end k acc u ∙ ap (λ y. checkName k y (endByte k ∷ u) (endByte k ∷ u)) (sym (append-nil acc))
@@ -368,7 +368,7 @@ tree-read (union s) cs first many v r f a b g c o h m = tree-read-container Unio
 tree-read none cs first many v r f a b g c o h m = absurd (true≢false o)
 
 -- A tree that is not None prints a byte at least.
-node-length : (l : Label) (v : NestingLevel) (c r : List ℕ) → fitLabel l ≡ true → isNone l ≡ false → length r < length (printNode l v c ++ r)
+pub node-length : (l : Label) (v : NestingLevel) (c r : List ℕ) → fitLabel l ≡ true → isNone l ≡ false → length r < length (printNode l v c ++ r)
 unfolding printNode fitLabel isNone
 node-length (primitive p) v c r a o = code-length r p (ltb-true p 24 a)
 node-length (bitField n) v c r a o = omega (arith, length-append (decimal n) r)

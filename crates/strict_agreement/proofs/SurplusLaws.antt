@@ -450,29 +450,29 @@ none-met : (s : List ℕ) → Nowhere (numbersMet s) → NoneMet s
 unfolding fromStrStrict unlessSurplus
 none-met s n = record { no-first = n .0; without = n .1; alike = ap (λ o. unlessSurplus (length s) o (fromStr s)) (n .0) }
 
-first-met : (s : List ℕ) → First (numbersMet s) → FirstMet s
+place-before : (s before t : List ℕ) → s ≡ before ++ t → length s - length t ≡ length before
+place-before s before t e = omega (arith, ap length e, length-append before t)
+
+first-met : (s : List ℕ) (f : First (numbersMet s)) → EndOf s (f .number) → FirstMet s
 unfolding fromStrStrict unlessSurplus
-first-met s f =
-    let e : EndOf s (f .number) = end-member s (f .earlier) (f .number) (f .later) (subst (Ends s) (f .met) (met-ends s)) in
-    let n : length s - length (f .number) ≡ length (e .0) = omega (arith, ap length (e .1), length-append (e .0) (f .number)) in
-    record {
-      before = e .0;
-      number = f .number;
-      earlier = f .earlier;
-      later = f .later;
-      met = f .met;
-      without = f .without;
-      surplus = f .surplus;
-      place = e .1;
-      refuses = ap (λ o. unlessSurplus (length s) o (fromStr s)) (f .first) ∙ ap (refusal SurplusZero) n;
-    }
+first-met s f e = record {
+  before = e .0;
+  number = f .number;
+  earlier = f .earlier;
+  later = f .later;
+  met = f .met;
+  without = f .without;
+  surplus = f .surplus;
+  place = e .1;
+  refuses = ap (λ o. unlessSurplus (length s) o (fromStr s)) (f .first) ∙ ap (refusal SurplusZero) (place-before s (e .0) (f .number) (e .1));
+}
 
 pub one-or-other : (s : List ℕ) → OneOrOther s
 one-or-other s = go (look (numbersMet s))
   where
     go : Nowhere (numbersMet s) ⊎ First (numbersMet s) → OneOrOther s
     go (inl n) = inl (none-met s n)
-    go (inr f) = inr (first-met s f)
+    go (inr f) = inr (first-met s f (end-member s (f .earlier) (f .number) (f .later) (subst (Ends s) (f .met) (met-ends s))))
 
 -- ---- Refusal 19 exactly if a surplus zero is met.
 
@@ -496,3 +496,10 @@ met-refused s m = go (one-or-other s)
     go : OneOrOther s → RefusesSurplus s
     go (inl n) = absurd (surplus-with (m .earlier) (m .number) (m .later) (m .surplus) (subst (λ x. withoutSurplus x ≡ true) (m .met) (n .without)))
     go (inr f) = (length (f .before), f .refuses)
+
+pub without-alike : (s : List ℕ) → withoutSurplus (numbersMet s) ≡ true → fromStrStrict s ≡ fromStr s
+without-alike s w = go (one-or-other s)
+  where
+    go : OneOrOther s → fromStrStrict s ≡ fromStr s
+    go (inl n) = n .alike
+    go (inr f) = absurd (surplus-with (f .earlier) (f .number) (f .later) (f .surplus) (subst (λ x. withoutSurplus x ≡ true) (f .met) w))
