@@ -1,4 +1,7 @@
--- The theorems, and below them the laws that they rest on.
+-- The theorems over strict reading, and below them the laws that they rest on.
+pub mod Strict
 pub mod CasesHold
-pub mod SurplusLaws
 pub mod PrintLaws
+pub mod SurplusLaws
+pub mod NeverLaws
+pub mod EndLaws

@@ -11,13 +11,12 @@ use Rattle.kinds.specs.Byte.{byte, bytes, among, isDigit, startsDigit}
 use Rattle.kinds.specs.Container.{startByte, endByte}
 use Rattle.kinds.specs.Level.{showsFields}
 use Rattle.kinds.specs.Name.{verifyName}
-use Rattle.kinds.specs.Parse.{maxU64, maxU8, container, parseNumber, named, parseName, singles, others, inSingles, inOthers, start, begin, integral, parseInner, stripLeadingQualifiers}
+use Rattle.kinds.specs.Parse.{maxU64, maxU8, container, named, parseName, singles, others, inSingles, inOthers, start, begin, integral, parseInner}
 use Rattle.kinds.specs.Parse.{Whole, tree, refusal, fromStr}
 use Rattle.kinds.specs.Primitive.{codes, code}
 use Rattle.kinds.specs.Print.{digits, decimal, printNode, print}
 use Rattle.kinds.specs.Sound.{validCount}
 use Rattle.kinds.specs.Strict.{digitCount, surplusZero, typedNumber, bitsNumbers, numbersOf, numbersInside, numbersAfter, innerNumbers, itemsNumbers, numbers, numbersMet}
-use Rattle.kinds.specs.Strict.{fromStrStrict}
 use Rattle.kinds.specs.Tree.{Label, Trees, end, node, primitive, bitField, typedBitField, pointer, atomic, array, struct, union, none, inside, shows, keep, shown, isEnd, isOne}
 use Rattle.kinds.specs.declared.ContainerKind.{ContainerKind}
 use Rattle.kinds.specs.declared.ContainerKind.the-variants.{Struct, Union}

@@ -9,8 +9,8 @@ use Rattle.kinds.specs.Strict.{fromStrStrict}
 use Rattle.kinds.specs.Tree as T
 use Rattle.kinds.specs.Tree.{Trees, end, node, primitive, bitField, typedBitField, pointer, atomic, array, struct, union}
 use Rattle.kinds.specs.declared.ContainerKind.the-variants.{Struct}
-use Rattle.kinds.specs.declared.ErrorKind.{ErrorKind}
-use Rattle.kinds.specs.declared.ErrorKind.the-variants.{UnexpectedEnd, Unknown, UnknownAfterComplex, ExpectedInteger, IntegerTooLarge, WrongEndArray, WrongEndContainer, InvalidIdentifier, NotAllConsumed, SurplusZero}
+use Rattle.kinds.specs.declared.ErrorKind.the-variants.{UnexpectedEnd, Unknown, UnknownAfterComplex, ExpectedInteger, IntegerTooLarge, WrongEndArray}
+use Rattle.kinds.specs.declared.ErrorKind.the-variants.{WrongEndContainer, InvalidIdentifier, NotAllConsumed, SurplusZero}
 use Rattle.kinds.specs.declared.Primitive.the-variants.{Char, Int, Object}
 
 -- A text, what strict reading gives, and what whole-text reading gives.

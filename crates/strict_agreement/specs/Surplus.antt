@@ -1,9 +1,8 @@
 -- When strict reading differs from whole-text reading, and how.
 use Prim.Native.Nat.{ℕ}
 use mathlib.Core.Path.{_≡_}
-use mathlib.Core.Bool.{Bool, true, false, _&&_, not}
+use mathlib.Core.Bool.{Bool, true, _&&_, not}
 use mathlib.Core.List.{List, [], _∷_, _++_}
-use mathlib.Core.Logic.{_⊎_}
 use mathlib.Core.Option.{none}
 use lib.ListN.{length}
 use Rattle.kinds.specs.Parse.{refusal, fromStr}
@@ -32,9 +31,6 @@ pub record FirstMet (s : List ℕ) : Type 0 where
   pub surplus : surplusZero number ≡ true
   pub place : s ≡ before ++ number
   pub refuses : fromStrStrict s ≡ refusal SurplusZero (length before)
-
-abbrev pub OneOrOther : List ℕ → Type 0
-OneOrOther s = NoneMet s ⊎ FirstMet s
 
 -- Some number that reading meets has a surplus zero.
 pub record SurplusMet (s : List ℕ) : Type 0 where
