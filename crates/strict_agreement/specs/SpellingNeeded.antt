@@ -9,7 +9,7 @@ use Rattle.kinds.specs.Primitive.{kindOf}
 use Rattle.kinds.specs.Strict.{fromStrStrict}
 use Rattle.kinds.specs.Tree.{Label, Trees, end, node, primitive, array, struct, union}
 use Rattle.kinds.specs.declared.Primitive.the-variants as P
-use Rattle.strict_spelling.specs.Spelling.{short, unquoted, Registers}
+use Rattle.strict_agreement.specs.Spelling.{short, unquoted, Registers}
 
 -- `=` before a closer is left: both texts register the tree.
 abbrev pub StructsLeft : Type 0

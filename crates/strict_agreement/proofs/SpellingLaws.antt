@@ -23,7 +23,7 @@ use Rattle.kinds.proofs.TableLaws.{both, each}
 use Rattle.agreement.proofs.ByteLaws.{apart, lacks, _also_}
 use Rattle.agreement.proofs.DigitLaws.{digits-stop}
 use Rattle.agreement.proofs.ReadLaws.{digit-read}
-use Rattle.strict_spelling.specs.Spelling.{short, levelBy, spelled, unquoted}
+use Rattle.strict_agreement.specs.Spelling.{short, levelBy, spelled, unquoted}
 
 -- ---- Text and its short spelling.
 

@@ -7,8 +7,8 @@ use Rattle.kinds.specs.Name.{isNameByte, verifyName}
 use Rattle.kinds.specs.Parse.{moreDigits, bounded, parseNumber, singles, others, inOthers, inSingles, start, leaf, parseQuoted, parseObject, checkName, parseName, closeItem, item, contained}
 use Rattle.kinds.specs.Parse.{begin, nextItem, parseItems, parse, qualifiers, isQualifier, stripLeadingQualifiers, encodingOrNone, parseEncodingOrNone, whole, fromStr}
 use Rattle.kinds.specs.Strict.{digitCount, surplusZero, numbersOf, numbersInside, numbersAfter, itemsNumbers, numbers, numbersMet, firstSurplus, unlessSurplus, fromStrStrict}
-use Rattle.strict_spelling.specs.Spelling.{short, unquoted}
-use Rattle.strict_spelling.specs.SpellingNeeded.{StructsLeft, UnionsLeft, QualifiersMatter, ClassNamesMatter, ZerosMatter}
+use Rattle.strict_agreement.specs.Spelling.{short, unquoted}
+use Rattle.strict_agreement.specs.SpellingNeeded.{StructsLeft, UnionsLeft, QualifiersMatter, ClassNamesMatter, ZerosMatter}
 
 pub spellings-left : StructsLeft × UnionsLeft
 unfolding among isDigit isNameByte verifyName singles others inOthers inSingles start checkName parseName contained begin nextItem parseItems parse qualifiers isQualifier

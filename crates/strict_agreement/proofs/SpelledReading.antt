@@ -25,9 +25,9 @@ use Rattle.kinds.specs.declared.ContainerKind.the-variants.{Struct, Union}
 use Rattle.kinds.proofs.TableLaws.{both}
 use Rattle.agreement.proofs.ReadLaws.{Well, well}
 use Rattle.agreement.proofs.RoundTrip.{lacks-equals, body, container-text}
-use Rattle.strict_spelling.specs.Spelling.{closesContainer, short, levelBy, spelled, unquoted, Registers}
-use Rattle.strict_spelling.proofs.SpellingLaws.{Written, _then_, respelled, one-byte, all-bytes, unquoted-later, NumberSays, number-says, by-equals, by-closer}
-use Rattle.strict_spelling.proofs.SpellingLaws.{NameSays, name-says, Begins, begins, integral-code}
+use Rattle.strict_agreement.specs.Spelling.{closesContainer, short, levelBy, spelled, unquoted, Registers}
+use Rattle.strict_agreement.proofs.SpellingLaws.{Written, _then_, respelled, one-byte, all-bytes, unquoted-later, NumberSays, number-says, by-equals, by-closer}
+use Rattle.strict_agreement.proofs.SpellingLaws.{NameSays, name-says, Begins, begins, integral-code}
 
 -- ---- Numbers without a surplus zero.
 

@@ -1,1 +1,0 @@
-// No code: that strict reading leaves one spelling is stated in specs/ and proofs/Spelling.antt.
