@@ -3,6 +3,7 @@ ghost use mathlib.Core.Path.{_≡_};
 ghost use mathlib.Core.Bool.{true};
 ghost use Rattle.helper.specs.Answer.{compareAnswer};
 ghost use Rattle.parse.specs.Answer.{answerWords, fromStrAnswer, fromStrWords, fromStrNames, fromStartAnswer, fromStartWords, fromStartNames, fromStartRest, EndOf};
+ghost use Rattle.parse.specs.Answer.{fromStrStrictAnswer, fromStrStrictWords, fromStrStrictNames};
 use helper::compare_encodings;
 use kinds::Compared;
 use parse::Reading;
@@ -14,6 +15,15 @@ pub fn from_str(text: &[u8], words: &mut [u64], names: &mut [u8]) -> Reading
     ensures names { λ _. ⌜ now (names .exit) ≡ fromStrNames (now (text .entry)) (now (words .entry)) (now (names .entry)) ⌝ }
 {
     parse::from_str(text, words, names)
+}
+
+// The same, but a number with a surplus zero is refused.
+pub fn from_str_strict(text: &[u8], words: &mut [u64], names: &mut [u8]) -> Reading
+    ensures answers { λ r. ⌜ r ≡ fromStrStrictAnswer (now (text .entry)) (now (words .entry)) (now (names .entry)) ⌝ }
+    ensures fills { λ _. ⌜ now (words .exit) ≡ fromStrStrictWords (now (text .entry)) (now (words .entry)) (now (names .entry)) ⌝ }
+    ensures names { λ _. ⌜ now (names .exit) ≡ fromStrStrictNames (now (text .entry)) (now (words .entry)) (now (names .entry)) ⌝ }
+{
+    parse::from_str_strict(text, words, names)
 }
 
 // The tree of the type that a text begins with, into lent lists; the rest is handed back. The answer is 0 for a tree and else the
