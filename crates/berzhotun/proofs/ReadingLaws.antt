@@ -1,4 +1,4 @@
--- Reading from the start: its answer as four words, and the rest, as the numbers that go out.
+-- Readings as the numbers that go out: a whole text's answer, ordinary or strict; from the start, its answer as four words, and the rest.
 use Prim.Native.Nat.{ℕ, _-_, _≤_}
 use mathlib.Core.Path.{_≡_, refl, ap, _∙_}
 use mathlib.Core.List.{List, [], _∷_}
@@ -10,6 +10,11 @@ use Rattle.parse.specs.declared.Reading.{Reading}
 use Rattle.parse.specs.declared.Reading.the-variants as G
 use Rattle.parse.proofs.FromStr.{refused-rest}
 use Rattle.berzhotun.specs.Answer.{readNumber, readValues, restPlace}
+
+-- What the call below answered, `a`, went out as numbers: they are those of the answer that it is. `Lists` is what else that call promises.
+pub whole-given : {a answer : Reading} {n : ℕ} {vs : List ℕ} {Lists : Type 0}
+    → (a ≡ answer) × Lists → (n ≡ readNumber a) × (vs ≡ readValues 0 a) → (n ≡ readNumber answer) × ((vs ≡ readValues 0 answer) × Lists)
+whole-given promised given = (given .0 ∙ ap readNumber (promised .0), (given .1 ∙ ap (readValues 0) (promised .0), promised .1))
 
 module _ (text w ns ws rest : List ℕ) (answers : ws ≡ answerWords (fromStartAnswer text w ns)) (rests : rest ≡ fromStartRest text w ns) where
   pub number-is : getD ws 0 0 ≡ readNumber (fromStartAnswer text w ns)

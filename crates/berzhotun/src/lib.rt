@@ -4,6 +4,7 @@ ghost use mathlib.Core.Path.{_≡_};
 ghost use mathlib.Core.Bool.{true, false};
 ghost use lib.ListN.{length};
 ghost use Rattle.parse.specs.Answer.{fromStrAnswer, fromStrWords, fromStrNames, fromStartAnswer, fromStartWords, fromStartNames};
+ghost use Rattle.parse.specs.Answer.{fromStrStrictAnswer, fromStrStrictWords, fromStrStrictNames};
 ghost use Rattle.expect.specs.Answer.{compared};
 ghost use Rattle.helper.specs.Answer.{sizeAnswer, compareAnswer};
 ghost use Rattle.signature.specs.Answer.{signatureAnswer, signatureList};
@@ -200,6 +201,21 @@ pub extern "C" fn berzhotun_from_str(
     ensures names { λ _. ⌜ now (names .exit) ≡ fromStrNames (now (text .entry)) (now (words .entry)) (now (names .entry)) ⌝ }
 {
     give_reading(encoding_box::from_str(text, words, names), values)
+}
+
+#[no_mangle]
+pub extern "C" fn berzhotun_from_str_strict(
+    text: &[u8],
+    words: &mut [u64],
+    names: &mut [u8],
+    values: &mut [u64; 3],
+) -> u64
+    ensures returns { λ r. ⌜ r ≡ readNumber (fromStrStrictAnswer (now (text .entry)) (now (words .entry)) (now (names .entry))) ⌝ }
+    ensures answers { λ _. ⌜ now (values .exit) ≡ readValues 0 (fromStrStrictAnswer (now (text .entry)) (now (words .entry)) (now (names .entry))) ⌝ }
+    ensures fills { λ _. ⌜ now (words .exit) ≡ fromStrStrictWords (now (text .entry)) (now (words .entry)) (now (names .entry)) ⌝ }
+    ensures names { λ _. ⌜ now (names .exit) ≡ fromStrStrictNames (now (text .entry)) (now (words .entry)) (now (names .entry)) ⌝ }
+{
+    give_reading(encoding_box::from_str_strict(text, words, names), values)
 }
 
 // The rest goes out as the place where it begins: the caller has the text.
