@@ -106,7 +106,7 @@ reasons =
     ++ (bytes "^ the text ends where another byte must stand\nb no type starts with \nb f, d or D must follow j, not \n^ a digit must stand here\n"
     ++ (bytes "^ a number is above 2^64 - 1, or a bitfield's size above 255\n^ no ] follows the array's item\n"
     ++ (bytes "c the text ends inside the \nc neither ? nor letters, digits and underscores name the \n^ bytes remain after the type\n"
-    ++ bytes "^ no digit follows the type\n^ the number is above 4294967295\n- the signature is empty"))))
+    ++ bytes "^ no digit follows the type\n^ the number is above 4294967295\n- the signature is empty\n^ the number starts with a surplus zero"))))
 
 -- A line with a mark under the place, unless the refusal has none.
 unfoldable pub markText : ℕ → ℕ → List ℕ

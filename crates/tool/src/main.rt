@@ -36,43 +36,20 @@ fn say_line(out: &mut [u8], at: usize) {
     say(lines::front(out, end));
 }
 
-// The commands, a line each.
+// The commands, a line each. `\x20` is a space that the line break before it does not take away.
 fn say_usage(to: i32) {
     io::write_all(
         to,
-        b"usage: berzhotun read TEXT         the tree, a node a line\n",
-    );
-    io::write_all(
-        to,
-        b"       berzhotun start TEXT        the tree of the type at the start of TEXT, and the rest\n",
-    );
-    io::write_all(
-        to,
-        b"       berzhotun print TEXT        the printed text of the tree\n",
-    );
-    io::write_all(
-        to,
-        b"       berzhotun size TEXT         its size on 64-bit Apple ARM\n",
-    );
-    io::write_all(
-        to,
-        b"       berzhotun compare A B       whether the trees of A and B are equivalent, by levels\n",
-    );
-    io::write_all(
-        to,
-        b"       berzhotun compare-all A B   the same with all fields\n",
-    );
-    io::write_all(
-        to,
-        b"       berzhotun match A TEXT      whether the tree of A is equivalent to TEXT\n",
-    );
-    io::write_all(
-        to,
-        b"       berzhotun signature TEXT    the types of a method's signature with their numbers, a line each\n",
-    );
-    io::write_all(
-        to,
-        b"       berzhotun -                 commands from standard input, a line each\n",
+        b"usage: berzhotun read TEXT         the tree, a node a line\n\
+            \x20      berzhotun read-strict TEXT  the same, but a number with a surplus zero is refused\n\
+            \x20      berzhotun start TEXT        the tree of the type at the start of TEXT, and the rest\n\
+            \x20      berzhotun print TEXT        the printed text of the tree\n\
+            \x20      berzhotun size TEXT         its size on 64-bit Apple ARM\n\
+            \x20      berzhotun compare A B       whether the trees of A and B are equivalent, by levels\n\
+            \x20      berzhotun compare-all A B   the same with all fields\n\
+            \x20      berzhotun match A TEXT      whether the tree of A is equivalent to TEXT\n\
+            \x20      berzhotun signature TEXT    the types of a method's signature with their numbers, a line each\n\
+            \x20      berzhotun -                 commands from standard input, a line each\n",
     );
 }
 
@@ -139,9 +116,17 @@ fn say_rest(rest: &[u8]) {
     }
 }
 
+// By the ordinary reading, or by the strict one.
+fn reading(strict: bool, text: &[u8], words: &mut [u64], names: &mut [u8]) -> Reading {
+    if strict {
+        return encoding_box::from_str_strict(text, words, names);
+    }
+    encoding_box::from_str(text, words, names)
+}
+
 // Reads a text, and says so where it is refused.
-fn reads(text: &[u8], words: &mut [u64], names: &mut [u8]) -> bool {
-    match encoding_box::from_str(text, words, names) {
+fn reads_by(strict: bool, text: &[u8], words: &mut [u64], names: &mut [u8]) -> bool {
+    match reading(strict, text, words, names) {
         Reading::Tree => true,
         Reading::Refused(why) => {
             say_refused(text, &why.words());
@@ -150,10 +135,14 @@ fn reads(text: &[u8], words: &mut [u64], names: &mut [u8]) -> bool {
     }
 }
 
-fn answer_read(text: &[u8]) {
+fn reads(text: &[u8], words: &mut [u64], names: &mut [u8]) -> bool {
+    reads_by(false, text, words, names)
+}
+
+fn answer_read(strict: bool, text: &[u8]) {
     let mut words = [0u64; MAX_WORDS];
     let mut names = [0u8; MAX_TEXT];
-    if reads(text, &mut words, &mut names) {
+    if reads_by(strict, text, &mut words, &mut names) {
         say_tree(&words, &names);
     }
 }
@@ -274,6 +263,9 @@ fn texts_of(command: &[u8]) -> usize {
     if check::same(command, b"read") {
         return 1;
     }
+    if check::same(command, b"read-strict") {
+        return 1;
+    }
     if check::same(command, b"start") {
         return 1;
     }
@@ -301,7 +293,9 @@ fn texts_of(command: &[u8]) -> usize {
 // Answers a command that `texts_of` knows, whose texts stand in `a` and `b`.
 fn answer_known(command: &[u8], a: &[u8], b: &[u8]) {
     if check::same(command, b"read") {
-        answer_read(a);
+        answer_read(false, a);
+    } else if check::same(command, b"read-strict") {
+        answer_read(true, a);
     } else if check::same(command, b"start") {
         answer_start(a);
     } else if check::same(command, b"print") {

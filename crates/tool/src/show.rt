@@ -303,6 +303,7 @@ pub fn put_refused(out: &mut [u8], text: &[u8], why: &[u64; 4]) -> usize
         ^ bytes remain after the type\n\
         ^ no digit follows the type\n\
         ^ the number is above 4294967295\n\
-        - the signature is empty";
+        - the signature is empty\n\
+        ^ the number starts with a surplus zero";
     put_reason(out, text, why, line_of(reasons, why[0]))
 }
