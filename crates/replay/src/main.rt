@@ -99,8 +99,8 @@ fn put_compared(out: &mut [u8], at: usize, compared: Compared) -> usize {
     }
 }
 
-fn answer_read(text: &[u8], words: &mut [u64], names: &mut [u8], out: &mut [u8]) -> usize {
-    match encoding_box::from_str(text, words, names) {
+fn answer_read(reading: Reading, words: &[u64], names: &[u8], out: &mut [u8]) -> usize {
+    match reading {
         Reading::Refused(why) => put_refused(out, b"no ", why),
         Reading::Tree => {
             let at = lines::put_bytes(out, 0, b"ok ");
@@ -199,6 +199,9 @@ fn is_reading(question: &[u8]) -> bool {
     if check::same(question, b"read") {
         return true;
     }
+    if check::same(question, b"read-strict") {
+        return true;
+    }
     if check::same(question, b"signature") {
         return true;
     }
@@ -222,7 +225,12 @@ fn answer_reading(
     if check::same(question, b"signature") {
         return answer_signature(lines::front(text, n), words, out);
     }
-    answer_read(lines::front(text, n), words, names, out)
+    if check::same(question, b"read-strict") {
+        let strict = encoding_box::from_str_strict(lines::front(text, n), words, names);
+        return answer_read(strict, words, names, out);
+    }
+    let reading = encoding_box::from_str(lines::front(text, n), words, names);
+    answer_read(reading, words, names, out)
 }
 
 fn answer_matching(
