@@ -153,6 +153,8 @@ extern "C" {
 #define BERZHOTUN_OFFSET_TOO_LARGE 17u
 /* The signature has no byte. */
 #define BERZHOTUN_EMPTY_SIGNATURE 18u
+/* In a strict reading a number has more than one digit and starts with 0. Place: that of the 0. */
+#define BERZHOTUN_SURPLUS_ZERO 19u
 
 /*
  * Reads the whole text as one type. Leading bytes among r n N o O R V (const, in, inout and so on)
@@ -171,6 +173,25 @@ extern "C" {
  */
 uint64_t berzhotun_from_str(const uint8_t *text, size_t text_len, uint64_t *words, size_t words_len,
                             uint8_t *names, size_t names_len, uint64_t values[3]);
+
+/*
+ * Reads the whole text as one type, and takes only one spelling of each number: for registration,
+ * where `[7c]` and `[007c]` would else be two entries for one type. As berzhotun_from_str, but for
+ * this:
+ *
+ * Refuses also by 19: a number (an array's length, a bitfield's offset or bits) has more than one
+ *         digit and starts with 0. It is refused as soon as reading meets it, before 11 for that
+ *         number and before all that reading would meet behind it; what reading meets before it
+ *         goes first, and 15 is met behind the type. Words and names become 0 as by 7 to 15, and
+ *         values are the place of the number's first digit, 0 and 0.
+ *
+ * So `[00c]` and `b0256` are refused by 19 at 1, `b0i007` by 19 at 3 and `{x=[007c` by 19 at 4, but
+ * `j[007c]` by 9 at 1 and `[7c][007c]` by 15 at 4. The number 0 has one digit: `b0i0` is read. In a
+ * name and between quotes digits are no number: `{b01=i}` and `@"[00"` are read.
+ */
+uint64_t berzhotun_from_str_strict(const uint8_t *text, size_t text_len, uint64_t *words,
+                                   size_t words_len, uint8_t *names, size_t names_len,
+                                   uint64_t values[3]);
 
 /*
  * Reads one type from the start of the text, as of a method's signature, and says where the rest
