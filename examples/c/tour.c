@@ -34,6 +34,7 @@ static const char *const in_words[] = {
     "a number must follow the type",
     "the number is above 4,294,967,295",
     "the signature has no byte",
+    "the number starts with a surplus zero",
 };
 
 static const char *yes_or_no(uint64_t answer) {
@@ -173,6 +174,27 @@ static void take_some_apart(void) {
     }
 }
 
+/* For registration each number has one spelling, so that no type is there twice. */
+static void register_text(const char *text) {
+    static struct tree tree;
+    uint64_t values[3];
+    uint64_t refusal = berzhotun_from_str_strict((const uint8_t *)text, strlen(text), LENT(tree), values);
+    if (refusal != 0) {
+        show_refusal(text, refusal, values, refusal == BERZHOTUN_UNKNOWN_BYTE);
+    } else {
+        printf("  %s\n  is registered with %" PRIu64 " nodes\n", text, tree.words[0]);
+    }
+}
+
+static void register_some(void) {
+    static const char *const texts[] = {"[7c]", "[007c]", "{b01=b0i7}", "{R=b0i007}", "b0256", "[7c][007c]"};
+    size_t i;
+    printf("\n");
+    for (i = 0; i < sizeof texts / sizeof texts[0]; i++) {
+        register_text(texts[i]);
+    }
+}
+
 static void refuse_some(void) {
     static const char *const texts[] = {"{R=ix}", "[3i", "{a-b=i}", "{R=i", "jx", "b256", "ii"};
     static struct tree tree;
@@ -188,6 +210,7 @@ int main(void) {
     compare_some();
     read_start("{R=i}16@0:8");
     take_some_apart();
+    register_some();
     refuse_some();
     return 0;
 }

@@ -10,6 +10,15 @@ extern "C" {
         names_len: usize,
         values: *mut [u64; 3],
     ) -> u64;
+    pub fn berzhotun_from_str_strict(
+        text: *const u8,
+        text_len: usize,
+        words: *mut u64,
+        words_len: usize,
+        names: *mut u8,
+        names_len: usize,
+        values: *mut [u64; 3],
+    ) -> u64;
     pub fn berzhotun_from_start_of_str(
         text: *const u8,
         text_len: usize,

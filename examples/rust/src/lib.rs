@@ -10,6 +10,8 @@
 //!
 //! let types = berzhotun::parse_signature(b"v24@0:8@16").unwrap();
 //! assert_eq!((types[3].encoding, types[3].offset), (&b"@"[..], 16));
+//!
+//! assert!(berzhotun::parse(b"[007c]").is_ok() && berzhotun::parse_strict(b"[007c]").is_err());
 //! ```
 
 mod exported;
@@ -30,6 +32,12 @@ pub struct Tree {
 /// Reads the whole text as one type.
 pub fn parse(text: &[u8]) -> Result<Tree, Refusal> {
     read(exported::berzhotun_from_str, text).map(|(tree, _)| tree)
+}
+
+/// Reads the whole text as one type, and takes only one spelling of each number: where [`parse`] reads
+/// `[007c]` as it does `[7c]`, this refuses it, by [`Refusal::SurplusZero`].
+pub fn parse_strict(text: &[u8]) -> Result<Tree, Refusal> {
+    read(exported::berzhotun_from_str_strict, text).map(|(tree, _)| tree)
 }
 
 /// Reads one type from the start of the text and returns it with the rest of the text.

@@ -50,6 +50,9 @@ pub enum Refusal {
     OffsetTooLarge { place: usize },
     /// 18: the signature has no byte.
     EmptySignature,
+    /// 19: in a strict reading the number that begins at the place has more than one digit and
+    /// starts with 0.
+    SurplusZero { place: usize },
 }
 
 impl Refusal {
@@ -81,6 +84,7 @@ impl Refusal {
             16 => Refusal::ExpectedOffset { place },
             17 => Refusal::OffsetTooLarge { place },
             18 => Refusal::EmptySignature,
+            19 => Refusal::SurplusZero { place },
             _ => unreachable!("the library has no refusal {number}"),
         }
     }
@@ -106,6 +110,7 @@ impl Refusal {
             Refusal::ExpectedOffset { .. } => 16,
             Refusal::OffsetTooLarge { .. } => 17,
             Refusal::EmptySignature => 18,
+            Refusal::SurplusZero { .. } => 19,
         }
     }
 }
@@ -153,6 +158,9 @@ impl Refusal {
             }
             Refusal::NotAllConsumed { place } => {
                 write!(f, "the type ends at {place}, the text does not")
+            }
+            Refusal::SurplusZero { place } => {
+                write!(f, "the number at {place} has a zero too many in front")
             }
             Refusal::TextTooLong
             | Refusal::ListTooShort

@@ -1,6 +1,8 @@
-//! Cases of the scope document and of signatures, through the wrapper.
+//! Cases of the scope document, of signatures and of strict reading, through the wrapper.
 
-use berzhotun::{parse, parse_signature, parse_start, Container, Entry, Refusal, Tree, MAX_TEXT};
+use berzhotun::{
+    parse, parse_signature, parse_start, parse_strict, Container, Entry, Refusal, Tree, MAX_TEXT,
+};
 
 fn tree(text: &str) -> Tree {
     parse(text.as_bytes()).unwrap_or_else(|refusal| panic!("{text}: {refusal}"))
@@ -288,6 +290,67 @@ fn a_signatures_types_are_the_callers_own_text() {
     }
     let table = tree("^{Rate=id}");
     assert_eq!(table.matches(entries[4].encoding), Ok(true));
+}
+
+#[test]
+fn surplus_zeros_are_refused_strictly() {
+    let cases: [(&str, usize); 14] = [
+        ("[00c]", 1),
+        ("[007c]", 1),
+        ("b01", 1),
+        ("b00", 1),
+        ("b0i007", 3),
+        ("b00i7", 1),
+        ("b256i07", 5),
+        ("rnb01", 3),
+        ("{x=[7c]^(u=b01)}", 12),
+        // Reading as the crate does refuses these too, by another number or further on.
+        ("b00i256", 1),
+        ("b0256", 1),
+        ("[00x]", 1),
+        ("[00", 1),
+        ("{x=[007c", 4),
+    ];
+    for (text, place) in cases {
+        let refusal = parse_strict(text.as_bytes()).expect_err(text);
+        assert_eq!(refusal, Refusal::SurplusZero { place }, "{text}");
+        assert_eq!(refusal.number(), 19);
+        assert!(refusal.to_string().contains(&format!("at {place} ")));
+    }
+    assert_eq!(refusal("b0256"), Refusal::IntegerTooLarge { place: 5 });
+    assert_eq!(refusal("{x=[007c"), Refusal::WrongEndArray { place: 8 });
+    assert_eq!(print("[007c]"), "[7c]");
+}
+
+#[test]
+fn strict_reading_is_otherwise_the_same() {
+    let complex = Refusal::UnknownAfterComplex {
+        place: 1,
+        byte: b'[',
+    };
+    assert_eq!(parse_strict(b"j[007c]").unwrap_err(), complex);
+    let behind = Refusal::NotAllConsumed { place: 4 };
+    assert_eq!(parse_strict(b"[7c][007c]").unwrap_err(), behind);
+    let too_large = Refusal::IntegerTooLarge { place: 21 };
+    assert_eq!(
+        parse_strict(b"b18446744073709551616i007").unwrap_err(),
+        too_large
+    );
+    assert_eq!(
+        parse_strict(&[b'0'; MAX_TEXT + 1]).unwrap_err(),
+        Refusal::TextTooLong
+    );
+    for text in [
+        "{b01=i}", "@\"[00\"", "[0c]", "b0", "b0i0", "b10i20", "", "r", "{R=i^v}",
+    ] {
+        let strict = parse_strict(text.as_bytes()).unwrap_or_else(|no| panic!("{text}: {no}"));
+        let plain = tree(text);
+        assert_eq!(
+            (strict.words(), strict.names()),
+            (plain.words(), plain.names()),
+            "{text}"
+        );
+    }
 }
 
 #[test]
