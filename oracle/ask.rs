@@ -7,6 +7,7 @@ use crate::parse::Parser;
 use crate::plain;
 use crate::sheet::{STRUCT, UNION};
 use crate::static_str::{static_encoding_str_array, static_encoding_str_len};
+use crate::surplus;
 use crate::trees::{Arena, Tree};
 use crate::{Encoding, EncodingBox, ParseError};
 
@@ -22,6 +23,22 @@ pub struct Refusal {
 /// Whole-text reading.
 pub fn read(text: &str) -> Result<EncodingBox, Refusal> {
     EncodingBox::from_str(text).map_err(|error| refusal(&error))
+}
+
+/// Strict whole-text reading as request N3 has it: the crate's reading, unless that meets a number with
+/// a surplus zero.
+pub fn read_strict(text: &str) -> Result<EncodingBox, Refusal> {
+    let answer = read(text);
+    match surplus_zero(text, &answer) {
+        Some(refusal) => Err(refusal),
+        None => answer,
+    }
+}
+
+/// Refusal 19, if the crate's reading of the text, which answered so, met such a number.
+pub fn surplus_zero(text: &str, answer: &Result<EncodingBox, Refusal>) -> Option<Refusal> {
+    let end = answer.as_ref().map_or_else(|refusal| refusal.place as usize, |_| text.len());
+    surplus::by_walk(text.as_bytes(), end).map(|place| placed(19, place))
 }
 
 /// Reading from the start: the tree, and the place where the rest begins.

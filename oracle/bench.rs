@@ -143,6 +143,8 @@ fn bench_reading(name: &str, text: &str) {
     let (mut words, mut names) = (vec![0; 8 + 4 * text.len()], vec![0; text.len()]);
     let ours = || library::from_str(black_box(text.as_bytes()), &mut words, &mut names).0;
     line(name, "from_str", || crate_read(black_box(text)), ours);
+    let ours = || library::from_str_strict(black_box(text.as_bytes()), &mut words, &mut names).0;
+    line(name, "from_str_strict", || crate_read(black_box(text)), ours);
     let ours = || library::from_start_of_str(black_box(text.as_bytes()), &mut words, &mut names).0;
     line(name, "from_start_of_str", || crate_read_start(black_box(text)), ours);
 }

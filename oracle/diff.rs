@@ -8,6 +8,8 @@
 //!     diff texts SEED COUNT     tree against text
 //!     diff short-signatures LENGTH  every signature up to that length over some bytes
 //!     diff signatures SEED COUNT    random, well-formed and spoilt signatures
+//!     diff short-strict LENGTH  every text up to that length over some bytes: strict reading
+//!     diff strict SEED COUNT    random, well-formed and spoilt texts, zeros in front of numbers: strict reading
 //!     diff all SEED COUNT       each of these, with lengths 3 and 4
 //!     diff stack KIBIBYTES      the deepest trees, texts and signatures on a stack of that size
 //!     diff bench                times, as ratios to the crate's
@@ -15,7 +17,7 @@
 //! The exit status is 0 if there was no difference, 1 if there was one, 2 if the call makes no sense.
 
 use crate::report::run as run_all;
-use crate::{bench, run_reads, run_sheets, run_signatures, run_texts, run_trees, stack};
+use crate::{bench, run_reads, run_sheets, run_signatures, run_strict, run_texts, run_trees, stack};
 
 pub fn run() -> i32 {
     let arguments: Vec<String> = std::env::args().skip(1).collect();
@@ -31,11 +33,14 @@ pub fn run() -> i32 {
         (Some("texts"), Some(&[seed, count])) => texts(seed, count),
         (Some("short-signatures"), Some(&[length])) => short_signatures(length as usize),
         (Some("signatures"), Some(&[seed, count])) => signatures(seed, count),
+        (Some("short-strict"), Some(&[length])) => short_strict(length as usize),
+        (Some("strict"), Some(&[seed, count])) => strict(seed, count),
         (Some("stack"), Some(&[kibibytes])) => stack::run(kibibytes as usize),
         (Some("bench"), Some(&[])) => bench::run(),
         _ => {
-            eprintln!("usage: diff trees|sheets|reads|texts|signatures|all SEED COUNT");
-            eprintln!("       diff short|match|short-signatures LENGTH, diff stack KIBIBYTES, diff bench");
+            eprintln!("usage: diff trees|sheets|reads|texts|signatures|strict|all SEED COUNT");
+            eprintln!("       diff short|match|short-signatures|short-strict LENGTH");
+            eprintln!("       diff stack KIBIBYTES, diff bench");
             return 2;
         }
     };
@@ -52,6 +57,8 @@ fn all(seed: u64, count: u64) -> bool {
     same &= texts(seed, count);
     same &= short_signatures(3);
     same &= signatures(seed, count);
+    same &= short_strict(4);
+    same &= strict(seed, count);
     same
 }
 
@@ -94,4 +101,14 @@ fn short_signatures(length: usize) -> bool {
 fn signatures(seed: u64, count: u64) -> bool {
     let mut check = run_signatures::Check::new();
     run_all("signatures", run_signatures::inputs(seed, count), |case, tally| check.case(case, tally))
+}
+
+fn short_strict(length: usize) -> bool {
+    let mut check = run_strict::Check::default();
+    run_all("short-strict", run_strict::short_inputs(length), |case, tally| check.case(case, tally))
+}
+
+fn strict(seed: u64, count: u64) -> bool {
+    let mut check = run_strict::Check::default();
+    run_all("strict", run_strict::inputs(seed, count), |case, tally| check.case(case, tally))
 }

@@ -89,6 +89,15 @@ mod exported {
             names_len: usize,
             values: *mut u64,
         ) -> u64;
+        pub fn berzhotun_from_str_strict(
+            text: *const u8,
+            text_len: usize,
+            words: *mut u64,
+            words_len: usize,
+            names: *mut u8,
+            names_len: usize,
+            values: *mut u64,
+        ) -> u64;
         pub fn berzhotun_from_start_of_str(
             text: *const u8,
             text_len: usize,
@@ -219,6 +228,23 @@ pub fn from_str(text: &[u8], words: &mut [u64], names: &mut [u8]) -> Reply {
     // SAFETY: as in `pair`.
     let refusal = unsafe {
         exported::berzhotun_from_str(
+            text.as_ptr(),
+            text.len(),
+            words.as_mut_ptr(),
+            words.len(),
+            names.as_mut_ptr(),
+            names.len(),
+            values.as_mut_ptr(),
+        )
+    };
+    (refusal, values)
+}
+
+pub fn from_str_strict(text: &[u8], words: &mut [u64], names: &mut [u8]) -> Reply {
+    let mut values = [MARK; 4];
+    // SAFETY: as in `pair`.
+    let refusal = unsafe {
+        exported::berzhotun_from_str_strict(
             text.as_ptr(),
             text.len(),
             words.as_mut_ptr(),

@@ -9,6 +9,7 @@
 //!
 //!     question                     answer
 //!     read TEXT                    ok SHEET | no NUMBER PLACE BYTE KIND
+//!     read-strict TEXT             ok SHEET | no NUMBER PLACE BYTE KIND
 //!     start TEXT                   ok SHEET PLACE | no NUMBER PLACE BYTE KIND
 //!     signature TEXT               ok and, for each type, START,LENGTH,NUMBER after a space | no ...
 //!     equivalent TREE TREE         yes | no                  (equivalent_to)
@@ -20,7 +21,7 @@
 //!     length TREE                  N                         (static_encoding_str_len)
 //!     print TREE                   t:HEX                     (static_encoding_str_array)
 //!
-//! NUMBER is the refusal of document 01, or of request N1; PLACE, BYTE and KIND (29 struct, 30
+//! NUMBER is the refusal of document 01, or of request N1 or N3; PLACE, BYTE and KIND (29 struct, 30
 //! union) are 0 where it carries none. PLACE after `ok` is where the rest begins. A sheet in an
 //! answer has the words and name bytes that are used and no more. Other answers to any question:
 //!
@@ -35,6 +36,7 @@ use std::panic::{catch_unwind, set_hook, AssertUnwindSafe};
 use crate::ask::{self, Refusal};
 use crate::sheet::is_container;
 use crate::trees::{Arena, Tree};
+use crate::EncodingBox;
 
 /// Above this many steps printing into an array takes seconds; Display's text stands in.
 const MOST_STEPS: u64 = 200_000_000;
@@ -76,7 +78,8 @@ fn ask(line: &str) -> Result<String, String> {
     let question = parts.next().unwrap_or("");
     let arguments: Vec<&str> = parts.collect();
     match (question, &arguments[..]) {
-        ("read", [text]) => Ok(read(&text_of(text)?)),
+        ("read", [text]) => Ok(read(ask::read(&text_of(text)?))),
+        ("read-strict", [text]) => Ok(read(ask::read_strict(&text_of(text)?))),
         ("start", [text]) => Ok(start(&text_of(text)?)),
         ("signature", [text]) => Ok(signature(&text_of(text)?)),
         ("equivalent", [a, b]) => Ok(equivalent(&tree_of(a)?, &tree_of(b)?)),
@@ -91,8 +94,8 @@ fn ask(line: &str) -> Result<String, String> {
     }
 }
 
-fn read(text: &str) -> String {
-    match ask::read(text) {
+fn read(answer: Result<EncodingBox, Refusal>) -> String {
+    match answer {
         Ok(tree) => format!("ok {}", sheet_text(&Tree::from_box(&tree))),
         Err(refusal) => format!("no {}", refusal_text(&refusal)),
     }

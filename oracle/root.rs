@@ -27,6 +27,8 @@ mod plain;
 #[allow(dead_code)]
 mod sheet;
 #[allow(dead_code)]
+mod surplus;
+#[allow(dead_code)]
 mod trees;
 
 #[cfg(not(diff))]
@@ -52,6 +54,8 @@ mod run_reads;
 mod run_sheets;
 #[cfg(diff)]
 mod run_signatures;
+#[cfg(diff)]
+mod run_strict;
 #[cfg(diff)]
 mod run_texts;
 #[cfg(diff)]

@@ -28,29 +28,35 @@ pub fn short_inputs(most: usize) -> impl Iterator<Item = Case> {
 }
 
 /// What reading must answer: the tree and a place, or a refusal.
-type Wanted<'a> = Result<(&'a Tree, usize), Refusal>;
+pub type Wanted<'a> = Result<(&'a Tree, usize), Refusal>;
 
-pub struct Check {
-    tree: Tree,
+/// The lists that readers are lent.
+#[derive(Default)]
+pub struct Lists {
     wanted_words: Vec<u64>,
     words: Vec<u64>,
     names: Vec<u8>,
 }
 
+#[derive(Default)]
+pub struct Check {
+    tree: Tree,
+    lists: Lists,
+}
+
+const BOTH: [(&str, Reader); 2] =
+    [("from_str", library::from_str), ("from_start_of_str", library::from_start_of_str)];
+
 impl Check {
     pub fn new() -> Check {
-        Check { tree: Tree::default(), wanted_words: Vec::new(), words: Vec::new(), names: Vec::new() }
+        Check::default()
     }
 
     pub fn case(&mut self, case: &Case, tally: &mut Tally) -> Result<(), Difference> {
         let text = case.text.as_str();
         let mut random = Random::new(case.extra);
-        if text.len() > MOST_TEXT {
-            return self.too_long(text, &mut random, tally);
-        }
-        count_length(text, tally);
-        if random.percent(15) {
-            self.short_lists(text, &mut random, tally)?;
+        if !self.lists.lengths(&BOTH, text, &mut random, tally)? {
+            return Ok(());
         }
         let mut tree = std::mem::take(&mut self.tree);
         let result = self.both(text, &mut tree, &mut random, tally);
@@ -71,7 +77,7 @@ impl Check {
             tree.refill(&read);
             (&*tree, 0)
         });
-        self.reading("from_str", library::from_str, text, wanted, random)?;
+        self.lists.reading("from_str", library::from_str, text, wanted, random)?;
 
         let answer = ask::read_start(text);
         tally.add("from_start_of_str", outcome_of_start(text, &answer.as_ref().map(|found| found.1)));
@@ -79,11 +85,37 @@ impl Check {
             tree.refill(&read);
             (&*tree, place)
         });
-        self.reading("from_start_of_str", library::from_start_of_str, text, wanted, random)
+        self.lists.reading("from_start_of_str", library::from_start_of_str, text, wanted, random)
+    }
+}
+
+impl Lists {
+    /// Refusals 1 and 2; whether the text can be read by lists that are long enough.
+    pub fn lengths(
+        &mut self,
+        readers: &[(&'static str, Reader)],
+        text: &str,
+        random: &mut Random,
+        tally: &mut Tally,
+    ) -> Result<bool, Difference> {
+        if text.len() > MOST_TEXT {
+            self.too_long(readers, text, random, tally)?;
+            return Ok(false);
+        }
+        count_length(text, tally);
+        if random.percent(15) {
+            self.short_lists(readers, text, random, tally)?;
+        }
+        Ok(true)
+    }
+
+    /// All that stands in the lists and beyond.
+    pub fn left(&self) -> (&[u64], &[u8]) {
+        (&self.words, &self.names)
     }
 
     /// Reads once, with room that is just enough or more, and looks at everything.
-    fn reading(
+    pub fn reading(
         &mut self,
         name: &'static str,
         reader: Reader,
@@ -120,7 +152,13 @@ impl Check {
     }
 
     /// Refusal 2: a list that is one short, or shorter.
-    fn short_lists(&mut self, text: &str, random: &mut Random, tally: &mut Tally) -> Result<(), Difference> {
+    fn short_lists(
+        &mut self,
+        readers: &[(&'static str, Reader)],
+        text: &str,
+        random: &mut Random,
+        tally: &mut Tally,
+    ) -> Result<(), Difference> {
         let words_needed = HEADER + 4 * (text.len() + 1);
         let names_needed = text.len();
         let (words_lent, names_lent) = match random.below(5) {
@@ -131,27 +169,32 @@ impl Check {
             _ => (random.below(words_needed), random.below(names_needed + 1)),
         };
         tally.add("short list", refusal_name(2));
-        self.nothing_done(text, words_lent, names_lent, 2)
+        self.nothing_done(readers, text, words_lent, names_lent, 2)
     }
 
     /// Refusal 1, also where the lists are short.
-    fn too_long(&mut self, text: &str, random: &mut Random, tally: &mut Tally) -> Result<(), Difference> {
+    fn too_long(
+        &mut self,
+        readers: &[(&'static str, Reader)],
+        text: &str,
+        random: &mut Random,
+        tally: &mut Tally,
+    ) -> Result<(), Difference> {
         let words_lent = random.below(HEADER + 4 * (text.len() + 1) + 4);
         let names_lent = random.below(text.len() + 4);
         tally.add("long text", refusal_name(1));
-        self.nothing_done(text, words_lent, names_lent, 1)
+        self.nothing_done(readers, text, words_lent, names_lent, 1)
     }
 
     fn nothing_done(
         &mut self,
+        readers: &[(&'static str, Reader)],
         text: &str,
         words_lent: usize,
         names_lent: usize,
         refusal: u64,
     ) -> Result<(), Difference> {
-        let readers: [(&'static str, Reader); 2] =
-            [("from_str", library::from_str), ("from_start_of_str", library::from_start_of_str)];
-        for (name, reader) in readers {
+        for &(name, reader) in readers {
             self.mark(words_lent, names_lent);
             let got = reader(text.as_bytes(), &mut self.words[..words_lent], &mut self.names[..names_lent]);
             expect(name, got, reply(refusal, &[0, 0, 0]))?;

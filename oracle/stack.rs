@@ -3,7 +3,7 @@
 
 use std::thread::Builder;
 
-use crate::library::{self, Reply, Sheet};
+use crate::library::{self, Reader, Reply, Sheet};
 use crate::sheet::*;
 use crate::trees::{Node, Tree};
 
@@ -84,13 +84,16 @@ fn texts_fit() -> bool {
         "(R=".repeat(666),
         format!("{}{}", "[1".repeat(666), "]".repeat(666)),
         format!("{}{}", "{R=".repeat(500), "}".repeat(500)),
+        // Refused at its deepest number, by strict reading as a surplus zero.
+        format!("{}[00", "[1".repeat(998)),
     ];
     let (mut words, mut names) = (vec![0; 8 + 4 * 2000], vec![0; 2000]);
-    texts.iter().all(|text| {
-        let whole = library::from_str(text.as_bytes(), &mut words, &mut names).0;
-        let start = library::from_start_of_str(text.as_bytes(), &mut words, &mut names).0;
-        (whole == 0 || whole >= 7) && (start == 0 || start >= 7)
-    })
+    let readers = [library::from_str, library::from_str_strict, library::from_start_of_str];
+    let mut fits = |text: &str, reader: Reader| {
+        let refusal = reader(text.as_bytes(), &mut words, &mut names).0;
+        refusal == 0 || refusal >= 7
+    };
+    texts.iter().all(|text| readers.iter().all(|&reader| fits(text, reader)))
 }
 
 /// A type nested as deep as a signature of 2,000 bytes allows, closed and not.
