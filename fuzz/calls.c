@@ -12,7 +12,7 @@
 enum { OUT_ROOM = 1 << 16 };
 
 const char *const function_names[FUNCTIONS] = {
-    "from_str", "from_start_of_str", "signature", "equivalent_to", "equivalent_to_box", "eq",
+    "from_str", "from_str_strict", "from_start_of_str", "signature", "equivalent_to", "equivalent_to_box", "eq",
     "equivalent_to_str", "size", "static_encoding_str_len", "static_encoding_str_array",
 };
 
@@ -39,11 +39,13 @@ static const uint8_t carried[NUMBERS] = {
     [BERZHOTUN_EXPECTED_OFFSET] = PLACE,
     [BERZHOTUN_OFFSET_TOO_LARGE] = PLACE,
     [BERZHOTUN_EMPTY_SIGNATURE] = NOTHING,
+    [BERZHOTUN_SURPLUS_ZERO] = PLACE,
 };
 
 /* The numbers that each function may return, a bit each. */
 static const uint64_t returned[FUNCTIONS] = {
     [FROM_STR] = 0xff87,      /* 0, 1, 2, 7 to 15 */
+    [FROM_STRICT] = 0x8ff87,  /* 0, 1, 2, 7 to 15, 19 */
     [FROM_START] = 0x7f87,    /* 0, 1, 2, 7 to 14 */
     [SIGNATURE] = 0x77f87,    /* 0, 1, 2, 7 to 14, 16 to 18 */
     [EQUIVALENT] = 0x19,      /* 0, 3, 4 */
@@ -181,6 +183,17 @@ static void check_values(uint64_t refusal, const uint64_t *values) {
     }
 }
 
+static int is_digit(size_t at) {
+    return at < text_length && text[at] >= '0' && text[at] <= '9';
+}
+
+/* At the place a number begins, behind a byte, with a 0 that is not all of it. */
+static void check_surplus_zero(size_t place) {
+    if (place == 0 || is_digit(place - 1) || !is_digit(place) || text[place] != '0' || !is_digit(place + 1)) {
+        fail("found a surplus zero where none is");
+    }
+}
+
 /* The list: `kept` bytes of the tree, 0 up to `filled`, the mark beyond. */
 static void check_written(const void *list, size_t kept, size_t filled, size_t length) {
     if (!all_are(list, kept, filled, 0)) {
@@ -207,6 +220,11 @@ static void keep_tree(struct sheet *tree, const uint64_t *tree_words, const uint
 }
 
 uint64_t call_reader(enum function function, size_t lent_words, size_t lent_names, struct sheet *tree) {
+    static __typeof__(berzhotun_from_str) *const readers[] = {
+        [FROM_STR] = berzhotun_from_str,
+        [FROM_STRICT] = berzhotun_from_str_strict,
+        [FROM_START] = berzhotun_from_start_of_str,
+    };
     size_t needed_words = BERZHOTUN_WORDS_FOR(text_length), needed_names = BERZHOTUN_NAMES_FOR(text_length);
     uint64_t *tree_words = lend_marked(&read_words_room, lent_words * sizeof(uint64_t));
     uint8_t *tree_names = lend_marked(&read_names_room, lent_names);
@@ -215,14 +233,16 @@ uint64_t call_reader(enum function function, size_t lent_words, size_t lent_name
     uint64_t refusal, due = text_length > BERZHOTUN_MAX_TEXT ? 1 : is_short ? 2 : 0;
     size_t words_filled, names_filled;
     running = function;
-    refusal = ends((function == FROM_STR ? berzhotun_from_str : berzhotun_from_start_of_str)(
-        text, text_length, tree_words, lent_words, tree_names, lent_names, values));
+    refusal = ends(readers[function](text, text_length, tree_words, lent_words, tree_names, lent_names, values));
     if (due != 0 ? refusal != due : refusal == 1 || refusal == 2) {
         fail("did not refuse by the lengths");
     }
     words_filled = due != 0 ? 0 : needed_words * sizeof(uint64_t);
     names_filled = due != 0 ? 0 : needed_names;
     check_values(refusal, values);
+    if (refusal == BERZHOTUN_SURPLUS_ZERO) {
+        check_surplus_zero(values[0]);
+    }
     if (refusal == 0) {
         check_tree(tree_words);
         keep_tree(tree, tree_words, tree_names);
@@ -243,7 +263,7 @@ static void check_entries(const struct entries *entries) {
             fail("gave a type that is not where the signature has one");
         }
         digits = at += entry[1];
-        while (at < text_length && text[at] >= '0' && text[at] <= '9') {
+        while (is_digit(at)) {
             at++;
         }
         if (at == digits) {

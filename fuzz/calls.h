@@ -1,4 +1,4 @@
-/* The ten functions, each called in guarded memory and held to its contract. */
+/* The eleven functions, each called in guarded memory and held to its contract. */
 #ifndef CALLS_H
 #define CALLS_H
 
@@ -6,7 +6,8 @@
 
 /* Those up to SIGNATURE take a text alone, the others a sheet first. */
 enum function {
-    FROM_STR, FROM_START, SIGNATURE, EQUIVALENT, EQUIVALENT_BOX, EQ, MATCHES, SIZE, LENGTH, PRINT, FUNCTIONS
+    FROM_STR, FROM_STRICT, FROM_START, SIGNATURE, EQUIVALENT, EQUIVALENT_BOX, EQ, MATCHES, SIZE, LENGTH, PRINT,
+    FUNCTIONS
 };
 
 extern const char *const function_names[FUNCTIONS];

@@ -1,5 +1,5 @@
 /*
- * The deepest trees, texts and signatures through all ten functions, each call on a stack of its own with a page below it
+ * The deepest trees, texts and signatures through all eleven functions, each call on a stack of its own with a page below it
  * that may not be touched. Prints the most stack that each function took.
  *
  *     deep [KIBIBYTES]    512 unless said otherwise
@@ -26,6 +26,7 @@ static uint64_t call(enum function function) {
     uint64_t answer;
     switch (function) {
     case FROM_STR:
+    case FROM_STRICT:
     case FROM_START:
         return call_reader(function, BERZHOTUN_WORDS_FOR(text.length), BERZHOTUN_NAMES_FOR(text.length), &spare);
     case SIGNATURE:
@@ -139,7 +140,7 @@ static void repeat(const char *part, size_t times) {
     }
 }
 
-/* Both readings, which may refuse; and, as the fields of a record, the text against a record without fields. */
+/* All readings, which may refuse; and, as the fields of a record, the text against a record without fields. */
 static void run_text(const char *open, const char *middle, const char *close, size_t times) {
     static const struct sheet record = {
         .words = {1, 4, 1, 8, BERZHOTUN_STRUCT, 0, 1, 1}, .words_length = 8, .names = "R", .names_length = 1};
@@ -152,6 +153,7 @@ static void run_text(const char *open, const char *middle, const char *close, si
     lend_text(&text);
     lend_sheet(0, &record);
     call_on_stack(FROM_STR);
+    call_on_stack(FROM_STRICT);
     call_on_stack(FROM_START);
     call_on_stack(MATCHES);
 }
@@ -170,8 +172,15 @@ static void run_texts(void) {
     text.length = 0;
     repeat("^", 2000);
     lend_text(&text);
-    if (call_on_stack(FROM_STR) != 0 || call_on_stack(FROM_START) != 0) {
+    if (call_on_stack(FROM_STR) != 0 || call_on_stack(FROM_STRICT) != 0 || call_on_stack(FROM_START) != 0) {
         fail("refused 2,000 pointers");
+    }
+    text.length = 0;
+    repeat("[1", 998);
+    repeat("[00]", 1);
+    lend_text(&text);
+    if (call_on_stack(FROM_STRICT) != BERZHOTUN_SURPLUS_ZERO) {
+        fail("took the deepest surplus zero");
     }
 }
 

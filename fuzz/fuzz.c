@@ -1,5 +1,5 @@
 /*
- * Random bytes, texts and sheets through all ten functions. The memory behind and before each lent list may not
+ * Random bytes, texts and sheets through all eleven functions. The memory behind and before each lent list may not
  * be touched, lists that are only to be read cannot be written, and what each call wrote is looked at.
  *
  *     fuzz COUNT [SEED]    at least COUNT calls
@@ -24,6 +24,12 @@ static void copy_sheet(struct sheet *to, const struct sheet *from) {
     to->names_length = from->names_length;
     memcpy(to->words, from->words, from->words_length * sizeof(uint64_t));
     memcpy(to->names, from->names, from->names_length);
+}
+
+static int same_sheet(const struct sheet *a, const struct sheet *b) {
+    return a->words_length == b->words_length && a->names_length == b->names_length &&
+           memcmp(a->words, b->words, a->words_length * sizeof(uint64_t)) == 0 &&
+           memcmp(a->names, b->names, a->names_length) == 0;
 }
 
 /* The tree as it is (half of the time), changed, spoilt, or no tree at all. */
@@ -67,18 +73,29 @@ static size_t length_around(size_t needed) {
     }
 }
 
-static void read_into(enum function function, struct sheet *tree) {
+/* Both whole-text readings, lent the same: the strict one has 19 beside the other's answers. */
+static void read_whole(struct sheet *tree) {
+    static struct sheet strict_tree;
     size_t lent_words = length_around(BERZHOTUN_WORDS_FOR(input.length));
-    call_reader(function, lent_words, length_around(BERZHOTUN_NAMES_FOR(input.length)), tree);
+    size_t lent_names = length_around(BERZHOTUN_NAMES_FOR(input.length));
+    uint64_t ordinary = call_reader(FROM_STR, lent_words, lent_names, tree);
+    uint64_t strict = call_reader(FROM_STRICT, lent_words, lent_names, &strict_tree);
+    if (strict == BERZHOTUN_SURPLUS_ZERO) {
+        return;
+    }
+    if (strict != ordinary || (strict == 0 && !same_sheet(tree, &strict_tree))) {
+        fail("is neither refused by 19 nor what from_str says");
+    }
 }
 
-/* Both readings; a tree that was read takes the place of an older one, and is a sheet that nothing refuses. */
+/* All readings; a tree that was read takes the place of an older one, and is a sheet that nothing refuses. */
 static void read_input(void) {
     struct sheet *tree = &kept[random_below(KEPT)];
+    size_t lent_words = length_around(BERZHOTUN_WORDS_FOR(input.length));
     uint64_t length;
     lend_text(&input);
-    read_into(FROM_START, tree);
-    read_into(FROM_STR, tree);
+    call_reader(FROM_START, lent_words, length_around(BERZHOTUN_NAMES_FOR(input.length)), tree);
+    read_whole(tree);
     lend_sheet(0, tree);
     if (call_length(&length) != 0) {
         fail("refused what a reading wrote");

@@ -95,16 +95,18 @@ static const char *yes_or_no(uint64_t refusal) {
     return refusal != 0 ? "refused" : values[0] == 1 ? "yes" : "no";
 }
 
-static void read_question(char *argument, int from_start) {
+typedef uint64_t reader(const uint8_t *, size_t, uint64_t *, size_t, uint8_t *, size_t, uint64_t *);
+
+static void read_question(const char *argument, reader *read) {
     uint64_t refusal;
     load_text(argument);
-    refusal = (from_start ? berzhotun_from_start_of_str : berzhotun_from_str)(text.bytes, text.length, LENT(first), values);
+    refusal = read(text.bytes, text.length, LENT(first), values);
     if (refusal != 0) {
         say_refusal("no", refusal);
         return;
     }
     say_sheet(&first);
-    if (from_start) {
+    if (read == berzhotun_from_start_of_str) {
         printf(" %" PRIu64, values[0]);
     }
     printf("\n");
@@ -161,8 +163,12 @@ static void answer(char *line) {
     uint64_t refusal;
     if (question == NULL) {
         bad("an empty line");
-    } else if (strcmp(question, "read") == 0 || strcmp(question, "start") == 0) {
-        read_question(one, *question == 's');
+    } else if (strcmp(question, "read") == 0) {
+        read_question(one, berzhotun_from_str);
+    } else if (strcmp(question, "read-strict") == 0) {
+        read_question(one, berzhotun_from_str_strict);
+    } else if (strcmp(question, "start") == 0) {
+        read_question(one, berzhotun_from_start_of_str);
     } else if (strcmp(question, "signature") == 0) {
         signature_question(one);
     } else if ((refusal = load_tree(one, &first)) != 0) {
