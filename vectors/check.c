@@ -11,7 +11,7 @@
 static struct {
     uint64_t words[BERZHOTUN_MAX_WORDS];
     uint8_t names[BERZHOTUN_MAX_NAMES];
-} tree;
+} tree, strict_tree;
 
 /* A line of the list. */
 static struct {
@@ -92,9 +92,21 @@ static void check_size(void) {
     }
 }
 
+/* No compiler writes a surplus zero: strict reading answers as the ordinary one did, with the same tree. */
+static void check_strict(uint64_t refusal) {
+    size_t length = strlen(row.text);
+    uint64_t values[3];
+    if (berzhotun_from_str_strict((const uint8_t *)row.text, length, LENT(strict_tree), values) != refusal ||
+        memcmp(strict_tree.words, tree.words, BERZHOTUN_WORDS_FOR(length) * sizeof(uint64_t)) != 0 ||
+        memcmp(strict_tree.names, tree.names, BERZHOTUN_NAMES_FOR(length)) != 0) {
+        differs("is read otherwise strictly");
+    }
+}
+
 static void check_type(void) {
     uint64_t values[3];
     uint64_t refusal = berzhotun_from_str((const uint8_t *)row.text, strlen(row.text), LENT(tree), values);
+    check_strict(refusal);
     if (strcmp(row.outcome, "refused") == 0) {
         counts.refused++;
         if (refusal != BERZHOTUN_UNKNOWN_BYTE) {
