@@ -2,8 +2,8 @@
 //!
 //!     diff trees SEED COUNT     valid sheets: print, size, comparisons
 //!     diff sheets SEED COUNT    spoilt sheets: refusals 3 and 4
-//!     diff short LENGTH         every text up to that length over the meaningful bytes: both readings
-//!     diff reads SEED COUNT     random, well-formed and spoilt texts: both readings
+//!     diff short LENGTH         every text up to that length over the meaningful bytes: the crate's readings
+//!     diff reads SEED COUNT     random, well-formed and spoilt texts: the crate's readings
 //!     diff match LENGTH         every text up to that length over fewer bytes, against small trees
 //!     diff texts SEED COUNT     tree against text
 //!     diff short-signatures LENGTH  every signature up to that length over some bytes

@@ -1,4 +1,4 @@
-//! Both readings, against the crate: tree, rest, refusal with its values, and all lent memory.
+//! The crate's two readings, against the crate: tree, rest, refusal with its values, and all lent memory.
 
 use crate::ask::{self, Refusal};
 use crate::library::{self, reply, Reader, MARK, MARK_BYTE};
