@@ -39,7 +39,8 @@ fn any(random: &mut Random) -> String {
             late(random, length)
         }
         1 => texts::any(random),
-        2 => {
+        2 | 3 => pieces(random),
+        4 => {
             let length = texts::length(random);
             let text = texts::deep(random, length);
             respelled(random, &text)
@@ -60,6 +61,23 @@ fn any(random: &mut Random) -> String {
 fn late(random: &mut Random, length: usize) -> String {
     let end = random.pick(&["b00}", "[00c]}", "b0i00}", "b7Q0255}", "b0}", "b00", "[007", "b0i07", "b0256x}", "[00"]);
     format!("{{R={}{end}", "i".repeat(length.saturating_sub(3 + end.len())))
+}
+
+/// What looks like a surplus zero and is none, what is one, and what reading stops at.
+const PIECES: [&str; 32] = [
+    "i", "^", "^b7", "@", "@?", "jf", "b0", "b0i0", "b256i7", "[0c]", "[10i]", "{R}", "(U=b0)", "@\"b01\"", "@\"[00\"",
+    "@\"\"", "@\"{b00=\"", "{b01=i}", "{b00}", "(b0i00=b7)", "{0=b8}", "#", "b00", "[00c]", "b0i00", "[007", "b0256",
+    "{x)[00c]}", "{[00=i}", "j[00c]", "b18446744073709551616i00", "b256",
+];
+
+/// Some of them, in a record or not. The later ones, which are refused, are seldom.
+fn pieces(random: &mut Random) -> String {
+    let mut text = random.pick(&["{R=", "{R=", "(U=", "r", "^", "[3"]).to_string();
+    for _ in 0..random.within(1, 8) {
+        let few = if random.percent(90) { 22 } else { PIECES.len() };
+        text += random.pick(&PIECES[..few]);
+    }
+    text + random.pick(&["}", "}", ")", "]", ""])
 }
 
 /// With each number in its one spelling, but for some that get zeros in front: one alone, or each by the

@@ -16,7 +16,7 @@ pub fn by_walk(text: &[u8], end: usize) -> Option<usize> {
                     return Some(at);
                 }
                 at += digits(text, at);
-                // Behind one that the crate refused by 11 none is met.
+                // Behind one that the crate refused, by 10 or 11, none is met.
                 if byte == b'b' && at < end && has_second_number(&text[at..]) {
                     if is_surplus(text, at + 1) {
                         return Some(at + 1);
