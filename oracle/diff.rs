@@ -9,7 +9,7 @@
 //!     diff short-signatures LENGTH  every signature up to that length over some bytes
 //!     diff signatures SEED COUNT    random, well-formed and spoilt signatures
 //!     diff short-strict LENGTH  every text up to that length over some bytes: strict reading
-//!     diff strict SEED COUNT    random, well-formed and spoilt texts, zeros in front of numbers: strict reading
+//!     diff strict SEED COUNT    random, well-formed and spoilt texts with surplus zeros: strict reading
 //!     diff all SEED COUNT       each of these, with lengths 3 and 4
 //!     diff stack KIBIBYTES      the deepest trees, texts and signatures on a stack of that size
 //!     diff bench                times, as ratios to the crate's

@@ -57,17 +57,20 @@ fn any(random: &mut Random) -> String {
     }
 }
 
-/// A record of exactly this many bytes, with its only number at its end.
+const ENDS: [&str; 10] =
+    ["b00}", "[00c]}", "b0i00}", "b7Q0255}", "b0}", "b00", "[007", "b0i07", "b0256x}", "[00"];
+
+/// A record of exactly this many bytes, if they are enough, with its numbers at its end.
 fn late(random: &mut Random, length: usize) -> String {
-    let end = random.pick(&["b00}", "[00c]}", "b0i00}", "b7Q0255}", "b0}", "b00", "[007", "b0i07", "b0256x}", "[00"]);
+    let end = random.pick(&ENDS);
     format!("{{R={}{end}", "i".repeat(length.saturating_sub(3 + end.len())))
 }
 
 /// What looks like a surplus zero and is none, what is one, and what reading stops at.
 const PIECES: [&str; 32] = [
-    "i", "^", "^b7", "@", "@?", "jf", "b0", "b0i0", "b256i7", "[0c]", "[10i]", "{R}", "(U=b0)", "@\"b01\"", "@\"[00\"",
-    "@\"\"", "@\"{b00=\"", "{b01=i}", "{b00}", "(b0i00=b7)", "{0=b8}", "#", "b00", "[00c]", "b0i00", "[007", "b0256",
-    "{x)[00c]}", "{[00=i}", "j[00c]", "b18446744073709551616i00", "b256",
+    "i", "^", "^b7", "@", "@?", "jf", "b0", "b0i0", "b256i7", "[0c]", "[10i]", "{R}", "(U=b0)", "@\"b01\"",
+    "@\"[00\"", "@\"\"", "@\"{b00=\"", "{b01=i}", "{b00}", "(b0i00=b7)", "{0=b8}", "#", "b00", "[00c]", "b0i00",
+    "[007", "b0256", "{x)[00c]}", "{[00=i}", "j[00c]", "b18446744073709551616i00", "b256",
 ];
 
 /// Some of them, in a record or not. The later ones, which are refused, are seldom.
