@@ -1,4 +1,4 @@
-//! The crate's two readings, against the crate: tree, rest, refusal with its values, and all lent memory.
+//! Whole-text reading and reading from the start, against the crate: tree, rest, refusal with its values, and all lent memory.
 
 use crate::ask::{self, Refusal};
 use crate::library::{self, reply, Reader, MARK, MARK_BYTE};
@@ -44,7 +44,10 @@ pub struct Check {
     lists: Lists,
 }
 
-const BOTH: [(&str, Reader); 2] =
+/// A reader with its name.
+pub type Named = (&'static str, Reader);
+
+const BOTH: [Named; 2] =
     [("from_str", library::from_str), ("from_start_of_str", library::from_start_of_str)];
 
 impl Check {
@@ -93,7 +96,7 @@ impl Lists {
     /// Refusals 1 and 2; whether the text can be read by lists that are long enough.
     pub fn lengths(
         &mut self,
-        readers: &[(&'static str, Reader)],
+        readers: &[Named],
         text: &str,
         random: &mut Random,
         tally: &mut Tally,
@@ -154,7 +157,7 @@ impl Lists {
     /// Refusal 2: a list that is one short, or shorter.
     fn short_lists(
         &mut self,
-        readers: &[(&'static str, Reader)],
+        readers: &[Named],
         text: &str,
         random: &mut Random,
         tally: &mut Tally,
@@ -175,7 +178,7 @@ impl Lists {
     /// Refusal 1, also where the lists are short.
     fn too_long(
         &mut self,
-        readers: &[(&'static str, Reader)],
+        readers: &[Named],
         text: &str,
         random: &mut Random,
         tally: &mut Tally,
@@ -188,7 +191,7 @@ impl Lists {
 
     fn nothing_done(
         &mut self,
-        readers: &[(&'static str, Reader)],
+        readers: &[Named],
         text: &str,
         words_lent: usize,
         names_lent: usize,

@@ -2,10 +2,10 @@
 //! and against ordinary reading, from which only refusal 19 may tell it.
 
 use crate::ask::{self, Refusal};
-use crate::library::{self, Reader};
+use crate::library;
 use crate::random::Random;
 use crate::report::{refusal_name, Case, Difference, Tally};
-use crate::run_reads::{Lists, Wanted};
+use crate::run_reads::{Lists, Named, Wanted};
 use crate::surplus;
 use crate::texts;
 use crate::trees::Tree;
@@ -114,7 +114,7 @@ fn respelled(random: &mut Random, text: &str) -> String {
     new + rest
 }
 
-const READERS: [(&str, Reader); 1] = [("from_str_strict", library::from_str_strict)];
+const READERS: [Named; 1] = [("from_str_strict", library::from_str_strict)];
 
 #[derive(Default)]
 pub struct Check {

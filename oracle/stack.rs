@@ -84,7 +84,7 @@ fn texts_fit() -> bool {
         "(R=".repeat(666),
         format!("{}{}", "[1".repeat(666), "]".repeat(666)),
         format!("{}{}", "{R=".repeat(500), "}".repeat(500)),
-        // Refused at its deepest number, by strict reading as a surplus zero.
+        // Strict reading refuses the deepest number.
         format!("{}[00", "[1".repeat(998)),
     ];
     let (mut words, mut names) = (vec![0; 8 + 4 * 2000], vec![0; 2000]);
