@@ -1,4 +1,5 @@
-//! Whole-text reading and reading from the start, against the crate: tree, rest, refusal with its values, and all lent memory.
+//! Whole-text reading and reading from the start, against the crate: tree, rest, refusal with its values,
+//! and all lent memory.
 
 use crate::ask::{self, Refusal};
 use crate::library::{self, reply, Reader, MARK, MARK_BYTE};
@@ -47,8 +48,7 @@ pub struct Check {
 /// A reader with its name.
 pub type Named = (&'static str, Reader);
 
-const BOTH: [Named; 2] =
-    [("from_str", library::from_str), ("from_start_of_str", library::from_start_of_str)];
+const BOTH: [Named; 2] = [("from_str", library::from_str), ("from_start_of_str", library::from_start_of_str)];
 
 impl Check {
     pub fn new() -> Check {
