@@ -174,7 +174,7 @@ static void take_some_apart(void) {
     }
 }
 
-/* For registration each number has one spelling, so that no type is there twice. */
+/* For registration each number has one spelling, so that [7c] and [007c] are not two entries. */
 static void register_text(const char *text) {
     static struct tree tree;
     uint64_t values[3];
