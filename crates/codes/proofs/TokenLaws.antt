@@ -307,8 +307,11 @@ simple-complex (b ∷ s) = go (eqb b 102) (eqb b 100) (eqb b 68)
     one : RestOf (b ∷ s) s
     one = rest-later rest-all
 
-    go : (x y z : Bool) → Simple (b ∷ s) (elim x [ true ↦ alone 13 s | false ↦ elim y
-        [ true ↦ alone 14 s | false ↦ elim z [ true ↦ alone 15 s | false ↦ refused (UnknownAfterComplex b) (b ∷ s) ] ] ])
+    go : (x y z : Bool) → Simple (b ∷ s) (elim x [
+      | true ↦ alone 13 s
+      | false ↦ elim y
+          [ true ↦ alone 14 s | false ↦ elim z [ true ↦ alone 15 s | false ↦ refused (UnknownAfterComplex b) (b ∷ s) ] ]
+    ])
     go true y z = is-primitive _ one
     go false true z = is-primitive _ one
     go false false true = is-primitive _ one
@@ -334,8 +337,11 @@ unfolding parseObject leaf
 simple-object [] = is-primitive _ rest-all
 simple-object (b ∷ s) = go (eqb b 63) (eqb b 34)
   where
-    go : (x y : Bool) → Simple (b ∷ s) (elim x [ true ↦ encoding (primitive 20) end s | false ↦ elim y
-        [ true ↦ parseQuoted s | false ↦ encoding (primitive 19) end (b ∷ s) ] ])
+    go : (x y : Bool) → Simple (b ∷ s) (elim x [
+      | true ↦ encoding (primitive 20) end s
+      | false ↦ elim y
+          [ true ↦ parseQuoted s | false ↦ encoding (primitive 19) end (b ∷ s) ]
+    ])
     go true y = is-primitive _ (rest-later rest-all)
     go false true = simple-later (simple-quoted s)
     go false false = is-primitive _ rest-all
@@ -426,7 +432,7 @@ module _ (text : List ℕ) (at : ℕ) (h : at < length text) where
   begun : (S : R.Start) → start (getD text at 0) ≡ S → hasParts S ≡ false
       → TokenBound text at (tokenFrom text (getD text at 0) S (drop (at + 1) text))
       × ((inner : List ℕ → Parsed) (fields : ContainerKind → List ℕ → R.Items) → TokenSays text (tokenFrom text (getD text at 0) S (drop (at + 1) text))
-          (begin (getD text at 0) S (drop (at + 1) text) inner fields))
+      (begin (getD text at 0) S (drop (at + 1) text) inner fields))
   unfolding tokenFrom hasParts begin leaf tokenOf labelToken
   begun (single p) e n = let x = simple-bound (digitsIn (numbersOf (single p) (drop (at + 1) text))) (encoding (primitive p) end (drop (at + 1) text))
       (is-primitive _ rest-all) in (x .0, λ inner fields. x .1)

@@ -30,7 +30,7 @@ use Rattle.kinds.proofs.LayoutLaws.{nodes-length}
 use Rattle.kinds.proofs.ListLaws.{unread-end}
 use Rattle.codes.specs.Answer.{closed, closesFields}
 use Rattle.codes.specs.declared.Token.the-variants as T
-use Rattle.codes.proofs.StepLaws.{begins, held-from, item-from, fuel-on, closed-in, closed-is, closes-it, closes-not, same-self, closes-in, closes-starts}
+use Rattle.codes.proofs.StepLaws.{begins, fuel-on, closed-in, closed-is, closes-it, closes-not, same-self, closes-in, closes-starts}
 use Rattle.parse.proofs.Stores.{sets-append, sets-front-append, drop-sets}
 use Rattle.parse.proofs.Judge.{Clean, step-by, nil-by, held-by, item-by, next-by, clean-held, clean-opened, clean-closed}
 use Rattle.parse.proofs.Sheets.{slack-open, slack-closed, slack-end, slack-le, simple-token}
@@ -213,8 +213,15 @@ module _ (strict : Bool) (text : List ℕ) (at n m : ℕ) (l : Label) (bare : Ba
   opens = slack-open text at h (ap closes st)
 
   none-bound : slack (drop (at + 1) text) ≡ length text - (at + 1) → FoundBound text at n m (at + 1) (n + 2) m
-  none-bound e = record { onward = omega arith; within = omega arith; more = omega arith; room = omega (arith, opens); names-on = omega arith; names-room =
-      omega arith }
+  none-bound e = record {
+    onward = omega arith;
+    within = omega arith;
+    more = omega arith;
+    room = omega (arith, opens);
+    names-on = omega arith;
+    names-room =
+        omega arith;
+  }
 
   abbrev heldAfter : Parsed → Lists
   heldAfter p = lists (holdWords p (kind l) n (a .words)) (a .names)
@@ -315,8 +322,11 @@ module _ (strict : Bool) (text : List ℕ) (at n m len it : ℕ) (h : at < lengt
       → Reads strict text at n m b a (Refused WrongEndArray to)
   unfolding Begun item
   found-open to k j r e = record {
-    bound = (r .bound .within, frame-part text at n m it (n + 1) b a (omega (arith, opens-array, slack-le text it)) (omega arith)
-        (found-frame strict text it (n + 1) m b a to k j r));
+    bound = (
+      r .bound .within,
+      frame-part text at n m it (n + 1) b a (omega (arith, opens-array, slack-le text it)) (omega arith)
+          (found-frame strict text it (n + 1) m b a to k j r),
+    );
     says = begun strict text at n m b a (Refused WrongEndArray to) h clean
         (λ g f. let q = r .says g (fuel-on text at it g on f) in item-by strict text at len it st num g (q .is)
         ∙ closes-not text len (q .label) (q .children) to e);
@@ -533,7 +543,7 @@ items-closed strict text at kind n m b e =
     let s = simple-token text at n m (b .words) h strict (clean-closed strict text at st) (T.ContainerEnd kind (at + 1))
     (record { bound = (refl, st); says = λ inner fields. begins text at st inner fields }) in
     end-container strict text at kind n m b b kind (at + 1) (reads-simple strict text at n m (b .words) (b .words) (b .names) (ContainerEnd kind (at + 1)) h s)
-        true (same-self kind)
+    true (same-self kind)
 
 module _ (strict : Bool) (text : List ℕ) (at : ℕ) (k : ContainerKind) (n m : ℕ) (h : at < length text) (st : start (getD text at 0) ≡ R.openContainer k)
     (b : Lists) (ns : List ℕ) where

@@ -205,7 +205,7 @@ pub start-refused : (text w ns answer : List ℕ) (a : Lists) (why : ErrorKind) 
 unfolding fromStart startReading startTree startRest sheetWords sheetNames
 start-refused text w ns answer a why to r d z =
     start-read text w ns answer (a .words) (a .names) (P.refusal why to) (r .away)
-        (from-start-is text _ (r .is) ∙ (rw (d, fromStart) refl) ∙ ap (P.refusal why) (place text to (r .within))) z
+    (from-start-is text _ (r .is) ∙ (rw (d, fromStart) refl) ∙ ap (P.refusal why) (place text to (r .within))) z
     (r .words-are) (r .names-are)
 
 -- A refusal leaves the rest equal to the text.

@@ -8,13 +8,12 @@ use native.Mathlib.Omega.{arith}
 use lib.Dec.{leb}
 use lib.ListN.{length, drop, getD, length-drop}
 use lib.Seq.{drop-drop}
-use borrow.Author.Tests.{lt-leb}
 use Rattle.kinds.proofs.ListLaws.{unread}
 use Rattle.kinds.specs.Byte.{isDigit}
 use Rattle.kinds.specs.Parse as R
 use Rattle.kinds.specs.Parse.{maxU64, maxU8, value, noNumber, parseNumber, integral, start, begin, encoding, refused, parseBits, parseBitField, untyped, typed, leaf, singleKind}
 use Rattle.kinds.specs.Strict.{digitCount, surplusZero, typedNumber, bitsNumbers, numbersOf, firstSurplus}
-use Rattle.kinds.specs.Tree.{Label, Trees, end, node, primitive, bitField, typedBitField, pointer, atomic, array, struct, union, none as noneLabel}
+use Rattle.kinds.specs.Tree.{Label, Trees, primitive, bitField, typedBitField, pointer, atomic, array, struct, union, none as noneLabel}
 use Rattle.kinds.specs.declared.ContainerKind.{ContainerKind}
 use Rattle.kinds.specs.declared.ErrorKind.the-variants.{SurplusZero, IntegerTooLarge}
 use Rattle.numbers.specs.Answer.{digitsOf, digitsIn, numberAt}
@@ -257,9 +256,10 @@ module _ (text : List ℕ) (at : ℕ) (h : at < length text) where
   none-place : (q : R.Parsed) → PlaceIs text (tokenSurplus at (tokenOf text (C.digitsIn []) q)) none × TokenFits at (tokenOf text (C.digitsIn []) q)
       (length text)
   none-place q =
-      let x = token-none text at (length text) q in
-      (subst (λ (p : ℕ). PlaceIs text p none) (sym (x .0)) (record { none-there = λ _. refl; begins-there = λ l. absurd (omega arith); within = omega arith }),
-      x .1)
+      let x = token-none text at (length text) q in (
+        subst (λ (p : ℕ). PlaceIs text p none) (sym (x .0)) (record { none-there = λ _. refl; begins-there = λ l. absurd (omega arith); within = omega arith }),
+        x .1,
+      )
 
   bits-place : TokenPlace (tokenOf text (C.digitsIn (bitsNumbers (drop (at + 1) text))) (parseBits (parseNumber maxU64 (drop (at + 1) text)))) R.bits
   unfolding numbersOf

@@ -99,11 +99,15 @@ module _ (text : List ℕ) (at n m to : ℕ) (b : Lists) (r : Ready text at n m 
 
   pub ready-run : Ready text to (n + (to - at)) m b
   ready-run = elim (decLt at to) [
-    | yes l ↦ record { at-place = e .within; words-room = omega (arith, run-slack l, r .words-room, slack-le text to, e .within); names-room =
-        omega (arith, r .names-room, e .onward) }
+    | yes l ↦ record {
+      at-place = e .within;
+      words-room = omega (arith, run-slack l, r .words-room, slack-le text to, e .within);
+      names-room =
+          omega (arith, r .names-room, e .onward);
+    }
     | no l ↦ let same : to ≡ at = omega (arith, e .onward) in
         subst (λ (x : ℕ). Ready text x (n + (x - at)) m b) (sym same)
-            (record { at-place = r .at-place; words-room = omega (arith, r .words-room); names-room = r .names-room })
+        (record { at-place = r .at-place; words-room = omega (arith, r .words-room); names-room = r .names-room })
   ]
 
 -- ---- Codes.

@@ -84,20 +84,41 @@ module _ (text : List ℕ) (at n m : ℕ) (w : List ℕ) (h : at < length text) 
 
   -- One node or two that were written, and no name.
   found-bound : (to k : ℕ) → at < to → to ≤ length text → n < k → k + at ≤ n + to → slack (drop at text) ≡ length text - at + 1 → FoundBound text at n m to k m
-  found-bound to k l i o r e = record { onward = l; within = i; more = o; room = omega (arith, slack-le text to); names-on = omega arith; names-room =
-      omega arith }
+  found-bound to k l i o r e = record {
+    onward = l;
+    within = i;
+    more = o;
+    room = omega (arith, slack-le text to);
+    names-on = omega arith;
+    names-room =
+        omega arith;
+  }
 
   plain-token : (t : Token) → TokenIs text at t → Simple false text at n m w (tokenWords t n w) (tokenOut t n m)
   unfolding nodes count namesOf kind first name second closes judged
   plain-token (T.Primitive p to) i = record {
     bound = λ ns. found-bound to (n + 1) (i .bound .0) (i .bound .1) (omega arith) (omega (arith, i .bound .0)) (open-slack (i .says));
-    says = λ ns inner fields. record { label = primitive p; children = end; is = i .says inner fields; count-is = refl; names-is = sym (add-zero m);
-        words-are = refl; names-are = refl };
+    says = λ ns inner fields. record {
+      label = primitive p;
+      children = end;
+      is = i .says inner fields;
+      count-is = refl;
+      names-is = sym (add-zero m);
+      words-are = refl;
+      names-are = refl;
+    };
   }
   plain-token (T.BitField size to d) i = record {
     bound = λ ns. found-bound to (n + 1) (i .bound .0) (i .bound .1) (omega arith) (omega (arith, i .bound .0)) (open-slack (i .says));
-    says = λ ns inner fields. record { label = bitField size; children = end; is = i .says inner fields; count-is = refl; names-is = sym (add-zero m);
-        words-are = refl; names-are = refl };
+    says = λ ns inner fields. record {
+      label = bitField size;
+      children = end;
+      is = i .says inner fields;
+      count-is = refl;
+      names-is = sym (add-zero m);
+      words-are = refl;
+      names-are = refl;
+    };
   }
   plain-token (T.TypedBitField offset p size to d) i = record {
     bound = λ ns. found-bound to (n + 2) (omega (arith, i .bound .0)) (i .bound .1) (omega arith) (omega (arith, i .bound .0)) (open-slack (i .says));
@@ -112,13 +133,23 @@ module _ (text : List ℕ) (at n m : ℕ) (w : List ℕ) (h : at < length text) 
     };
   }
   plain-token (T.ArrayEnd to) i = record {
-    bound = λ ns. record { next = i .bound .0; within = omega (arith, i .bound .0); closer = slack-closed text at h (ap closes (i .bound .1)); kept =
-        record { words-kept = refl; names-kept = refl } };
+    bound = λ ns. record {
+      next = i .bound .0;
+      within = omega (arith, i .bound .0);
+      closer = slack-closed text at h (ap closes (i .bound .1));
+      kept =
+          record { words-kept = refl; names-kept = refl };
+    };
     says = λ ns inner fields. i .says inner fields;
   }
   plain-token (T.ContainerEnd k to) i = record {
-    bound = λ ns. record { next = i .bound .0; within = omega (arith, i .bound .0); closer = slack-closed text at h (ap closes (i .bound .1)); kept =
-        record { words-kept = refl; names-kept = refl } };
+    bound = λ ns. record {
+      next = i .bound .0;
+      within = omega (arith, i .bound .0);
+      closer = slack-closed text at h (ap closes (i .bound .1));
+      kept =
+          record { words-kept = refl; names-kept = refl };
+    };
     says = λ ns inner fields. i .says inner fields;
   }
   plain-token (T.Refused why to d) i = record {

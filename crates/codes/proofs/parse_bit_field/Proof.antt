@@ -15,7 +15,7 @@ returns : tie.Need-returns
 returns c =
     let a = c .before .before .before .args in
     c .untyped .ensures ∙ answer-first (a .text .now) (a .to) (a .first) (a .digits) (search needs) (numbers-short _ (simp length-drop (omega arith)))
-        (bits-short _ _ (simp length-drop (omega arith)))
+    (bits-short _ _ (simp length-drop (omega arith)))
 
 returns-2 : tie.Need-returns-2
 returns-2 c =
@@ -25,7 +25,7 @@ returns-2 c =
     let a = c7 .args in
     let no = integral-is _ ∙ ap integralKind (sym (c3 .single-kind .ensures)) ∙ sym (c2 .is-integral .ensures) ∙ not-true _ (c .before .if2 .taken) in
     c .untyped2 .ensures ∙ answer-first (a .text .now) (a .to) (a .first) (a .digits) (search needs) (numbers-no-type (a .text .now) (a .to) (omega arith) no)
-        (bits-no-type (a .text .now) (a .to) (omega arith) _ no)
+    (bits-no-type (a .text .now) (a .to) (omega arith) _ no)
 
 returns-3 : tie.Need-returns-3
 returns-3 c =
@@ -34,7 +34,7 @@ returns-3 c =
     let a = c10 .args in
     let no = sym (c2 .is-digit .ensures) ∙ not-true _ (c .before .if3 .taken) in
     c .untyped3 .ensures ∙ answer-first (a .text .now) (a .to) (a .first) (a .digits) (search needs) (numbers-no-digit (a .text .now) (a .to) (omega arith) no)
-        (bits-no-digit (a .text .now) (a .to) (omega arith) _ no)
+    (bits-no-digit (a .text .now) (a .to) (omega arith) _ no)
 
 returns-4 : tie.Need-returns-4
 returns-4 c =

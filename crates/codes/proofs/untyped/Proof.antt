@@ -1,8 +1,5 @@
-use mathlib.Core.Path.{ap, _∙_}
-use mathlib.Core.Bool.{cond}
 use borrow.Author.Needs.{needs}
 use borrow.Author.Tests.{le-leb, lt-leb}
-use Rattle.codes.specs.Answer.{untypedToken}
 use Rattle.codes.proofs.untyped.Statement.{statement}
 use Rattle.codes.proofs.untyped.Tie as tie
 

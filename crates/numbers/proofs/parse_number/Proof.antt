@@ -10,7 +10,8 @@ use Rattle.kinds.specs.Byte.{isDigit}
 use Rattle.kinds.specs.Strict.{digitCount}
 use Rattle.parser.proofs.RunLaws.{run-to}
 use Rattle.kinds.proofs.ParseLaws.{within-limit}
-use Rattle.numbers.proofs.NumberLaws.{digit-range, digits-more-at, digits-stop-at, digits-end-at, number-starts-at, number-none-at, too-large, answer-value, answer-refused, answer-ended, no-digits, all-digits, count-more-at, count-stop-at, count-end-at, count-run}
+use Rattle.numbers.proofs.NumberLaws.{digit-range, digits-more-at, digits-stop-at, digits-end-at, number-starts-at, number-none-at, too-large, answer-value}
+use Rattle.numbers.proofs.NumberLaws.{answer-refused, answer-ended, no-digits, all-digits, count-more-at, count-stop-at, count-end-at, count-run}
 use Rattle.numbers.proofs.parse_number.Statement.{statement}
 use Rattle.numbers.proofs.parse_number.Tie as tie
 
@@ -92,11 +93,20 @@ returns-4 c =
     let passed = ap length (end .left) in
     let run = count-run (drop (l .i + 1) (a .text .now)) in
     let count : c .before .chomp-digits .result - a .at ≡ digitCount (drop (a .at) (a .text .now)) =
-    omega (arith, l .inv .1 .3, more, run, passed, length-drop (l .i + 1) (a .text .now), length-drop (c .before .chomp-digits .result) (a .text .now),
-        end .onward, end .within) in
+    omega (
+      arith,
+      l .inv .1 .3,
+      more,
+      run,
+      passed,
+      length-drop (l .i + 1) (a .text .now),
+      length-drop (c .before .chomp-digits .result) (a .text .now),
+      end .onward,
+      end .within,
+    ) in
     let all = all-digits (a .text .now) (a .at) (c .before .chomp-digits .result - a .at) count (c13 .if1 .left) in
     answer-refused _ _ _ _ _ _ (end .within) (c .digits-taken4 .ensures ∙ all)
-        (l .inv .0 ∙ ap (bounded _) here ∙ too-large _ _ _ above ∙ ap (noNumber IntegerTooLarge) (end .left))
+    (l .inv .0 ∙ ap (bounded _) here ∙ too-large _ _ _ above ∙ ap (noNumber IntegerTooLarge) (end .left))
 
 mul-acc : tie.Need-mul-acc Inv-loop μ-loop
 mul-acc c =
@@ -127,9 +137,11 @@ loop-again c =
     let a = c13 .args in
     let w = c2 .wide .ensures in
     let digit = sym (c4 .is-digit2 .ensures) ∙ not-false _ (c3 .if3 .left) in
-    let below = ltb-false (c13 .args .limit) (c7 .loop .acc * 10 + c2 .wide .result) (sym (c .before .is-above .ensures) ∙ c .if4 .left) in
-    (l .inv .0 ∙ ap (bounded _) (digits-more-at _ _ _ (c6 .loop-test .taken) digit)
-    ∙ rw w refl, omega (arith, count-more-at (a .text .now) (l .i) (c6 .loop-test .taken) digit))
+    let below = ltb-false (c13 .args .limit) (c7 .loop .acc * 10 + c2 .wide .result) (sym (c .before .is-above .ensures) ∙ c .if4 .left) in (
+      l .inv .0 ∙ ap (bounded _) (digits-more-at _ _ _ (c6 .loop-test .taken) digit)
+          ∙ rw w refl,
+      omega (arith, count-more-at (a .text .now) (l .i) (c6 .loop-test .taken) digit),
+    )
 
 returns-5 : tie.Need-returns-5 Inv-loop μ-loop
 returns-5 c =
@@ -141,7 +153,7 @@ returns-5 c =
     let all = all-digits (a .text .now) (a .at) (l .i - a .at) (omega (arith, l .inv .1 .3, count-end-at (a .text .now) (l .i) (c .before .loop-test .left)))
     (c6 .if1 .left) in
     answer-value _ _ _ _ _ _ (omega arith) (c .digits-taken5 .ensures ∙ all)
-        (l .inv .0 ∙ ap (bounded _) (digits-end-at _ _ _ (c .before .loop-test .left)) ∙ within-limit _ _ _ (l .inv .1 .2))
+    (l .inv .0 ∙ ap (bounded _) (digits-end-at _ _ _ (c .before .loop-test .left)) ∙ within-limit _ _ _ (l .inv .1 .2))
 
 pub parse-number-spec : {M : Type 1} → statement M
 parse-number-spec =

@@ -190,10 +190,8 @@ parse-container-sub-k t c = omega (arith, c .before .before .put-codes .ensures 
 parse-container-add-k-2 : (t : ℕ) → parse-container-lts.Need-add-k-2 (parse-container-claims t) (parse-container-at t) parse-container.Post
     parse-container-Inv-loop parse-container-μ-loop
 parse-container-add-k-2 t c =
-    let c2 = c .before .before in
-    let c4 = c2 .before .before in
-    let v = c4 .loop .inv in
-    omega (arith, v .0 .words-room, c2 .put-codes .ensures .room, v .1 .1 .0 .0)
+    let v = c .before .before .before .before .loop .inv in
+    omega (arith, v .0 .words-room, c .before .before .put-codes .ensures .room, v .1 .1 .0 .0)
 
 parse-container-add-t30 : (t : ℕ) → parse-container-lts.Need-add-t30 (parse-container-claims t) (parse-container-at t) parse-container.Post
     parse-container-Inv-loop parse-container-μ-loop
@@ -375,7 +373,7 @@ parse-container-returns-2 t c =
     let none = not-found (i .result) (c5 .match2 .keys2) in
     let ends : ItemsReads (a .strict) (a .text .now) (x .result) (a .kind) k (l .l) b z o =
     rw (c4 .end-items .ensures) (items-end (a .strict) (a .text .now) (x .result) (a .kind) k (l .l) b z (i .result) none
-        (rw (whole (a .text .now)) at (i .ensures))) in
+    (rw (whole (a .text .now)) at (i .ensures))) in
     let f = l .inv .1 .1 .1 z o (x .ensures .reads (a .strict) (a .kind) (l .l) (l .names) z o ends) in
     let q = rw (c22 .start .given .1) at (c26 .put-name .ensures) in
     let p = c31 .pre .1 in
@@ -581,7 +579,7 @@ parse-one-returns-4 t c =
     let z : Lists = lists (i .last .1 .1 .1 .0) (i .last .1 .1 .1 .1 .1 .0) in
     let d = c2 .put-array .ensures in
     rw (d .0, d .1) (reads-item (a .strict) (a .text .now) _ (a .n) (a .m) _ _ h st (q .0) (q .1 .0) (q .1 .1 .0) (q .1 .1 .1) b z (i .result)
-        (rw (whole (a .text .now)) at (i .ensures)))
+    (rw (whole (a .text .now)) at (i .ensures)))
 
 parse-one-returns-5 : (t : ℕ) → parse-one-lts.Need-returns-5 (parse-one-claims t) (parse-one-at t) parse-one.Post
 parse-one-returns-5 t c =

@@ -35,7 +35,7 @@ returns-4 c =
     let code = single-code _ _ (c8 .single-kind .ensures) (omega (arith, c7 .if5 .taken)) in
     let put = c4 .put-code .ensures in
     one-code (a .strict) (a .text .now) (a .words .now) (a .names .now) (c8 .single-kind .result) (c10 .if4 .taken) (c12 .if2 .left) (c11 .if3 .left) code _ _
-        (put .0) (put .1)
+    (put .0) (put .1)
 
 parse-inner-requires : tie.Need-parse-inner-requires
 parse-inner-requires c κs =
@@ -88,7 +88,7 @@ returns-5 c =
     let clear = c20 .clear-sheet .ensures in
     let ends = c4 .encoding-or-none .ensures in
     entered (a .strict) T (a .words .now) (a .names .now) (c15 .strip-leading-qualifiers .result) _ _ z (i .result) _ _ _ (c26 .if1 .left) (c25 .if2 .left)
-        (c24 .if3 .left)
+    (c24 .if3 .left)
     (strip .1) (strip .0) (clear .0) (clear .1) (rw (whole T) at (i .ensures)) (ends .0 .0) (ends .0 .1) (ends .1)
 
 pub parse-encoding-or-none-spec : {M : Type 1} → statement M

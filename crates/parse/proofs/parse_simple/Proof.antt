@@ -31,7 +31,7 @@ returns-2 c =
     let a = c8 .args in
     let h = c8 .pre .at-place in
     rw (w .0, w .1, c5 .if1 .left) (simple-token (a .text .now) (a .at) (a .n) (a .m) (a .words .now) h false (λ q. refl) _
-        (token-is _ _ h _ (c8 .pre .plain) (c4 .token-here .ensures)))
+    (token-is _ _ h _ (c8 .pre .plain) (c4 .token-here .ensures)))
 
 pub parse-simple-spec : {M : Type 1} → statement M
 parse-simple-spec =

@@ -1,4 +1,3 @@
-use mathlib.Core.Path.{sym, _∙_}
 use mathlib.Core.Bool.{true}
 use native.Mathlib.Omega.{arith}
 use borrow.Author.Needs.{needs}
@@ -24,7 +23,7 @@ returns c =
     let x = token-place (a .text .now) (a .at) h t (c5 .pre .plain) (c2 .token-here .ensures) in
     let some = rw (c .before .token-surplus .ensures) at (c .if1 .taken) in
     rw (c .before .token-surplus .ensures) (simple-surplus (a .text .now) (a .at) (a .n) (a .m) (a .words .now) h true _ (x .0 .within)
-        (surplus-token (a .text .now) (a .at) h t x some))
+    (surplus-token (a .text .now) (a .at) h t x some))
 
 put-token-requires : tie.Need-put-token-requires
 put-token-requires c κs =
@@ -48,7 +47,7 @@ returns-2 c =
     let x = token-place (a .text .now) (a .at) h t (c9 .pre .plain) (c6 .token-here .ensures) in
     let clean = clean-token (a .text .now) (a .at) h t x (omega (arith, c5 .token-surplus .ensures, c4 .if1 .left)) in
     rw (w .0, w .1) (simple-token (a .text .now) (a .at) (a .n) (a .m) (a .words .now) h true clean t
-        (token-is _ _ h _ (c9 .pre .plain) (c6 .token-here .ensures)))
+    (token-is _ _ h _ (c9 .pre .plain) (c6 .token-here .ensures)))
 
 pub parse-strictly-spec : {M : Type 1} → statement M
 parse-strictly-spec =

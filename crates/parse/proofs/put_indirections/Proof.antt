@@ -17,7 +17,7 @@ abbrev Inv-loop : tie.InvT-loop
 Inv-loop text at to words₀ n m p₀ i₀ words p i =
     ((at ≤ i) × (i ≤ to)) × (After p (n + (i - at)) × ((length words ≡ length words₀)
     × ((strict : Bool) (b : Lists) (ns : List ℕ) → Reads strict text to (n + (to - at)) m b (lists words₀ ns) p₀
-        → Reads strict text i (n + (i - at)) m b (lists words ns) p)))
+    → Reads strict text i (n + (i - at)) m b (lists words ns) p)))
 
 abbrev μ-loop : tie.MeasureT-loop
 μ-loop text at to words₀ n m p₀ i₀ words p i = i

@@ -30,7 +30,7 @@ returns-3 c =
     let c9 = c7 .before .before in
     let c15 = c9 .before .before .before .before .before .before in
     whole-rest _ _ _ _ _ _ _ _ (rw (c9 .to .given .1) at (c15 .parse-encoding-or-none .ensures)) (c7 .if1 .taken) (c4 .clear-sheet .ensures .0)
-        (c4 .clear-sheet .ensures .1)
+    (c4 .clear-sheet .ensures .1)
 
 returns-4 : tie.Need-returns-4
 returns-4 c =

@@ -1,6 +1,4 @@
-use mathlib.Core.Path.{sym}
 use native.Mathlib.Omega.{arith}
-use borrow.Author.Needs.{needs}
 use Rattle.parse.proofs.surplus_place.Statement.{statement}
 use Rattle.parse.proofs.surplus_place.Tie as tie
 
