@@ -20,11 +20,12 @@ typedef struct {
     __typeof__(berzhotun_static_encoding_str_len) *len;
     __typeof__(berzhotun_static_encoding_str_array) *print;
     __typeof__(berzhotun_signature) *signature; // none in an archive from before it was there
+    __typeof__(berzhotun_from_str_strict) *strict; // likewise
 } Build;
 
 static const char *const whats[] = {"whole-text reading", "reading from the start", "tree against tree", "with all fields",
-                                    "tree against text", "size", "length", "print", "signature"};
-enum { TEXT = 4, SIGNATURE = sizeof whats / sizeof *whats - 1 };
+                                    "tree against text", "size", "length", "print", "strict reading", "signature"};
+enum { TEXT = 4, STRICT = 8, SIGNATURE = 9 };
 
 static uint8_t text[BERZHOTUN_MAX_TEXT + 1], printed[BERZHOTUN_MAX_PRINT], output[BERZHOTUN_MAX_PRINT];
 static size_t text_len, printed_len;
@@ -51,7 +52,7 @@ static Build load(const char *path) {
                    symbol(library, "berzhotun_equivalent_to"),     symbol(library, "berzhotun_eq"),
                    symbol(library, "berzhotun_equivalent_to_str"), symbol(library, "berzhotun_size"),
                    symbol(library, "berzhotun_static_encoding_str_len"), symbol(library, "berzhotun_static_encoding_str_array"),
-                   dlsym(library, "berzhotun_signature")};
+                   dlsym(library, "berzhotun_signature"), dlsym(library, "berzhotun_from_str_strict")};
 }
 
 #define SHEET words, words[3], names, words[2]
@@ -69,6 +70,7 @@ static uint64_t call(const Build *build, int what) {
     case 5: return build->size(SHEET, answer) + answer[0];
     case 6: return build->len(SHEET, answer) + answer[0];
     case 7: return build->print(SHEET, output, sizeof output, answer) + answer[0];
+    case STRICT: return build->strict(text, text_len, LENT, answer);
     default: return build->signature(text, text_len, list, BERZHOTUN_MAX_SIGNATURE, answer) + answer[0];
     }
 }
@@ -151,7 +153,12 @@ int main(int count, char **given) {
     static Build builds[MOST_BUILDS];
     int rounds = count > 1 ? atoi(given[1]) : 0, each = (count - 2) / 2;
     if (rounds < 1 || each < 1 || 2 * each > MOST_BUILDS) fail("ROUNDS BEFORE.so.. AFTER.so..");
-    for (int i = 0; i < 2 * each; i++) builds[i] = load(given[2 + i]);
+    int last = STRICT;
+    for (int i = 0; i < 2 * each; i++) {
+        builds[i] = load(given[2 + i]);
+        if (!builds[i].strict) last = STRICT - 1;
+    }
+    if (last < STRICT) printf("one of the archives has no berzhotun_from_str_strict: strict reading is left out\n");
     printf("%-14s %-22s %9s %9s  %5s %5s\n", "tree", "what", "before", "after", "mean", "least");
     for (int which = 0; shape(which); which++) {
         uint64_t answer[3];
@@ -160,7 +167,7 @@ int main(int count, char **given) {
         memcpy(other_names, names, sizeof names);
         if (builds[0].print(SHEET, printed, sizeof printed, answer)) fail("a tree that does not print");
         printed_len = answer[0];
-        for (int what = 0; what < SIGNATURE; what++) row(shape(which), builds, each, rounds, what);
+        for (int what = 0; what <= last; what++) row(shape(which), builds, each, rounds, what);
     }
     // An empty record passes over the fields of these shapes.
     static const struct { int shape; const char *name; } passed[] = {{2, "1,188 passed"}, {3, "1,997 passed"}, {5, "nested passed"}};

@@ -92,7 +92,7 @@ static void check_size(void) {
     }
 }
 
-/* No compiler writes a surplus zero: strict reading answers as the ordinary one did, with the same tree. */
+/* None of these texts has a surplus zero: strict reading refuses by the ordinary one's number or accepts, with the same lists. */
 static void check_strict(uint64_t refusal) {
     size_t length = strlen(row.text);
     uint64_t values[3];

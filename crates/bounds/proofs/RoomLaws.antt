@@ -12,45 +12,30 @@ use Rattle.kinds.specs.Sheet.{maxText, wordsUsed, headerFor, sheetOf}
 use Rattle.kinds.specs.Tree as T
 use Rattle.kinds.specs.Tree.{Trees, end, node, pointer, count}
 use Rattle.kinds.specs.declared.Refusal.the-variants.{TextTooLong, ListTooShort}
-use Rattle.parse.specs.Answer.{used, padded, filled, sheetWords, unlessAway, wordsAfter, wholeTree, wholeReading, startReading, answerOr, fromStrAnswer, fromStrWords, fromStartAnswer}
+use Rattle.parse.specs.Answer.{used, padded, filled, sheetWords, unlessAway, wordsAfter, wholeTree, wholeReading, turnedAway, answerOr, fromStrAnswer, fromStrWords}
+use Rattle.parse.specs.declared.Reading.{Reading}
 use Rattle.parse.specs.declared.Reading.the-variants.{Tree, Refused}
 use Rattle.parse.proofs.Entry.{too-long, not-away, few-words, few-names}
 use Rattle.bounds.specs.Extremes.{pointers}
 use Rattle.bounds.specs.Limits.{wordsFor, namesFor}
 
-module _ (text words names : List ℕ) (h : maxText < length text) where
-  pub whole-long : fromStrAnswer text words names ≡ Refused TextTooLong
-  unfolding fromStrAnswer answerOr
-  whole-long = rw (too-long text words names h)
+-- Every reading is turned away alike, whatever it would answer (`a`).
+module _ (text words names : List ℕ) (a : Reading) where
+  pub long-text : maxText < length text → answerOr (turnedAway text words names) a ≡ Refused TextTooLong
+  unfolding answerOr
+  long-text h = rw (too-long text words names h)
 
-  pub start-long : fromStartAnswer text words names ≡ Refused TextTooLong
-  unfolding fromStartAnswer answerOr
-  start-long = rw (too-long text words names h)
+  pub enough-room : length text ≤ maxText → wordsFor (length text) ≤ length words → namesFor (length text) ≤ length names → answerOr (turnedAway text words names) a ≡ a
+  unfolding answerOr
+  enough-room l w n = rw (not-away text words names l (omega arith) n)
 
-module _ (text words names : List ℕ) (l : length text ≤ maxText) where
-  pub whole-enough : wordsFor (length text) ≤ length words → namesFor (length text) ≤ length names → fromStrAnswer text words names ≡ wholeReading (fromStr text)
-  unfolding fromStrAnswer answerOr
-  whole-enough w n = rw (not-away text words names l (omega arith) n)
+  pub short-words : length text ≤ maxText → length words < wordsFor (length text) → answerOr (turnedAway text words names) a ≡ Refused ListTooShort
+  unfolding answerOr
+  short-words l w = rw (few-words text words names l (omega arith))
 
-  pub start-enough : wordsFor (length text) ≤ length words → namesFor (length text) ≤ length names → fromStartAnswer text words names ≡ startReading (fromStartOfStr text)
-  unfolding fromStartAnswer answerOr
-  start-enough w n = rw (not-away text words names l (omega arith) n)
-
-  pub whole-short-words : length words < wordsFor (length text) → fromStrAnswer text words names ≡ Refused ListTooShort
-  unfolding fromStrAnswer answerOr
-  whole-short-words w = rw (few-words text words names l (omega arith))
-
-  pub start-short-words : length words < wordsFor (length text) → fromStartAnswer text words names ≡ Refused ListTooShort
-  unfolding fromStartAnswer answerOr
-  start-short-words w = rw (few-words text words names l (omega arith))
-
-  pub whole-short-names : length names < namesFor (length text) → fromStrAnswer text words names ≡ Refused ListTooShort
-  unfolding fromStrAnswer answerOr
-  whole-short-names n = rw (few-names text words names l n)
-
-  pub start-short-names : length names < namesFor (length text) → fromStartAnswer text words names ≡ Refused ListTooShort
-  unfolding fromStartAnswer answerOr
-  start-short-names n = rw (few-names text words names l n)
+  pub short-names : length text ≤ maxText → length names < namesFor (length text) → answerOr (turnedAway text words names) a ≡ Refused ListTooShort
+  unfolding answerOr
+  short-names l n = rw (few-names text words names l n)
 
 -- ---- A text of pointers.
 
@@ -117,12 +102,12 @@ words-used k t words = refl
 
 pub pointers-fill : (n : ℕ) (words names : List ℕ) → n ≤ maxText → wordsFor n ≤ length words → namesFor n ≤ length names
     → (length (pointers n) ≡ n) × (fromStrAnswer (pointers n) words names ≡ Tree) × (getD (fromStrWords (pointers n) words names) 3 0 ≡ wordsFor n)
-unfolding fromStrWords wordsAfter unlessAway
+unfolding fromStrAnswer fromStrWords wordsAfter unlessAway
 pointers-fill n words names l w h =
     let e = pointers-length n in
     let r = whole-pointers n in
     let room = not-away (pointers n) words names (omega arith) (omega arith) (omega arith) in (
       e,
-      whole-enough (pointers n) words names (omega arith) (omega arith) (omega arith) ∙ r .accepted,
+      enough-room (pointers n) words names (wholeReading (fromStr (pointers n))) (omega arith) (omega arith) (omega arith) ∙ r .accepted,
       rw (room, r .the-tree) (words-used (used (length (pointers n))) (pointersTo n) words ∙ omega (arith, to-count n)),
     )

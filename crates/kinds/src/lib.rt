@@ -119,7 +119,8 @@ pub enum ErrorKind {
     SurplusZero,
 }
 
-// Why an input is turned away: document 01's numbers 1 to 6, and 7 to 15 and 19 with their place; those of signatures, 16 and 17 with their place, and 18.
+// Why an input is turned away: document 01's 1 to 6, and 7 to 15 with their place; of signatures 16 and 17 with their place, and 18; of strict reading 19
+// with its place.
 pub enum Refusal {
     TextTooLong,
     ListTooShort,

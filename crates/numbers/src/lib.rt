@@ -73,7 +73,7 @@ fn digits_taken(first: u8, count: usize) -> Digits
     }
 }
 
-// The number with one digit more is above the limit. Most are far below it, and need no division.
+// The number with one digit more is above the limit. For most a comparison with a tenth of the limit is enough.
 fn is_above(acc: u64, d: u64, limit: u64) -> bool
     requires { ⌜ (d ≤ 9) × (9 ≤ limit) ⌝ }
     ensures { λ r. ⌜ r ≡ ltb limit (acc * 10 + d) ⌝ }

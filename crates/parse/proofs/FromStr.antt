@@ -1,4 +1,4 @@
--- The promises of the two readings, from the outcome that they share.
+-- The promises of the readings, from the outcome that they share.
 use Prim.Native.Nat.{ℕ, _-_, _≤_, _<_}
 use mathlib.Core.Path.{_≡_, refl, sym, ap, _∙_}
 use mathlib.Core.List.{List, [], _∷_}

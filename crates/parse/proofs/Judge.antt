@@ -1,4 +1,4 @@
--- One step of the cycle with its switch, and how the numbers of a bitfield or an array are judged.
+-- One step of the cycle, strict or not, and how the numbers of a bitfield or an array are judged.
 use Prim.Native.Nat.{ℕ, zero, suc, _+_, _≤_, _<_}
 use mathlib.Core.Path.{_≡_, refl, sym, ap, _∙_, subst}
 use mathlib.Core.List.{List, [], _∷_}

@@ -1,4 +1,4 @@
--- The cycle with its switch off reads as `parseInner` does; with it on, a surplus zero among the numbers met comes first.
+-- The cycle that is not strict reads as `parseInner` does; in a strict one a surplus zero among the numbers met comes first.
 use Prim.Native.Nat.{ℕ, zero, suc, _+_}
 use mathlib.Core.Path.{_≡_, refl, sym, ap, _∙_}
 use mathlib.Core.Bool.{Bool, true, false, cond}
@@ -14,7 +14,7 @@ use Rattle.kinds.specs.declared.ContainerKind.{ContainerKind}
 use Rattle.kinds.specs.declared.ErrorKind.the-variants.{SurplusZero}
 use Rattle.parse.specs.Strictly.{orSurplus, judged, parseInnerBy, parseItemsBy}
 
--- ---- The switch off.
+-- ---- Not strict.
 
 -- Two ways to read a type, and two to read the items of a container, that agree.
 module _ (s : List ℕ) (inner other : List ℕ → Parsed) (fields parts : ContainerKind → List ℕ → Items)
@@ -67,7 +67,7 @@ mutual
       ap (λ q. nextItem k q (λ t. parseItemsBy false f k t)) (ordinary-inner f s)
       ∙ same-next k (λ t. parseItemsBy false f k t) (λ t. parseItems f k t) (λ t. ordinary-items f k t) (parseInner f s)
 
--- ---- The switch on.
+-- ---- Strict.
 
 -- Of the items of a container.
 unfoldable pub orSurplusItems : Option (List ℕ) → Items → Items
@@ -86,7 +86,7 @@ surplus-append {A} or n s (x ∷ xs) ys q = go (surplusZero x) (surplus-append o
     go true e = s x q (or (firstSurplus ys) q)
     go false e = e
 
--- A surplus zero inside goes out through what holds it.
+-- A surplus zero inside is refused by what holds it too.
 held-surplus : (l : Label) (s : List ℕ) (o : Option (List ℕ)) (q : Parsed) → held l s (orSurplus o q) ≡ orSurplus o (held l s q)
 unfolding held orSurplus
 held-surplus l s (some t) q = refl

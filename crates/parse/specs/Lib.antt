@@ -1,4 +1,4 @@
--- The definitions; `Room`, `Out` and `Agree` serve private contracts alone.
+-- The definitions; `Room`, `Out`, `Strictly` and `Agree` serve private contracts alone.
 pub mod Answer
 pub mod Room
 pub mod Out

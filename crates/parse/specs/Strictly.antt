@@ -1,4 +1,4 @@
--- What the cycle that reads text gives, with its switch: a strict reading refuses a number with a surplus zero where it meets it.
+-- What the cycle that reads text gives, strict or not: a strict reading refuses a number with a surplus zero where it meets it.
 use Prim.Native.Nat.{ℕ, zero, suc, _+_, _≤_}
 use mathlib.Core.Path.{_≡_}
 use mathlib.Core.Bool.{Bool, true, false, cond}

@@ -468,16 +468,8 @@ fn parse_one(
         },
         _ => {
             if opens_container(b) {
-                return parse_container(
-                    &text[0..],
-                    at,
-                    strict,
-                    opened_container(b),
-                    words,
-                    n,
-                    names,
-                    m,
-                );
+                let kind = opened_container(b);
+                return parse_container(&text[0..], at, strict, kind, words, n, names, m);
             }
             parse_simple(text, at, strict, words, n, m)
         }

@@ -2,4 +2,5 @@
 pub mod SheetAgreement
 pub mod Readings
 pub mod ReadingLaws
+pub mod StrictLaws
 pub mod AnswerLaws

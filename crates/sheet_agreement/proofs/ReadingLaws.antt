@@ -80,10 +80,10 @@ module _ (text words names : List ℕ) (t : Trees) (r : Readable (length text) t
 
 module _ (text words names : List ℕ) where
   -- The lists after a tree was read.
-  Left : Option Trees → Type 0
+  unfoldable pub Left : Option Trees → Type 0
   Left o = (t : Trees) × (o ≡ some t) × SheetOf (wordsAfter text words names o) (namesAfter text words names o) t
 
-  whole-left : (q : Whole) → ((l : Label) (cs : Trees) → q ≡ tree l cs → Readable (length text) (node l cs end)) → (a : Option Refusal)
+  pub whole-left : (q : Whole) → ((l : Label) (cs : Trees) → q ≡ tree l cs → Readable (length text) (node l cs end)) → (a : Option Refusal)
       → turnedAway text words names ≡ a → answerOr a (wholeReading q) ≡ Tree → Left (wholeTree q)
   unfolding Left answerOr wholeReading wholeTree
   whole-left q r (some why) e h = let z : _≡_ {A = ℕ} 0 1 = cc in absurd (omega arith)

@@ -1,2 +1,3 @@
 -- What the statements are made of.
 pub mod Sheets
+pub mod StrictCalls

@@ -254,7 +254,7 @@ fn object_alone(text: &[u8], at: usize) -> bool
     ends_object(text[next])
 }
 
-// Passes a type with its qualifiers from `at` on, as both readings begin (`parse_encoding_or_none`); a place past the end is taken as the end.
+// Passes a type with its qualifiers from `at` on, as all readings begin (`parse_encoding_or_none`); a place past the end is taken as the end.
 pub fn skip_encoding_or_none(text: &[u8], at: usize) -> SkippedPart
     ensures { λ r. ⌜ r ≡ encodingAt (now (text .entry)) (parseEncodingOrNone (drop at (now (text .entry)))) ⌝ }
 {

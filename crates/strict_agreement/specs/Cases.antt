@@ -1,4 +1,4 @@
--- Texts and what strict and whole-text reading give, as one table: the cases of 02's N3 and those at the edges of its rule.
+-- Texts and what strict and whole-text reading give, as one table: the cases of 02's N3 and more where one rule meets another.
 use Prim.Native.Nat.{ℕ}
 use mathlib.Core.Path.{_≡_}
 use mathlib.Core.List.{List, [], _∷_, _++_}
@@ -88,7 +88,7 @@ noSurplusZero =
     ∷ alike [] (tree T.none end)
     ∷ []
 
--- Whole-text reading refuses before it meets a surplus zero.
+-- Whole-text reading refuses, and meets no surplus zero before.
 unfoldable pub refusedBefore : List Case
 refusedBefore =
     alike (bytes "x[00c]") (refusal (Unknown (byte "x")) 1)

@@ -508,23 +508,22 @@ parse-one-put-array-requires t c κs =
 
 parse-one-parse-container-requires : (t : ℕ) → parse-one-lts.Need-parse-container-requires (parse-one-claims t) (parse-one-at t) parse-one.Post
 parse-one-parse-container-requires t c κs =
-    let c2 = c .before .before in
-    let c4 = c2 .before .before in
-    let c5 = c4 .before in
-    let c8 = c5 .before .before .before in
-    let c12 = c8 .before .before .before .before in
-    let p = c12 .pre .1 in
-    let opens = opened-is _ (sym (c5 .opens-container .ensures) ∙ c4 .if2 .taken) in
-    rw (whole (c12 .args .text .now)) (
-      omega (arith, c12 .pre .0),
-      record { ready = p .ready; at-byte = c8 .if1 .left; opens = opens ∙ ap openContainer (sym (c2 .opened-container .ensures)) },
+    let p = c .before .before .before .before .before .before .before .before .before .before .before .before .pre .1 in
+    let opens = opened-is _ (sym (c .before .before .before .before .before .opens-container .ensures) ∙ c .before .before .before .before .if2 .taken) in
+    rw (whole (c .before .before .before .before .before .before .before .before .before .before .before .before .args .text .now)) (
+      omega (arith, c .before .before .before .before .before .before .before .before .before .before .before .before .pre .0),
+      record {
+        ready = p .ready;
+        at-byte = c .before .before .before .before .before .before .before .before .if1 .left;
+        opens = opens
+            ∙ ap openContainer (sym (c .before .before .before .opened-container .ensures));
+      },
     )
 
 parse-one-returns-2 : (t : ℕ) → parse-one-lts.Need-returns-2 (parse-one-claims t) (parse-one-at t) parse-one.Post
 parse-one-returns-2 t c =
-    let c4 = c .before .before .before .before in
-    let c17 = c4 .before .before .before .before .before .before .before .before .before .before .before .before .before in
-    rw (whole (c17 .args .text .now)) at (c4 .parse-container .ensures)
+    rw (whole
+    (c .before .before .before .before .before .before .before .before .before .before .before .before .before .before .before .before .before .args .text .now)) at (c .before .before .before .before .parse-container .ensures)
 
 parse-one-parse-simple-requires : (t : ℕ) → parse-one-lts.Need-parse-simple-requires (parse-one-claims t) (parse-one-at t) parse-one.Post
 parse-one-parse-simple-requires t c κs =
@@ -647,10 +646,10 @@ pub +parse-container+parse-inner+parse-one-spec : {M : Type 1} → statement M
     (parse-one-parse-inner-requires t)
     (parse-one-put-array-requires t)
     (λ c κs. search needs)
-    (λ c. search needs)
-    (λ c. search needs)
-    (λ c. search needs)
     (λ c κs. search needs)
+    (λ c. search needs)
+    (λ c. search needs)
+    (λ c. search needs)
     (parse-one-parse-container-requires t)
     (λ c. search needs)
     (λ c. search needs)
