@@ -441,7 +441,7 @@ fn opened_container(b: u8) -> ContainerKind
 }
 
 // A type that is no pointer and no atomic; nothing at the end of the text. Arrays and containers are tested for here, which costs less
-// than asking `codes::start`; containers have one call between them, so that a level of nesting is one frame on the stack.
+// than asking `codes::start`.
 fn parse_one(
     text: &[u8],
     at: usize,
@@ -493,6 +493,29 @@ fn put_codes(text: &[u8], at: usize, words: &mut [u64], n: usize) -> usize
     i
 }
 
+// A type from `at` on, as `parse_inner` reads it. A container goes straight to its reader, so that a level of nested containers takes one frame.
+fn parse_field(
+    text: &[u8],
+    at: usize,
+    strict: bool,
+    words: &mut [u64],
+    n: usize,
+    names: &mut [u8],
+    m: usize,
+) -> Parsed
+    requires { ⌜ Ready (now text) at n m (lists (now words) (now names)) ⌝ }
+    ensures { λ r. ⌜ Reads strict (now (text .entry)) at n m (lists (now (words .entry)) (now (names .entry))) (lists (now (words .exit)) (now (names .exit))) r ⌝ }
+{
+    if at < text.len() {
+        let b = text[at];
+        if opens_container(b) {
+            let kind = opened_container(b);
+            return parse_container(&text[0..], at, strict, kind, words, n, names, m);
+        }
+    }
+    parse_inner(&text[0..], at, strict, words, n, names, m)
+}
+
 // A struct or a union, whose opening byte is at `at`. Its closer is looked for before a type is, which spares a call.
 fn parse_container(
     text: &[u8],
@@ -520,7 +543,7 @@ fn parse_container(
                 if closes_fields(text, to, kind) {
                     return put_container(Items::Read(to + 1, k, l), kind, words, n, m, named);
                 }
-                let p = parse_inner(&text[0..], to, strict, words, k, names, l);
+                let p = parse_field(&text[0..], to, strict, words, k, names, l);
                 match p {
                     Parsed::Encoding(to2, k2, l2) => {
                         to = to2;
