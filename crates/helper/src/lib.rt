@@ -275,7 +275,7 @@ fn size_of(nodes: &[u64], at: usize, level: NestingLevel) -> Measured
     all
 }
 
-fn same_bytes(a: &[u8], b: &[u8]) -> bool
+pub fn same_bytes(a: &[u8], b: &[u8]) -> bool
     ensures { λ r. ⌜ r ≡ sameBytes (now (a .entry)) (now (b .entry)) ⌝ }
 {
     if a.len() != b.len() {
@@ -344,7 +344,7 @@ fn compare_labels(a: &[u64], an: &[u8], at: usize, b: &[u64], bn: &[u8], bt: usi
     same_numbers(kind, a[at + 1], a[at + 2], b[bt + 1], b[bt + 2])
 }
 
-fn level_for(all: bool, level: NestingLevel) -> NestingLevel
+pub fn level_for(all: bool, level: NestingLevel) -> NestingLevel
     ensures { λ r. ⌜ r ≡ levelFor all level ⌝ }
 {
     if all {
@@ -354,7 +354,7 @@ fn level_for(all: bool, level: NestingLevel) -> NestingLevel
 }
 
 // The level after a node that is no container: that of what it holds, or `level`, at which the trees side by side are.
-fn level_after(all: bool, kind: u64, level: NestingLevel, here: NestingLevel) -> NestingLevel
+pub fn level_after(all: bool, kind: u64, level: NestingLevel, here: NestingLevel) -> NestingLevel
     ensures { λ r. ⌜ r ≡ levelAfter all kind level here ⌝ }
 {
     if kind < TYPED_BIT_FIELD {
@@ -367,7 +367,7 @@ fn level_after(all: bool, kind: u64, level: NestingLevel, here: NestingLevel) ->
 }
 
 // How many of a container's `n` field nodes are compared.
-fn shown_count(level: NestingLevel, n: usize) -> usize
+pub fn shown_count(level: NestingLevel, n: usize) -> usize
     ensures { λ r. ⌜ r ≡ shownCount level n ⌝ }
 {
     match level.container_include_fields() {

@@ -1,0 +1,530 @@
+// The reason for a no: the first difference of two trees in the order of helper.rs, `compare_encodings`, and its words in an output that the caller lends.
+ghost use Prim.Native.Nat.{ℕ, suc, _+_, _-_, _*_, _≤_, _<_};
+ghost use mathlib.Core.Path.{_≡_};
+ghost use mathlib.Core.Bool.{Bool, true, false};
+ghost use mathlib.Core.List.{List, [], _∷_, _++_};
+ghost use lib.Dec.{eqb};
+ghost use lib.ListN.{length};
+ghost use Rattle.kinds.specs.Byte.{byte, sameBytes};
+ghost use Rattle.kinds.specs.Print.{decimal};
+ghost use Rattle.kinds.specs.Sheet.{kindAt, firstAt, secondAt, countAt, labelAt, isContainerKind, trees, maxNodes, maxNames};
+ghost use Rattle.kinds.specs.Walk.{NodeAt, TreesAt, KindAndName, KindsAndNames};
+ghost use Rattle.lines.specs.Answer.{Put};
+ghost use Rattle.reason.specs.Reason.{items, ownDifference, firstDifference, pathText, valueText, reasonText};
+ghost use Rattle.reason.specs.Answer.{measured, fittedReason, placedReason, reasonLen, reasonAnswer, reasonOutput};
+ghost use Rattle.reason.specs.Spot.{spotted, itemsSpot, nameAt, NodeOf, wordOf, numberAt, valueAt, NameWithin, ValueAt, Finds, CountsAre, pathFrom, Inside, Towards, itemText, maxPathText, maxValueText, reasonAt, Rooted, codesDifference};
+use helper::level_after;
+use helper::level_for;
+use helper::same_bytes;
+use helper::shown_count;
+use kinds::ARRAY;
+use kinds::BIT_FIELD;
+use kinds::NestingLevel;
+use kinds::PRIMITIVES;
+use kinds::Refusal;
+use kinds::TYPED_BIT_FIELD;
+use kinds::equivalent_kinds;
+use kinds::is_container;
+use lines::put_bytes;
+use lines::put_marked;
+use lines::put_number;
+use sheet::CheckedBoth;
+use sheet::check_both;
+use static_str::static_int_str_len;
+
+// What of two nodes differs.
+pub enum Aspect {
+    Kind,
+    Size,
+    Offset,
+    Length,
+    Name,
+    Count,
+}
+
+// What the walk finds: nothing, or the words at which the nodes that differ begin in the first tree and in the second, and what of them differs.
+enum Found {
+    Same,
+    At(usize, usize, Aspect),
+}
+
+// A yes, or the count of bytes of the reason for a no; or why there is neither.
+pub enum Reasoned {
+    Refused(Refusal),
+    Yes,
+    Bytes(usize),
+}
+
+// How the counts of two containers' fields compare, where the fields are compared at all.
+enum Counts {
+    NotCompared,
+    Unequal,
+    Equal,
+}
+
+// An item of a node: the word at which it begins, and its number from 0.
+struct Item {
+    at: usize,
+    number: u64,
+}
+
+fn same_name(a: &[u64], an: &[u8], at: usize, b: &[u64], bn: &[u8], bt: usize) -> bool
+    requires { ⌜ (at + 4 ≤ length (now a)) × (bt + 4 ≤ length (now b)) ⌝ }
+    requires { ⌜ (firstAt (now a) at + secondAt (now a) at ≤ length (now an)) × (firstAt (now b) bt + secondAt (now b) bt ≤ length (now bn)) ⌝ }
+    ensures { λ r. ⌜ r ≡ sameBytes (nameAt (now (an .entry)) (now (a .entry)) at) (nameAt (now (bn .entry)) (now (b .entry)) bt) ⌝ }
+{
+    let af = a[at + 1] as usize;
+    let ae = af + a[at + 2] as usize;
+    let bf = b[bt + 1] as usize;
+    let be = bf + b[bt + 2] as usize;
+    same_bytes(&an[af..ae], &bn[bf..be])
+}
+
+// What of the numbers of two nodes of one kind, which is neither a primitive's nor a container's, differs first.
+fn number_difference(a: &[u64], at: usize, b: &[u64], bt: usize) -> Found
+    requires { ⌜ NodeAt (now a) at × NodeAt (now b) bt × (kindAt (now b) bt ≡ kindAt (now a) at) ⌝ }
+    requires { ⌜ (24 ≤ kindAt (now a) at) × (kindAt (now a) at ≤ 31) × (isContainerKind (kindAt (now a) at) ≡ false) ⌝ }
+    ensures { λ r. ⌜ ((an bn : List ℕ) → Finds an (now (a .entry)) at 1 bn (now (b .entry)) bt 1 (spotted at (ownDifference (labelAt an (now (a .entry)) at) (labelAt bn (now (b .entry)) bt))) r) ⌝ }
+{
+    let kind = a[at];
+    if kind <= TYPED_BIT_FIELD {
+        if a[at + 2] != b[bt + 2] {
+            return Found::At(at, bt, Aspect::Size);
+        }
+        if kind == BIT_FIELD {
+            return Found::Same;
+        }
+        if a[at + 1] != b[bt + 1] {
+            return Found::At(at, bt, Aspect::Offset);
+        }
+        return Found::Same;
+    }
+    if kind != ARRAY {
+        return Found::Same;
+    }
+    if a[at + 1] != b[bt + 1] {
+        return Found::At(at, bt, Aspect::Length);
+    }
+    Found::Same
+}
+
+// What of two nodes, their children aside, differs first.
+fn own_difference(a: &[u64], an: &[u8], at: usize, b: &[u64], bn: &[u8], bt: usize) -> Found
+    requires { ⌜ NodeAt (now a) at × NodeAt (now b) bt ⌝ }
+    requires { ⌜ KindAndName (now a) (length (now an)) at × KindAndName (now b) (length (now bn)) bt ⌝ }
+    ensures { λ r. ⌜ Finds (now (an .entry)) (now (a .entry)) at 1 (now (bn .entry)) (now (b .entry)) bt 1 (spotted at (ownDifference (labelAt (now (an .entry)) (now (a .entry)) at) (labelAt (now (bn .entry)) (now (b .entry)) bt))) r ⌝ }
+{
+    let kind = a[at];
+    if !equivalent_kinds(kind, b[bt]) {
+        return Found::At(at, bt, Aspect::Kind);
+    }
+    if kind < PRIMITIVES {
+        return Found::Same;
+    }
+    if !is_container(kind) {
+        return number_difference(a, at, b, bt);
+    }
+    if same_name(a, an, at, b, bn, bt) {
+        return Found::Same;
+    }
+    Found::At(at, bt, Aspect::Name)
+}
+
+// Whether the trees of the `left` nodes from `at` on are as many as those of the `more` nodes from `bt` on.
+fn same_count(a: &[u64], mut at: usize, mut left: usize, b: &[u64], mut bt: usize, mut more: usize) -> bool
+    requires { ⌜ TreesAt (now a) at left × TreesAt (now b) bt more ⌝ }
+    ensures { λ r. ⌜ ((s t : List ℕ) → r ≡ eqb (items (trees s (now (a .entry)) left at)) (items (trees t (now (b .entry)) more bt))) ⌝ }
+{
+    while 0 < left {
+        if more == 0 {
+            return false;
+        }
+        let c = a[at + 3] as usize;
+        let d = b[bt + 3] as usize;
+        at += 4 * c;
+        left -= c;
+        bt += 4 * d;
+        more -= d;
+    }
+    more == 0
+}
+
+// How the counts of the fields of two containers at a level compare.
+fn compare_counts(a: &[u64], at: usize, b: &[u64], bt: usize, level: NestingLevel) -> Counts
+    requires { ⌜ NodeAt (now a) at × NodeAt (now b) bt × (isContainerKind (kindAt (now a) at) ≡ true) ⌝ }
+    ensures { λ r. ⌜ ((s t : List ℕ) → CountsAre s (now (a .entry)) at t (now (b .entry)) bt level r) ⌝ }
+{
+    let n = shown_count(level, a[at + 3] as usize - 1);
+    if n == 0 {
+        return Counts::NotCompared;
+    }
+    let m = b[bt + 3] as usize - 1;
+    if m == 0 {
+        return Counts::NotCompared;
+    }
+    if same_count(a, at + 4, n, b, bt + 4, m) {
+        return Counts::Equal;
+    }
+    Counts::Unequal
+}
+
+// The first difference of the trees of the `left` nodes from `at` on and those of the `more` nodes from `bt` on, up to where either ends. A node with
+// one child is followed by that child, and the last container by its fields, so only others need a call.
+fn first_difference(
+    a: &[u64],
+    an: &[u8],
+    mut at: usize,
+    mut left: usize,
+    b: &[u64],
+    bn: &[u8],
+    mut bt: usize,
+    mut more: usize,
+    mut level: NestingLevel,
+    all: bool,
+) -> Found
+    requires { ⌜ TreesAt (now a) at left × TreesAt (now b) bt more ⌝ }
+    requires { ⌜ KindsAndNames (now a) (length (now an)) at left × KindsAndNames (now b) (length (now bn)) bt more ⌝ }
+    ensures { λ r. ⌜ Finds (now (an .entry)) (now (a .entry)) at left (now (bn .entry)) (now (b .entry)) bt more (itemsSpot all level at (trees (now (an .entry)) (now (a .entry)) left at) (trees (now (bn .entry)) (now (b .entry)) more bt)) r ⌝ }
+{
+    let mut here = level;
+    while 0 < left {
+        if more == 0 {
+            return Found::Same;
+        }
+        if let Found::At(x, y, aspect) = own_difference(a, an, at, b, bn, bt) {
+            return Found::At(x, y, aspect);
+        }
+        let kind = a[at];
+        let mut c = 1;
+        let mut d = 1;
+        if is_container(kind) {
+            c = a[at + 3] as usize;
+            d = b[bt + 3] as usize;
+            match compare_counts(a, at, b, bt, level_for(all, here)) {
+                Counts::NotCompared => {}
+                Counts::Unequal => return Found::At(at, bt, Aspect::Count),
+                Counts::Equal => {
+                    let i = at + 4;
+                    let n = c - 1;
+                    let j = bt + 4;
+                    let m = d - 1;
+                    let inner = NestingLevel::Within;
+                    if left == c {
+                        at = i;
+                        left = n;
+                        bt = j;
+                        more = m;
+                        level = inner;
+                        here = inner;
+                        continue;
+                    }
+                    if let Found::At(x, y, aspect) = first_difference(&a[0..], &an[0..], i, n, &b[0..], &bn[0..], j, m, inner, all) {
+                        return Found::At(x, y, aspect);
+                    }
+                }
+            }
+        }
+        at += 4 * c;
+        left -= c;
+        bt += 4 * d;
+        more -= d;
+        here = level_after(all, kind, level, here);
+    }
+    Found::Same
+}
+
+// How many trees the `n` nodes from `from` on are.
+fn count_items(nodes: &[u64], from: usize, n: usize) -> u64
+    requires { ⌜ TreesAt (now nodes) from n ⌝ }
+    ensures { λ r. ⌜ r ≡ items (trees [] (now (nodes .entry)) n from) ⌝ }
+{
+    let mut at = from;
+    let mut left = n;
+    let mut count = 0;
+    while 0 < left {
+        let c = nodes[at + 3] as usize;
+        at += 4 * c;
+        left -= c;
+        count += 1;
+    }
+    count
+}
+
+// The item of the node at `parent` that holds the node at `x`.
+fn item_towards(nodes: &[u64], parent: usize, x: usize) -> Item
+    requires { ⌜ NodeAt (now nodes) parent × NodeOf (parent + 4) (countAt (now nodes) parent - 1) x ⌝ }
+    ensures { λ r. ⌜ Towards (now (nodes .entry)) parent x (r .at) (r .number) ⌝ }
+{
+    let mut at = parent + 4;
+    let mut number = 0;
+    let mut count = nodes[at + 3] as usize;
+    while 4 * count <= x - at {
+        at += 4 * count;
+        number += 1;
+        count = nodes[at + 3] as usize;
+    }
+    Item { at, number }
+}
+
+// The length of the text of the path to the node at `x`.
+fn path_len(nodes: &[u64], x: usize) -> usize
+    requires { ⌜ Inside (now nodes) x ⌝ }
+    ensures { λ r. ⌜ (r ≡ length (pathText (pathFrom (now (nodes .entry)) 0 x))) × (r ≤ maxPathText) ⌝ }
+{
+    let mut at = 0;
+    let mut len = 0;
+    while at < x {
+        let item = item_towards(nodes, at, x);
+        if 0 < at {
+            len += 1;
+        }
+        len += static_int_str_len(item.number);
+        at = item.at;
+    }
+    len
+}
+
+// Writes an item number, with a dot before it unless it is the first; the next place.
+fn put_item(out: &mut [u8], to: usize, first: bool, number: u64) -> usize
+    ensures { λ r. ⌜ Put (now (out .entry)) to (itemText first number) (now (out .exit)) r ⌝ }
+{
+    if first {
+        return put_number(out, to, number);
+    }
+    put_marked(out, to, b'.', number)
+}
+
+// Writes the path to the node at `x`; the next place.
+fn put_path(out: &mut [u8], nodes: &[u64], x: usize) -> usize
+    requires { ⌜ Inside (now nodes) x ⌝ }
+    ensures { λ r. ⌜ Put (now (out .entry)) 0 (pathText (pathFrom (now (nodes .entry)) 0 x)) (now (out .exit)) r ⌝ }
+{
+    let mut at = 0;
+    let mut to = 0;
+    while at < x {
+        let item = item_towards(nodes, at, x);
+        to = put_item(out, to, at == 0, item.number);
+        at = item.at;
+    }
+    to
+}
+
+// The number of an aspect that is no name.
+fn number_at(nodes: &[u64], at: usize, aspect: Aspect) -> u64
+    requires { ⌜ NodeAt (now nodes) at ⌝ }
+    ensures { λ r. ⌜ r ≡ numberAt aspect (now (nodes .entry)) at ⌝ }
+{
+    match aspect {
+        Aspect::Kind => nodes[at],
+        Aspect::Size => nodes[at + 2],
+        Aspect::Offset => nodes[at + 1],
+        Aspect::Length => nodes[at + 1],
+        Aspect::Name => 0,
+        Aspect::Count => count_items(nodes, at + 4, nodes[at + 3] as usize - 1),
+    }
+}
+
+// The length of the text of a value of `n` bytes.
+fn text_len(n: usize) -> usize
+    requires { ⌜ n ≤ maxNames ⌝ }
+    ensures { λ r. ⌜ (r ≡ 2 + length (decimal n) + n) × (r ≤ maxValueText) ⌝ }
+{
+    2 + static_int_str_len(n as u64) + n
+}
+
+// The length of the text of a number as a value.
+fn number_len(n: u64) -> usize
+    ensures { λ r. ⌜ (r ≡ length (valueText (decimal n))) × (r ≤ maxValueText) ⌝ }
+{
+    text_len(static_int_str_len(n))
+}
+
+// The length of the text of a value.
+fn value_len(nodes: &[u64], at: usize, aspect: Aspect) -> usize
+    requires { ⌜ NodeAt (now nodes) at × NameWithin aspect maxNames (now nodes) at ⌝ }
+    ensures { λ r. ⌜ ((names : List ℕ) → NameWithin aspect (length names) (now (nodes .entry)) at → r ≡ length (valueText (valueAt aspect names (now (nodes .entry)) at))) × (r ≤ maxValueText) ⌝ }
+{
+    if let Aspect::Name = aspect {
+        return text_len(nodes[at + 2] as usize);
+    }
+    number_len(number_at(nodes, at, aspect))
+}
+
+fn word_len(aspect: Aspect) -> usize
+    ensures { λ r. ⌜ (r ≡ length (wordOf aspect)) × (r ≤ 6) ⌝ }
+{
+    match aspect {
+        Aspect::Kind => 4,
+        Aspect::Size => 4,
+        Aspect::Offset => 6,
+        Aspect::Length => 6,
+        Aspect::Name => 4,
+        Aspect::Count => 5,
+    }
+}
+
+// Writes a word; the next place.
+fn put_word(out: &mut [u8], to: usize, aspect: Aspect) -> usize
+    ensures { λ r. ⌜ Put (now (out .entry)) to (wordOf aspect) (now (out .exit)) r ⌝ }
+{
+    match aspect {
+        Aspect::Kind => put_bytes(out, to, b"kind"),
+        Aspect::Size => put_bytes(out, to, b"size"),
+        Aspect::Offset => put_bytes(out, to, b"offset"),
+        Aspect::Length => put_bytes(out, to, b"length"),
+        Aspect::Name => put_bytes(out, to, b"name"),
+        Aspect::Count => put_bytes(out, to, b"count"),
+    }
+}
+
+// Writes a number as a value; the next place.
+fn put_number_value(out: &mut [u8], to: usize, n: u64) -> usize
+    ensures { λ r. ⌜ Put (now (out .entry)) to (valueText (decimal n)) (now (out .exit)) r ⌝ }
+{
+    let mark = put_marked(out, to, b' ', static_int_str_len(n) as u64);
+    put_marked(out, mark, b':', n)
+}
+
+// Writes bytes as a value; the next place.
+fn put_bytes_value(out: &mut [u8], to: usize, s: &[u8]) -> usize
+    ensures { λ r. ⌜ Put (now (out .entry)) to (valueText (now (s .entry))) (now (out .exit)) r ⌝ }
+{
+    let mark = put_marked(out, to, b' ', s.len() as u64);
+    let from = put_bytes(out, mark, b":");
+    put_bytes(out, from, s)
+}
+
+// Writes a value; the next place.
+fn put_value(out: &mut [u8], to: usize, nodes: &[u64], names: &[u8], at: usize, aspect: Aspect) -> usize
+    requires { ⌜ NodeAt (now nodes) at × NameWithin aspect (length (now names)) (now nodes) at ⌝ }
+    ensures { λ r. ⌜ Put (now (out .entry)) to (valueText (valueAt aspect (now (names .entry)) (now (nodes .entry)) at)) (now (out .exit)) r ⌝ }
+{
+    if let Aspect::Name = aspect {
+        let from = nodes[at + 1] as usize;
+        let end = from + nodes[at + 2] as usize;
+        return put_bytes_value(out, to, &names[from..end]);
+    }
+    put_number_value(out, to, number_at(nodes, at, aspect))
+}
+
+// The length of the reason that two nodes differ in an aspect.
+fn reason_text_len(a: &[u64], at: usize, b: &[u64], bt: usize, aspect: Aspect) -> usize
+    requires { ⌜ Inside (now a) at × NodeAt (now a) at × NodeAt (now b) bt ⌝ }
+    requires { ⌜ NameWithin aspect maxNames (now a) at × NameWithin aspect maxNames (now b) bt ⌝ }
+    ensures { λ r. ⌜ ((an bn : List ℕ) → NameWithin aspect (length an) (now (a .entry)) at → NameWithin aspect (length bn) (now (b .entry)) bt → r ≡ length (reasonText (reasonAt aspect an (now (a .entry)) at bn (now (b .entry)) bt))) ⌝ }
+{
+    let values = value_len(a, at, aspect) + value_len(b, bt, aspect);
+    path_len(a, at) + 1 + word_len(aspect) + values
+}
+
+// Writes the reason that two nodes differ in an aspect; the next place.
+fn put_reason(
+    out: &mut [u8],
+    a: &[u64],
+    an: &[u8],
+    at: usize,
+    b: &[u64],
+    bn: &[u8],
+    bt: usize,
+    aspect: Aspect,
+) -> usize
+    requires { ⌜ Inside (now a) at × NodeAt (now a) at × NodeAt (now b) bt ⌝ }
+    requires { ⌜ NameWithin aspect (length (now an)) (now a) at × NameWithin aspect (length (now bn)) (now b) bt ⌝ }
+    ensures { λ r. ⌜ Put (now (out .entry)) 0 (reasonText (reasonAt aspect (now (an .entry)) (now (a .entry)) at (now (bn .entry)) (now (b .entry)) bt)) (now (out .exit)) r ⌝ }
+{
+    let path = put_path(out, a, at);
+    let mark = put_bytes(out, path, b":");
+    let word = put_word(out, mark, aspect);
+    let first = put_value(out, word, a, an, at, aspect);
+    put_value(out, first, b, bn, bt, aspect)
+}
+
+// The length of the reason of two trees of `n` and `m` nodes.
+fn nodes_len(a: &[u64], an: &[u8], n: usize, b: &[u64], bn: &[u8], m: usize, all: bool) -> Reasoned
+    requires { ⌜ Rooted (now an) (now a) n × Rooted (now bn) (now b) m ⌝ }
+    ensures { λ r. ⌜ r ≡ measured (firstDifference all NestingLevel.Top (trees (now (an .entry)) (now (a .entry)) n 0) (trees (now (bn .entry)) (now (b .entry)) m 0)) ⌝ }
+{
+    match first_difference(a, an, 0, n, b, bn, 0, m, NestingLevel::new(), all) {
+        Found::Same => Reasoned::Yes,
+        Found::At(x, y, aspect) => Reasoned::Bytes(reason_text_len(a, x, b, y, aspect)),
+    }
+}
+
+// Writes the reason of two trees of `n` and `m` nodes at the front of the output.
+fn write_nodes(
+    a: &[u64],
+    an: &[u8],
+    n: usize,
+    b: &[u64],
+    bn: &[u8],
+    m: usize,
+    all: bool,
+    out: &mut [u8],
+) -> Reasoned
+    requires { ⌜ Rooted (now an) (now a) n × Rooted (now bn) (now b) m ⌝ }
+    ensures answers { λ r. ⌜ r ≡ fittedReason (length (now (out .entry))) (firstDifference all NestingLevel.Top (trees (now (an .entry)) (now (a .entry)) n 0) (trees (now (bn .entry)) (now (b .entry)) m 0)) ⌝ }
+    ensures writes { λ _. ⌜ now (out .exit) ≡ placedReason (now (out .entry)) (firstDifference all NestingLevel.Top (trees (now (an .entry)) (now (a .entry)) n 0) (trees (now (bn .entry)) (now (b .entry)) m 0)) ⌝ }
+{
+    match first_difference(a, an, 0, n, b, bn, 0, m, NestingLevel::new(), all) {
+        Found::Same => Reasoned::Yes,
+        Found::At(x, y, aspect) => {
+            let len = reason_text_len(a, x, b, y, aspect);
+            if out.len() < len {
+                return Reasoned::Refused(Refusal::OutputTooShort);
+            }
+            put_reason(out, a, an, x, b, bn, y, aspect);
+            Reasoned::Bytes(len)
+        }
+    }
+}
+
+// The length of the reason of two codes.
+fn codes_len(k: u64, j: u64) -> Reasoned
+    ensures { λ r. ⌜ ((all : Bool) → r ≡ measured (codesDifference all k j)) ⌝ }
+{
+    if equivalent_kinds(k, j) {
+        return Reasoned::Yes;
+    }
+    Reasoned::Bytes(5 + number_len(k) + number_len(j))
+}
+
+// Writes the reason of two codes at the front of the output.
+fn write_codes(k: u64, j: u64, out: &mut [u8]) -> Reasoned
+    ensures answers { λ r. ⌜ ((all : Bool) → r ≡ fittedReason (length (now (out .entry))) (codesDifference all k j)) ⌝ }
+    ensures writes { λ _. ⌜ ((all : Bool) → now (out .exit) ≡ placedReason (now (out .entry)) (codesDifference all k j)) ⌝ }
+{
+    if equivalent_kinds(k, j) {
+        return Reasoned::Yes;
+    }
+    let len = 5 + number_len(k) + number_len(j);
+    if out.len() < len {
+        return Reasoned::Refused(Refusal::OutputTooShort);
+    }
+    let word = put_bytes(out, 0, b":kind");
+    let first = put_number_value(out, word, k);
+    put_number_value(out, first, j);
+    Reasoned::Bytes(len)
+}
+
+// The length of the reason why the trees in two sheets do not match, by levels or with `all` fields.
+pub fn reason_len(aw: &[u64], an: &[u8], bw: &[u64], bn: &[u8], all: bool) -> Reasoned
+    ensures { λ r. ⌜ r ≡ reasonLen all (now (aw .entry)) (now (an .entry)) (now (bw .entry)) (now (bn .entry)) ⌝ }
+{
+    match check_both(aw, an, bw, bn) {
+        CheckedBoth::Refused(why) => Reasoned::Refused(why),
+        CheckedBoth::Codes(k, j) => codes_len(k, j),
+        CheckedBoth::Nodes(f, n, g, m) => nodes_len(&aw[f..], &an[0..], n, &bw[g..], &bn[0..], m, all),
+    }
+}
+
+// Writes the reason why the trees in two sheets do not match, by levels or with `all` fields, at the front of the output.
+pub fn reason(aw: &[u64], an: &[u8], bw: &[u64], bn: &[u8], all: bool, out: &mut [u8]) -> Reasoned
+    ensures answers { λ r. ⌜ r ≡ reasonAnswer all (now (aw .entry)) (now (an .entry)) (now (bw .entry)) (now (bn .entry)) (length (now (out .entry))) ⌝ }
+    ensures writes { λ _. ⌜ now (out .exit) ≡ reasonOutput all (now (aw .entry)) (now (an .entry)) (now (bw .entry)) (now (bn .entry)) (now (out .entry)) ⌝ }
+{
+    match check_both(aw, an, bw, bn) {
+        CheckedBoth::Refused(why) => Reasoned::Refused(why),
+        CheckedBoth::Codes(k, j) => write_codes(k, j, out),
+        CheckedBoth::Nodes(f, n, g, m) => write_nodes(&aw[f..], &an[0..], n, &bw[g..], &bn[0..], m, all, out),
+    }
+}
