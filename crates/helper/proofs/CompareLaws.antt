@@ -200,7 +200,7 @@ shown-fields all Top s w n at t = refl
 shown-fields all Within s w n at t = refl
 shown-fields all Bottom s w n at t = refl
 
-level-container : (all : Bool) (k : ℕ) (v here : NestingLevel) → isContainerKind k ≡ true → levelAfter all k v here ≡ v
+pub level-container : (all : Bool) (k : ℕ) (v here : NestingLevel) → isContainerKind k ≡ true → levelAfter all k v here ≡ v
 unfolding levelAfter
 level-container all k v here c = go (eqb k 29) refl (eqb k 30) refl c
   where

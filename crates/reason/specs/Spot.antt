@@ -104,21 +104,21 @@ differenceAt A.Count an a at bn b bt = count (itemsAt a at) (itemsAt b bt)
 
 -- A name as the aspect is a container's.
 abbrev pub Named : Aspect → List ℕ → ℕ → Type 0
-Named A.Kind w at = ⊤
-Named A.Size w at = ⊤
-Named A.Offset w at = ⊤
-Named A.Length w at = ⊤
+Named A.Kind w at = Unit {0}
+Named A.Size w at = Unit {0}
+Named A.Offset w at = Unit {0}
+Named A.Length w at = Unit {0}
 Named A.Name w at = isContainerKind (kindAt w at) ≡ true
-Named A.Count w at = ⊤
+Named A.Count w at = Unit {0}
 
 -- It lies within the first `m` name bytes.
 abbrev pub NameWithin : Aspect → ℕ → List ℕ → ℕ → Type 0
-NameWithin A.Kind m w at = ⊤
-NameWithin A.Size m w at = ⊤
-NameWithin A.Offset m w at = ⊤
-NameWithin A.Length m w at = ⊤
+NameWithin A.Kind m w at = Unit {0}
+NameWithin A.Size m w at = Unit {0}
+NameWithin A.Offset m w at = Unit {0}
+NameWithin A.Length m w at = Unit {0}
 NameWithin A.Name m w at = firstAt w at + secondAt w at ≤ m
-NameWithin A.Count m w at = ⊤
+NameWithin A.Count m w at = Unit {0}
 
 -- One of the `n` nodes from `at` on stands at `x` with all of its subtree, and has the aspect.
 pub record ValueAt (aspect : Aspect) (w : List ℕ) (at n x : ℕ) : Type 0 where
