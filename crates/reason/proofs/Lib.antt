@@ -1,3 +1,4 @@
 -- Laws of the definitions that belong to no one function.
+pub mod OwnLaws
 pub mod SpotLaws
 pub mod WalkLaws

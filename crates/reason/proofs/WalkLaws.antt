@@ -19,7 +19,7 @@ use Rattle.kinds.proofs.NodeLaws.{node-inner, first-some, first-within, first-n
 use Rattle.helper.specs.Measure.{levelAfter}
 use Rattle.helper.proofs.CompareLaws.{Bounds, plain-partner, level-container, after-trees}
 use Rattle.reason.specs.Reason.{orElse, ownDifference, items, itemsCompared}
-use Rattle.reason.specs.Spot.{Spot, spotted, itemsSpot, NodeOf, below, ValueAt, Finds, CountsAre}
+use Rattle.reason.specs.Spot.{Spot, spotted, itemsSpot, NodeOf, below, differenceAt, ValueAt, Finds, CountsAre}
 use Rattle.reason.specs.declared.Aspect.{Aspect}
 use Rattle.reason.specs.declared.Aspect.the-variants as A
 use Rattle.reason.specs.declared.Counts.the-variants as C
@@ -116,7 +116,7 @@ module _ {all : Bool} {v : NestingLevel} {an a bn b : List ℕ} {at n bt m : ℕ
         → Finds an a at₀ n₀ bn b bt₀ m₀ s (F.At x y aspect)
     left-own f = (
       sym (l .rest) ∙ resume-own all here v an a bn b n m at bt (l .first) (l .second) p q (f .0),
-      (part-value (l .first-part) (widened p (f .1)), part-value (l .second-part) (widened q (f .2))),
+      (part-value (l .first-part) (widened p (f .1 .0)), part-value (l .second-part) (widened q (f .1 .1))),
     )
 
     module _ (e : spotted at (ownDifference (labelAt an a at) (labelAt bn b bt)) ≡ none) where
@@ -165,6 +165,7 @@ module _ {all : Bool} {v : NestingLevel} {an a bn b : List ℕ} {at n bt m : ℕ
         left-over f = later (resume-over all here v an a bn b n m at bt (l .first) (l .second) p q e (rw lu at f))
 
         pub left-count : CountsAre an a at bn b bt u C.Unequal → Finds an a at₀ n₀ bn b bt₀ m₀ s (F.At at bt A.Count)
+        unfolding differenceAt
         left-count f = (
           sym (l .rest) ∙ resume-count all here v an a bn b n m at bt (l .first) (l .second) p q e (rw lu at (f .0)) (f .1),
           (
@@ -207,7 +208,7 @@ module _ {all : Bool} {v : NestingLevel} {an a bn b : List ℕ} {at n bt m : ℕ
           left-fields g = (
             sym (l .rest) ∙ items-then
                 ∙ ap (λ y. orElse y (itemsSpot all v (at + 4 * countAt a at) (trees an a (n - countAt a at) (at + 4 * countAt a at)) (trees bn b (m - countAt b bt) (bt + 4 * countAt b bt)))) (g .0),
-            (part-value inner-part (g .1), part-value inner-part' (g .2)),
+            (part-value inner-part (g .1 .0), part-value inner-part' (g .1 .1)),
           )
 
           pub left-after : itemsSpot all Within (at + 4) (below an a at) (below bn b bt) ≡ none
