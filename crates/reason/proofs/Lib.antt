@@ -1,4 +1,5 @@
 -- Laws of the definitions that belong to no one function.
 pub mod OwnLaws
+pub mod CountLaws
 pub mod SpotLaws
 pub mod WalkLaws

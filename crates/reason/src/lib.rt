@@ -130,6 +130,17 @@ fn own_difference(a: &[u64], an: &[u8], at: usize, b: &[u64], bn: &[u8], bt: usi
     Found::At(at, bt, Aspect::Name)
 }
 
+// How many nodes the subtree at `at` has. Most nodes are codes, and asking for the kind first does not wait for the count.
+fn subtree(nodes: &[u64], at: usize) -> usize
+    requires { ⌜ NodeAt (now nodes) at ⌝ }
+    ensures { λ r. ⌜ r ≡ countAt (now (nodes .entry)) at ⌝ }
+{
+    if nodes[at] < TYPED_BIT_FIELD {
+        return 1;
+    }
+    nodes[at + 3] as usize
+}
+
 // Whether the trees of the `left` nodes from `at` on are as many as those of the `more` nodes from `bt` on.
 fn same_count(a: &[u64], mut at: usize, mut left: usize, b: &[u64], mut bt: usize, mut more: usize) -> bool
     requires { ⌜ TreesAt (now a) at left × TreesAt (now b) bt more ⌝ }
@@ -139,8 +150,8 @@ fn same_count(a: &[u64], mut at: usize, mut left: usize, b: &[u64], mut bt: usiz
         if more == 0 {
             return false;
         }
-        let c = a[at + 3] as usize;
-        let d = b[bt + 3] as usize;
+        let c = subtree(a, at);
+        let d = subtree(b, bt);
         at += 4 * c;
         left -= c;
         bt += 4 * d;
