@@ -2,4 +2,6 @@
 pub mod OwnLaws
 pub mod CountLaws
 pub mod SpotLaws
+pub mod PathLaws
+pub mod ValueLaws
 pub mod WalkLaws

@@ -161,6 +161,7 @@ pub record Inside (w : List ℕ) (x : ℕ) : Type 0 where
 -- The item of the node at `parent` that holds the node at `x` stands at `at` and has the number `i`.
 pub record Towards (w : List ℕ) (parent x at i : ℕ) : Type 0 where
   pub further : parent < at
+  pub few : i < at
   pub whole : NodeAt w at
   pub holds : NodeOf at (countAt w at) x
   pub path : pathFrom w parent x ≡ i ∷ pathFrom w at x
