@@ -4,4 +4,5 @@ pub mod CountLaws
 pub mod SpotLaws
 pub mod PathLaws
 pub mod ValueLaws
+pub mod ReasonLaws
 pub mod WalkLaws
