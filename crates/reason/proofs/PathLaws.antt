@@ -1,17 +1,17 @@
 -- Laws of items and of the path to a node.
-use Prim.Native.Nat.{ℕ, zero, suc, _+_, _-_, _*_, _≤_, _<_}
+use Prim.Native.Nat.{ℕ, suc, _+_, _-_, _*_, _≤_, _<_}
 use native.Mathlib.Numerals.{add-one}
 use native.Mathlib.Omega.{arith}
 use mathlib.Core.Path.{_≡_, refl, ap, sym, _∙_, subst}
 use mathlib.Core.List.{List, [], _∷_, _++_}
 use mathlib.Core.Bool.{Bool, true, false, cond}
-use borrow.Author.Tests.{lt-ltb, le-ltb, ne-eqb, eq-eqb, eqb-true, eqb-false}
+use borrow.Author.Tests.{lt-ltb, le-ltb, ne-eqb, eq-eqb}
 use lib.ListN.{length, length-append}
 use lib.Dec.{eqb}
 use Rattle.kinds.specs.Print.{decimal}
-use Rattle.kinds.specs.Sheet.{countAt, labelAt, trees, maxNodes}
+use Rattle.kinds.specs.Sheet.{countAt, labelAt, trees}
 use Rattle.kinds.specs.Tree as T
-use Rattle.kinds.specs.Tree.{end, node}
+use Rattle.kinds.specs.Tree.{node}
 use Rattle.kinds.specs.Walk.{NodeAt, TreesAt}
 use Rattle.kinds.proofs.SheetLaws.{trees-step}
 use Rattle.kinds.proofs.NodeLaws.{node-inner, first-some, first-within, first-node, other-trees, no-trees}

@@ -11,7 +11,7 @@ use Rattle.kinds.specs.Compare.{levelFor}
 use Rattle.kinds.specs.Kind.{insideKind}
 use Rattle.kinds.specs.Sheet.{kindAt, firstAt, secondAt, countAt, labelAt, isContainerKind, trees}
 use Rattle.kinds.specs.Tree.{end, inside}
-use Rattle.kinds.specs.Walk.{NodeAt, TreesAt, KindsAndNames}
+use Rattle.kinds.specs.Walk.{NodeAt, TreesAt, KindAndName, KindsAndNames}
 use Rattle.kinds.specs.declared.NestingLevel.{NestingLevel}
 use Rattle.kinds.specs.declared.NestingLevel.the-variants.{Within}
 use Rattle.kinds.proofs.KindLaws.{inside-kind}
@@ -26,6 +26,12 @@ use Rattle.reason.specs.declared.Counts.the-variants as C
 use Rattle.reason.specs.declared.Found.{Found}
 use Rattle.reason.specs.declared.Found.the-variants as F
 use Rattle.reason.proofs.SpotLaws.{resume, resume-level, resume-end, resume-short, resume-own, resume-over, resume-count, resume-items, resume-plain, spotted-kinds}
+
+pub zero-left : (m : ℕ) → m ≡ 0 → m ≤ 0
+zero-left m e = omega arith
+
+pub some-left : (m : ℕ) → (m ≡ 0 → ⊥) → 0 < m
+some-left m h = omega arith
 
 -- ---- Places.
 
@@ -99,6 +105,13 @@ module _ {all : Bool} {v : NestingLevel} {an a bn b : List ℕ} {at n bt m : ℕ
       second-within = first-within b bt m (l .second) q;
       second-room = l .second .room;
     }
+
+    -- what is relied on at the two nodes
+    pub left-here : (NodeAt a at × NodeAt b bt) × (KindAndName a (length an) at × KindAndName b (length bn) bt)
+    left-here = (
+      (first-node a at n (l .first) p, first-node b bt m (l .second) q),
+      (walk-here a (length an) at n (l .first-walk) p, walk-here b (length bn) bt m (l .second-walk) q),
+    )
 
     this : NodeOf at n at
     this = record { number = 0; is = omega arith; few = p }

@@ -12,7 +12,7 @@ returns-2 c =
     let c2 = c1 .before in
     let a = c2 .before .before .args in
     λ all. bytes-measured (codesReason (a .k) (a .j)) (codes-differ all _ _ (c2 .before .equivalent-kinds .ensures) (c2 .if1 .left))
-        (codes-length _ _ (c1 .number-len .ensures .0) (c .number-len2 .ensures .0))
+    (codes-length _ _ (c1 .number-len .ensures .0) (c .number-len2 .ensures .0))
 
 pub codes-len-spec : {M : Type 1} → statement M
 codes-len-spec =

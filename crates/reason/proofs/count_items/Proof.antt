@@ -1,5 +1,5 @@
 use Prim.Native.Nat.{_+_, _≤_}
-use mathlib.Core.Path.{_≡_, refl}
+use mathlib.Core.Path.{_≡_}
 use mathlib.Core.List.{[]}
 use native.Mathlib.Omega.{arith}
 use Rattle.kinds.specs.Sheet.{trees}
@@ -11,7 +11,8 @@ use Rattle.reason.proofs.count_items.Statement.{statement}
 use Rattle.reason.proofs.count_items.Tie as tie
 
 abbrev Inv-loop : tie.InvT-loop
-Inv-loop nodes from n at₀ left₀ count₀ at left count = TreesAt nodes at left × (count + items (trees [] nodes left at) ≡ items (trees [] nodes n from)) × (count + left ≤ n)
+Inv-loop nodes from n at₀ left₀ count₀ at left count = TreesAt nodes at left × (count + items (trees [] nodes left at) ≡ items (trees [] nodes n from)) ×
+    (count + left ≤ n)
 
 abbrev μ-loop : tie.MeasureT-loop
 μ-loop nodes from n at₀ left₀ count₀ at left count = left

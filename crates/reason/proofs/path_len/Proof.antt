@@ -61,11 +61,11 @@ loop-again c =
     let b = l .inv .3 in
     let r = c .before .static-int-str-len .ensures in
     let d = item-digits w p in
-    let f = w .further in
-    (
+    let f = w .further in (
       w .whole,
       w .holds,
-      ⊎-elim (λ j. rest-later _ _ _ _ _ w (l .len) _ _ r (l .inv .2) (j .0 .taken) (j .1)) (λ j. rest-first _ _ _ _ _ w (l .len) _ _ r (l .inv .2) (j .0 .left) (j .1)) (c2 .if1 .came),
+      ⊎-elim (λ j. rest-later _ _ _ _ _ w (l .len) _ _ r (l .inv .2) (j .0 .taken) (j .1))
+          (λ j. rest-first _ _ _ _ _ w (l .len) _ _ r (l .inv .2) (j .0 .left) (j .1)) (c2 .if1 .came),
       ⊎-elim (λ j. let e = j .1 in omega arith) (λ j. let e = j .1 in omega arith) (c2 .if1 .came),
     )
 

@@ -1,8 +1,5 @@
 use borrow.Author.Needs.{needs}
-use mathlib.Core.Path.{ap, sym}
-use mathlib.Core.Bool.{true, false}
 use Rattle.lines.proofs.PutLaws.{put-same}
-use Rattle.reason.specs.Spot.{itemText}
 use Rattle.reason.proofs.PathLaws.{item-first, item-later}
 use Rattle.reason.proofs.put_item.Statement.{statement}
 use Rattle.reason.proofs.put_item.Tie as tie

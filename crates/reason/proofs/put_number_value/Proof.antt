@@ -1,4 +1,3 @@
-use mathlib.Core.List.{_∷_}
 use borrow.Author.Needs.{needs}
 use Rattle.lines.proofs.PutLaws.{put-same, put-append}
 use Rattle.reason.proofs.ValueLaws.{number-value}

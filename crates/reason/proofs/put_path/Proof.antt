@@ -1,12 +1,11 @@
 use Prim.Native.Nat.{_-_}
-use mathlib.Core.Path.{_≡_, refl, sym, subst, _∙_}
+use mathlib.Core.Path.{_≡_, refl, _∙_}
 use native.Mathlib.Omega.{arith}
 use borrow.Author.Needs.{needs}
 use lib.ListN.{length}
 use Rattle.kinds.specs.Sheet.{countAt}
 use Rattle.kinds.specs.Walk.{NodeAt}
 use Rattle.lines.proofs.PutLaws.{ToPut, to-put, then-put, all-put, put-same}
-use Rattle.reason.specs.Reason.{pathText}
 use Rattle.reason.specs.Spot.{NodeOf, pathFrom}
 use Rattle.reason.proofs.PathLaws.{restText, rest-start, rest-none, rest-step, node-below, node-last}
 use Rattle.reason.proofs.put_path.Statement.{statement}

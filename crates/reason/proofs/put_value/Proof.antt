@@ -32,7 +32,8 @@ returns-2 c =
     let c2 = c .before .before in
     let c3 = c2 .before in
     let c5 = c3 .before .before in
-    put-same (ap (λ (n : ℕ). valueText (decimal n)) (c3 .number-at .ensures) ∙ ap valueText (sym (value-number _ _ _ _ (c5 .match .keys2)))) (c2 .put-number-value .ensures)
+    put-same (ap (λ (n : ℕ). valueText (decimal n)) (c3 .number-at .ensures) ∙ ap valueText (sym (value-number _ _ _ _ (c5 .match .keys2))))
+    (c2 .put-number-value .ensures)
 
 pub put-value-spec : {M : Type 1} → statement M
 put-value-spec =

@@ -5,8 +5,11 @@ use Rattle.reason.proofs.write_codes.Statement.{statement}
 use Rattle.reason.proofs.write_codes.Tie as tie
 
 returns : tie.Need-returns
-returns c =
-    (λ all. yes-fitted (codes-same all _ _ (c .before .equivalent-kinds .ensures) (c .if1 .taken)) _, λ all. yes-placed (codes-same all _ _ (c .before .equivalent-kinds .ensures) (c .if1 .taken)) _)
+returns c = (
+  λ all. yes-fitted (codes-same all _ _ (c .before .equivalent-kinds .ensures) (c .if1 .taken)) _,
+  λ all. yes-placed
+      (codes-same all _ _ (c .before .equivalent-kinds .ensures) (c .if1 .taken)) _,
+)
 
 returns-2 : tie.Need-returns-2
 returns-2 c =
@@ -14,8 +17,11 @@ returns-2 c =
     let c3 = c1 .before .before in
     let a = c3 .before .before .before .args in
     let r = codesReason (a .k) (a .j) in
-    let l = codes-length _ _ (c1 .before .number-len .ensures .0) (c1 .number-len2 .ensures .0) in
-    (λ all. short-fitted r (codes-differ all _ _ (c3 .before .equivalent-kinds .ensures) (c3 .if1 .left)) l (a .out .now) (c .if2 .taken), λ all. short-placed r (codes-differ all _ _ (c3 .before .equivalent-kinds .ensures) (c3 .if1 .left)) l (a .out .now) (c .if2 .taken))
+    let l = codes-length _ _ (c1 .before .number-len .ensures .0) (c1 .number-len2 .ensures .0) in (
+      λ all. short-fitted r (codes-differ all _ _ (c3 .before .equivalent-kinds .ensures) (c3 .if1 .left)) l (a .out .now) (c .if2 .taken),
+      λ all. short-placed
+          r (codes-differ all _ _ (c3 .before .equivalent-kinds .ensures) (c3 .if1 .left)) l (a .out .now) (c .if2 .taken),
+    )
 
 returns-3 : tie.Need-returns-3
 returns-3 c =
@@ -29,8 +35,12 @@ returns-3 c =
     let a = c16 .before .before .before .args in
     let r = codesReason (a .k) (a .j) in
     let l = codes-length _ _ (c15 .number-len .ensures .0) (c14 .number-len2 .ensures .0) in
-    let p = put-same (codes-text _ _) (put-append _ _ (c10 .put-bytes .ensures) (put-append _ _ (c6 .put-number-value .ensures) (c2 .put-number-value2 .ensures))) in
-    (λ all. bytes-fitted r (codes-differ all _ _ (c16 .before .equivalent-kinds .ensures) (c16 .if1 .left)) l (a .out .now) (c13 .if2 .left), λ all. bytes-placed r (codes-differ all _ _ (c16 .before .equivalent-kinds .ensures) (c16 .if1 .left)) l (a .out .now) (c13 .if2 .left) p)
+    let p = put-same (codes-text _ _) (put-append _ _ (c10 .put-bytes .ensures)
+    (put-append _ _ (c6 .put-number-value .ensures) (c2 .put-number-value2 .ensures))) in (
+      λ all. bytes-fitted r (codes-differ all _ _ (c16 .before .equivalent-kinds .ensures) (c16 .if1 .left)) l (a .out .now) (c13 .if2 .left),
+      λ all.
+          bytes-placed r (codes-differ all _ _ (c16 .before .equivalent-kinds .ensures) (c16 .if1 .left)) l (a .out .now) (c13 .if2 .left) p,
+    )
 
 pub write-codes-spec : {M : Type 1} → statement M
 write-codes-spec =
