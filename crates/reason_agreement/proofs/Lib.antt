@@ -1,0 +1,1 @@
+-- The theorems over the reason, and below them the laws that they rest on.

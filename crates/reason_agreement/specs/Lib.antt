@@ -1,0 +1,2 @@
+-- What the theorems over the reason are stated with, beside the definitions of kinds and reason.
+pub mod Along
