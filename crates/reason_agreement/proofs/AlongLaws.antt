@@ -17,16 +17,16 @@ use Rattle.reason_agreement.specs.Along.{itemAt, before, differenceAlong
 
 -- ---- The parts of the definition.
 
-abbrev reason : List ℕ → Difference → Reason
+abbrev pub reason : List ℕ → Difference → Reason
 reason p d = record { path = p; differs = d }
 
 -- One of two is found, or none.
-else-some : {A : Type 0} (x y : Option A) {z : A} → orElse x y ≡ some z → (x ≡ some z) ⊎ ((x ≡ none) × (y ≡ some z))
+pub else-some : {A : Type 0} (x y : Option A) {z : A} → orElse x y ≡ some z → (x ≡ some z) ⊎ ((x ≡ none) × (y ≡ some z))
 unfolding orElse
 else-some none y h = inr (refl, h)
 else-some (some x) y h = inl h
 
-else-none : {A : Type 0} (x y : Option A) → orElse x y ≡ none → (x ≡ none) × (y ≡ none)
+pub else-none : {A : Type 0} (x y : Option A) → orElse x y ≡ none → (x ≡ none) × (y ≡ none)
 unfolding orElse
 else-none none y h = (refl, h)
 else-none (some x) y h = let z : true ≡ false = cc in absurd (true≢false z)

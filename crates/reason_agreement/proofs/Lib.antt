@@ -1,5 +1,10 @@
 -- The theorems over the reason, and below them the laws that they rest on.
 pub mod Reasons
 pub mod AlongLaws
+pub mod CallLaws
 pub mod KindLaws
 pub mod YesLaws
+pub mod TextLaws
+pub mod SwapLaws
+pub mod ShownLaws
+pub mod RightLaws

@@ -1,16 +1,31 @@
--- What the reason for a no says of two trees: the statements over the definitions of reason (Reason.antt, Answer.antt) and of this crate. The work is in the files below this one.
-use Prim.Native.Nat.{ℕ}
+-- What the reason for a no says of two trees: the statements over the definitions of reason (Reason.antt, Answer.antt) and of this crate.
+-- Valid trees are those of kinds (Sound.antt), shown parts too (Tree.antt). The work is in the files below this one.
+use Prim.Native.Nat.{ℕ, _≤_, _<_}
 use mathlib.Core.Path.{_≡_}
-use mathlib.Core.Bool.{Bool, true}
+use mathlib.Core.Bool.{Bool, true, false}
 use mathlib.Core.List.{List}
 use mathlib.Core.Option.{some, none}
+use lib.ListN.{length}
 use Rattle.kinds.specs.Compare.{compareEncodings}
-use Rattle.kinds.specs.Tree.{Trees, isOne}
+use Rattle.kinds.specs.Sound.{valid}
+use Rattle.kinds.specs.Tree.{Trees, isOne, shown}
 use Rattle.kinds.specs.declared.NestingLevel.{NestingLevel}
-use Rattle.reason.specs.Reason.{Reason, firstDifference}
-use Rattle.reason_agreement.specs.Along.{before, differenceAlong, isNone}
+use Rattle.kinds.specs.declared.Refusal.the-variants as R
+use Rattle.helper.specs.Answer.{compareAnswer}
+use Rattle.reason.specs.Answer.{reasonLen, reasonAnswer, reasonOutput}
+use Rattle.reason.specs.Reason.{Reason, firstDifference, reasonText}
+use Rattle.reason.specs.declared.Reasoned.the-variants.{Refused, Bytes}
+use Rattle.reason_agreement.specs.Along.{follow, before, differenceAlong, Differ, swapped, isNone}
+use Rattle.reason_agreement.specs.Calls.{decidedBy, Written}
 use Rattle.reason_agreement.proofs.AlongLaws.{found-along, found-first, none-along}
+use Rattle.reason_agreement.proofs.CallLaws.{compared, whole, short, nothing}
+use Rattle.reason_agreement.proofs.RightLaws.{found-right}
+use Rattle.reason_agreement.proofs.ShownLaws.{found-shown}
+use Rattle.reason_agreement.proofs.SwapLaws.{found-turned}
+use Rattle.reason_agreement.proofs.TextLaws.{texts-differ}
 use Rattle.reason_agreement.proofs.YesLaws.{yes-exactly}
+
+-- ---- Two trees, by levels or with all fields.
 
 module _ (all : Bool) (v : NestingLevel) (t u : Trees) where
   -- There is no reason exactly for a yes.
@@ -28,3 +43,43 @@ module _ (all : Bool) (v : NestingLevel) (t u : Trees) where
   -- Where there is no reason, there is no difference along any path.
   pub yes-nowhere : firstDifference all v t u ≡ none → (q : List ℕ) → differenceAlong all v q t u ≡ none
   yes-nowhere h q = none-along all v q t u h
+
+  -- The values are those of the two nodes to which the path leads in each tree by itself, and they differ.
+  pub reason-right : valid t ≡ true → valid u ≡ true → {r : Reason} → firstDifference all v t u ≡ some r → Differ (r .differs) (follow (r .path) t) (follow (r .path) u)
+  reason-right a b {r} = found-right all v (r .path) (r .differs) t u a b
+
+  -- With the sides exchanged the reason has its two values exchanged, and nothing else.
+  pub swapping : valid t ≡ true → valid u ≡ true → firstDifference all v u t ≡ swapped (firstDifference all v t u)
+  swapping = found-turned all v t u
+
+-- By levels the reason is that of the shown parts.
+pub reason-shown : (v : NestingLevel) (t u : Trees) → valid t ≡ true → valid u ≡ true → firstDifference false v (shown v t) (shown v u) ≡ firstDifference false v t u
+reason-shown = found-shown
+
+-- ---- Its bytes.
+
+-- Two different reasons never make the same bytes.
+pub reasons-differ : (r s : Reason) → reasonText r ≡ reasonText s → r ≡ s
+reasons-differ = texts-differ
+
+-- ---- The calls, for all lists.
+
+module _ (all : Bool) (aw an bw bn : List ℕ) where
+  -- Comparing refuses as the reason's length does, and answers yes exactly where there is no reason.
+  pub compare-and-reason : compareAnswer all aw an bw bn ≡ decidedBy (reasonLen all aw an bw bn)
+  compare-and-reason = compared all aw an bw bn
+
+  module _ (out : List ℕ) where
+    -- With room for it, the reason is written, and the answer is its length.
+    pub written : (n : ℕ) → reasonLen all aw an bw bn ≡ Bytes n → n ≤ length out → Written all aw an bw bn out n
+    written = whole all aw an bw bn out
+
+    -- With less room it is refusal 5, and nothing is written.
+    pub refused-short : (n : ℕ) → reasonLen all aw an bw bn ≡ Bytes n → length out < n
+        → (reasonAnswer all aw an bw bn (length out) ≡ Refused R.OutputTooShort) × (reasonOutput all aw an bw bn out ≡ out)
+    refused-short = short all aw an bw bn out
+
+    -- Without a reason any room serves: the answer is the length's, and nothing is written.
+    pub not-written : ((n : ℕ) → reasonLen all aw an bw bn ≡ Bytes n → ⊥)
+        → (reasonAnswer all aw an bw bn (length out) ≡ reasonLen all aw an bw bn) × (reasonOutput all aw an bw bn out ≡ out)
+    not-written = nothing all aw an bw bn out

@@ -1,2 +1,3 @@
 -- What the theorems over the reason are stated with, beside the definitions of kinds and reason.
 pub mod Along
+pub mod Calls
