@@ -1,7 +1,10 @@
 -- The theorems over the reason, and below them the laws that they rest on.
 pub mod Reasons
+pub mod ReasonBounds
 pub mod AlongLaws
 pub mod CallLaws
+pub mod BoundLaws
+pub mod FarthestLaws
 pub mod KindLaws
 pub mod YesLaws
 pub mod TextLaws

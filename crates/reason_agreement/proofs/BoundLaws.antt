@@ -1,0 +1,258 @@
+-- How long a reason can be, by the nodes and name bytes of the two trees.
+use Prim.Native.Nat.{ℕ, zero, suc, _+_, _*_, _/_, _≤_, _<_}
+use native.Mathlib.Omega.{arith}
+use mathlib.Core.Path.{_≡_, refl, sym, ap, _∙_}
+use mathlib.Core.Bool.{Bool, true, false, true≢false}
+use mathlib.Core.List.{List, [], _∷_, _++_}
+use mathlib.Core.Option.{some}
+use lib.Dec.{leb, ltb}
+use lib.ListN as N
+use lib.ListN.{length-append}
+use borrow.Author.Tests.{ltb-true, ltb-false, leb-true}
+use Rattle.kinds.specs.Byte.{byte, bytes}
+use Rattle.kinds.specs.Compare.{bits}
+use Rattle.kinds.specs.Parse.{maxU64, maxU8}
+use Rattle.kinds.specs.Print.{decimal}
+use Rattle.kinds.specs.Sheet.{Holds, namesOf, maxNodes, maxNames}
+use Rattle.kinds.specs.Sound.{validLabel, valid}
+use Rattle.kinds.specs.Tree as T
+use Rattle.kinds.specs.Tree.{Label, Trees, end, node, primitive, bitField, typedBitField, pointer, atomic, array, struct, union, isEnd}
+use Rattle.kinds.specs.declared.NestingLevel.{NestingLevel}
+use Rattle.kinds.specs.declared.NestingLevel.the-variants.{Top}
+use Rattle.kinds.proofs.TableLaws.{both}
+use Rattle.static_str.proofs.NumberLaws.{decimal-one, decimal-more, decimal-fits}
+use Rattle.reason.specs.Answer.{reasonLen}
+use Rattle.reason.specs.Reason.{Difference, kind, size, offset, length, name, count, Reason, offsetOf, lengthOf, items, firstDifference, dotted, pathText, valueText, valuesText, differenceText, reasonText}
+use Rattle.reason.specs.declared.Reasoned.the-variants.{Bytes}
+use Rattle.bounds.proofs.HeldLaws.{held-holds}
+use Rattle.reason_agreement.specs.Along.{itemAt, follow, NodesDiffer, Differ}
+use Rattle.reason_agreement.specs.Limits.{maxReason}
+use Rattle.reason_agreement.proofs.CallLaws.{length-says}
+use Rattle.reason_agreement.proofs.KindLaws.{valid-parts}
+use Rattle.reason_agreement.proofs.RightLaws.{valid-item, found-right}
+
+-- ---- Numbers.
+
+-- A number has at most as many digits as it counts, or one.
+digits-few : (f n : ℕ) → n < f → N.length (decimal n) ≤ n + 1
+digits-few zero n h = absurd (omega arith)
+digits-few (suc f) n h = go (ltb n 10) refl (λ k. digits-few f (n / 10) k)
+  where
+    go : (t : Bool) → ltb n 10 ≡ t → (n / 10 < f → N.length (decimal (n / 10)) ≤ n / 10 + 1) → N.length (decimal n) ≤ n + 1
+    go true e ih = omega (arith, decimal-one n (ltb-true n 10 e))
+    go false e ih = let l = ltb-false n 10 e in omega (arith, decimal-more n l, ih (omega arith))
+
+-- One digit more for ten times as many.
+one-more : (k c n : ℕ) → ((m : ℕ) → m < k → N.length (decimal m) ≤ c) → 1 ≤ c → n < k * 10 → N.length (decimal n) ≤ c + 1
+one-more k c n h p l = go (ltb n 10) refl
+  where
+    go : (t : Bool) → ltb n 10 ≡ t → N.length (decimal n) ≤ c + 1
+    go true e = omega (arith, decimal-one n (ltb-true n 10 e))
+    go false e = omega (arith, decimal-more n (ltb-false n 10 e), h (n / 10) (omega arith))
+
+one-digit : (n : ℕ) → n < 10 → N.length (decimal n) ≤ 1
+one-digit n h = omega (arith, decimal-one n h)
+
+two-digits : (n : ℕ) → n < 100 → N.length (decimal n) ≤ 2
+two-digits n h = one-more 10 1 n one-digit (omega arith) (omega arith)
+
+three-digits : (n : ℕ) → n < 1000 → N.length (decimal n) ≤ 3
+three-digits n h = one-more 100 2 n two-digits (omega arith) (omega arith)
+
+four-digits : (n : ℕ) → n < 10000 → N.length (decimal n) ≤ 4
+four-digits n h = one-more 1000 3 n three-digits (omega arith) (omega arith)
+
+number-digits : (n : ℕ) → n ≤ maxU64 → N.length (decimal n) ≤ 20
+number-digits n h = decimal-fits n (low h)
+  where
+    low : n ≤ 18446744073709551615 → n < 18446744073709551616
+    low p = omega arith
+
+-- ---- Values.
+
+value-length : (s : List ℕ) → N.length s ≤ maxNames → N.length (valueText s) ≤ N.length s + 6
+unfolding valueText
+value-length s h = omega (arith, length-append (decimal (N.length s)) (byte ":" ∷ s), four-digits (N.length s) (omega arith))
+
+-- The most bytes of what follows the colon.
+abbrev mostValues : ℕ
+mostValues = 4016
+
+values-length : (w s t : List ℕ) → N.length (valuesText w s t) ≡ N.length w + N.length (valueText s) + N.length (valueText t)
+unfolding valuesText
+values-length w s t = omega (arith, length-append w (valueText s ++ valueText t), length-append (valueText s) (valueText t))
+
+numbers-length : (w : List ℕ) (a b : ℕ) → N.length w ≤ 6 → a ≤ maxU64 → b ≤ maxU64 → N.length (valuesText w (decimal a) (decimal b)) ≤ mostValues
+numbers-length w a b h p q =
+    let x = number-digits a p in
+    let y = number-digits b q in
+    let s = value-length (decimal a) (omega arith) in
+    let t = value-length (decimal b) (omega arith) in
+    omega (arith, values-length w (decimal a) (decimal b))
+
+-- The numbers of a valid node fit into 64 bits.
+record Fits (l : Label) : Type 0 where
+  kinds : T.kind l ≤ maxU64
+  sizes : bits l ≤ maxU64
+  offsets : offsetOf l ≤ maxU64
+  lengths : lengthOf l ≤ maxU64
+
+fits : (l : Label) → validLabel l ≡ true → Fits l
+unfolding validLabel T.kind bits offsetOf lengthOf
+fits (primitive p) h = let k = ltb-true p 24 h in record { kinds = omega arith; sizes = omega arith; offsets = omega arith; lengths = omega arith }
+fits (bitField n) h = let k = leb-true n maxU8 h in record { kinds = omega arith; sizes = omega arith; offsets = omega arith; lengths = omega arith }
+fits (typedBitField o n) h =
+    let a = both (leb o maxU64) (leb n maxU8) h in
+    let j = leb-true o maxU64 (a .0) in
+    let k = leb-true n maxU8 (a .1) in
+    record { kinds = omega arith; sizes = omega arith; offsets = j; lengths = omega arith }
+fits pointer h = record { kinds = omega arith; sizes = omega arith; offsets = omega arith; lengths = omega arith }
+fits atomic h = record { kinds = omega arith; sizes = omega arith; offsets = omega arith; lengths = omega arith }
+fits (array n) h = record { kinds = omega arith; sizes = omega arith; offsets = omega arith; lengths = leb-true n maxU64 h }
+fits (struct s) h = record { kinds = omega arith; sizes = omega arith; offsets = omega arith; lengths = omega arith }
+fits (union s) h = record { kinds = omega arith; sizes = omega arith; offsets = omega arith; lengths = omega arith }
+fits T.none h = record { kinds = omega arith; sizes = omega arith; offsets = omega arith; lengths = omega arith }
+
+items-count : (t : Trees) → items t ≤ T.count t
+unfolding items T.count
+items-count end = omega arith
+items-count (node l cs ts) = omega (arith, items-count ts)
+
+-- A node of a sheet's tree.
+record Node (l : Label) (cs : Trees) : Type 0 where
+  label : validLabel l ≡ true
+  few-nodes : T.count cs ≤ maxNodes
+  few-names : N.length (T.name l) ≤ maxNames
+
+difference-length : (d : Difference) (l : Label) (cs : Trees) (m : Label) (ds : Trees) → Node l cs → Node m ds → NodesDiffer d l cs m ds → N.length (differenceText d) ≤ mostValues
+unfolding differenceText
+difference-length (kind a b) l cs m ds p q h =
+    let x = fits l (p .label) .kinds in let y = fits m (q .label) .kinds in let e = h .0 in let f = h .1 in
+    numbers-length (bytes "kind") a b (omega arith) (omega arith) (omega arith)
+difference-length (size a b) l cs m ds p q h =
+    let x = fits l (p .label) .sizes in let y = fits m (q .label) .sizes in let e = h .2 in let f = h .3 in
+    numbers-length (bytes "size") a b (omega arith) (omega arith) (omega arith)
+difference-length (offset a b) l cs m ds p q h =
+    let x = fits l (p .label) .offsets in let y = fits m (q .label) .offsets in let e = h .3 in let f = h .4 in
+    numbers-length (bytes "offset") a b (omega arith) (omega arith) (omega arith)
+difference-length (length a b) l cs m ds p q h =
+    let x = fits l (p .label) .lengths in let y = fits m (q .label) .lengths in let e = h .2 in let f = h .3 in
+    numbers-length (bytes "length") a b (omega arith) (omega arith) (omega arith)
+difference-length (name s t) l cs m ds p q h =
+    let e = ap N.length (h .3) in
+    let f = ap N.length (h .4) in
+    let x = p .few-names in
+    let y = q .few-names in
+    let i = value-length s (omega arith) in
+    let j = value-length t (omega arith) in
+    omega (arith, values-length (bytes "name") s t)
+difference-length (count a b) l cs m ds p q h =
+    let e = h .6 in
+    let f = h .7 in
+    let x = p .few-nodes in
+    let y = q .few-nodes in
+    let i = items-count cs in
+    let j = items-count ds in
+    numbers-length (bytes "count") a b (omega arith) (omega arith) (omega arith)
+
+-- ---- Paths.
+
+follow-end : (p : List ℕ) → follow p end ≡ end
+unfolding follow
+follow-end [] = refl
+follow-end (i ∷ p) = refl
+
+-- An item with the number `i` has as many nodes before it at least.
+item-count : (i : ℕ) (t : Trees) → isEnd (itemAt i t) ≡ false → T.count (itemAt i t) + i ≤ T.count t
+unfolding itemAt T.count isEnd
+item-count i end h = absurd (true≢false h)
+item-count zero (node l cs ts) h = omega arith
+item-count (suc i) (node l cs ts) h = omega (arith, item-count i ts h)
+
+item-names : (i : ℕ) (t : Trees) → N.length (namesOf (itemAt i t)) ≤ N.length (namesOf t)
+unfolding itemAt namesOf
+item-names i end = omega arith
+item-names zero (node l cs ts) = omega arith
+item-names (suc i) (node l cs ts) = omega (arith, item-names i ts, length-append (T.name l) (namesOf cs ++ namesOf ts), length-append (namesOf cs) (namesOf ts))
+
+dotted-length : (i : ℕ) (p : List ℕ) → N.length (dotted (i ∷ p)) ≡ 1 + N.length (decimal i) + N.length (dotted p)
+unfolding dotted
+dotted-length i p = omega (arith, length-append (decimal i) (dotted p))
+
+-- Two bytes for each node that the path passes, at most.
+follow-count : (p : List ℕ) (t : Trees) → isEnd (follow p t) ≡ false → N.length (dotted p) + 2 * T.count (follow p t) ≤ 2 * T.count t
+unfolding follow T.count isEnd dotted
+follow-count [] t h = omega arith
+follow-count (i ∷ p) end h = absurd (true≢false h)
+follow-count (i ∷ p) (node l cs ts) h = go (isEnd (itemAt i cs)) refl (follow-count p (itemAt i cs) h)
+  where
+    ends : (t : Trees) → isEnd t ≡ true → isEnd (follow p t) ≡ true
+    ends end e = ap isEnd (follow-end p)
+    ends (node m ds us) e = absurd (true≢false (sym e))
+
+    go : (y : Bool) → isEnd (itemAt i cs) ≡ y → N.length (dotted p) + 2 * T.count (follow p (itemAt i cs)) ≤ 2 * T.count (itemAt i cs)
+        → N.length (dotted (i ∷ p)) + 2 * T.count (follow p (itemAt i cs)) ≤ 2 * suc (T.count cs + T.count ts)
+    go true e k = absurd (true≢false (sym (ends (itemAt i cs) e) ∙ h))
+    go false e k = omega (arith, dotted-length i p, digits-few (suc i) i (omega arith), item-count i cs e)
+
+follow-names : (p : List ℕ) (t : Trees) → N.length (namesOf (follow p t)) ≤ N.length (namesOf t)
+unfolding follow namesOf
+follow-names [] t = omega arith
+follow-names (i ∷ p) end = omega arith
+follow-names (i ∷ p) (node l cs ts) =
+    omega (arith, follow-names p (itemAt i cs), item-names i cs, length-append (T.name l) (namesOf cs ++ namesOf ts), length-append (namesOf cs) (namesOf ts))
+
+follow-valid : (p : List ℕ) (t : Trees) → valid t ≡ true → valid (follow p t) ≡ true
+unfolding follow
+follow-valid [] t h = h
+follow-valid (i ∷ p) end h = h
+follow-valid (i ∷ p) (node l cs ts) h = follow-valid p (itemAt i cs) (valid-item i cs (valid-parts l cs ts h .children))
+
+path-length : (p : List ℕ) (k : ℕ) → N.length (dotted p) ≤ suc k → N.length (pathText p) ≤ k
+unfolding dotted pathText
+path-length [] k h = omega arith
+path-length (i ∷ p) k h = omega arith
+
+-- ---- Reasons.
+
+-- What a node to which a path leads has of its tree.
+record Led (p : List ℕ) (l : Label) (cs : Trees) : Type 0 where
+  here : Node l cs
+  short : N.length (pathText p) ≤ 3999
+
+led : (w s : List ℕ) (t : Trees) → Holds w s t → (p : List ℕ) (l : Label) (cs ts : Trees) → follow p t ≡ node l cs ts → Led p l cs
+unfolding T.count namesOf isEnd
+led w s t h p l cs ts e =
+    let c = follow-count p t (ap isEnd e) in
+    let d = ap T.count e in
+    let n = follow-names p t in
+    let o = ap (λ x. N.length (namesOf x)) e in
+    let a = length-append (T.name l) (namesOf cs ++ namesOf ts) in
+    let few = h .few-nodes in
+    let names = h .few-names in
+    record {
+      here = record { label = valid-parts l cs ts (rw e at (follow-valid p t (h .valid-tree))) .label; few-nodes = omega arith; few-names = omega arith };
+      short = path-length p 3999 (omega arith);
+    }
+
+pub tree-bound : (all : Bool) (v : NestingLevel) (aw an bw bn : List ℕ) (t u : Trees) → Holds aw an t → Holds bw bn u → (r : Reason) → firstDifference all v t u ≡ some r
+    → N.length (reasonText r) ≤ maxReason
+unfolding reasonText
+tree-bound all v aw an bw bn t u a b r h =
+    go (follow (r .path) t) refl (follow (r .path) u) refl (found-right all v (r .path) (r .differs) t u (a .valid-tree) (b .valid-tree) h)
+  where
+    go : (x : Trees) → follow (r .path) t ≡ x → (y : Trees) → follow (r .path) u ≡ y → Differ (r .differs) x y
+        → N.length (pathText (r .path) ++ (byte ":" ∷ differenceText (r .differs))) ≤ maxReason
+    go end e y f d = absurd d
+    go (node l cs ts) e end f d = absurd d
+    go (node l cs ts) e (node m ds us) f d =
+        let p = led aw an t a (r .path) l cs ts e in
+        let q = led bw bn u b (r .path) m ds us f in
+        let s = p .short in
+        omega (arith, length-append (pathText (r .path)) (byte ":" ∷ differenceText (r .differs)), difference-length (r .differs) l cs m ds (p .here) (q .here) d)
+
+pub most : (all : Bool) (aw an bw bn : List ℕ) (n : ℕ) → reasonLen all aw an bw bn ≡ Bytes n → n ≤ maxReason
+most all aw an bw bn n h =
+    let m = length-says all aw an bw bn h in
+    let l = m .long in
+    omega (arith, tree-bound all Top aw an bw bn (m .first) (m .second) (held-holds aw an (m .first) (m .first-held)) (held-holds bw bn (m .second) (m .second-held)) (m .reason) (m .found))

@@ -1,0 +1,19 @@
+-- The bound that the header gives for a reason: the statements over the definitions that the calls are proved to equal.
+use Prim.Native.Nat.{ℕ, _≤_}
+use mathlib.Core.Path.{_≡_}
+use mathlib.Core.Bool.{Bool}
+use mathlib.Core.List.{List}
+use Rattle.kinds.specs.Sheet.{namesOf, sheetOf}
+use Rattle.reason.specs.Answer.{reasonLen}
+use Rattle.reason.specs.declared.Reasoned.the-variants.{Bytes}
+use Rattle.reason_agreement.specs.Limits.{maxReason, farthestR, farthestS}
+use Rattle.reason_agreement.proofs.BoundLaws.{most}
+use Rattle.reason_agreement.proofs.FarthestLaws.{reaches}
+
+-- No reason has more than 8,016 bytes.
+pub reason-bounded : (all : Bool) (aw an bw bn : List ℕ) (n : ℕ) → reasonLen all aw an bw bn ≡ Bytes n → n ≤ maxReason
+reason-bounded = most
+
+-- And one of two sheets has as many, by levels and with all fields.
+pub reason-reached : (all : Bool) → reasonLen all (sheetOf farthestR) (namesOf farthestR) (sheetOf farthestS) (namesOf farthestS) ≡ Bytes maxReason
+reason-reached = reaches
