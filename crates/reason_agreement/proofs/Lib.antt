@@ -2,6 +2,7 @@
 pub mod Reasons
 pub mod ReasonBounds
 pub mod AlongLaws
+pub mod CasesHold
 pub mod CallLaws
 pub mod BoundLaws
 pub mod FarthestLaws

@@ -16,9 +16,11 @@ use Rattle.reason.specs.Answer.{reasonLen, reasonAnswer, reasonOutput}
 use Rattle.reason.specs.Reason.{Reason, firstDifference, reasonText}
 use Rattle.reason.specs.declared.Reasoned.the-variants.{Refused, Bytes}
 use Rattle.reason_agreement.specs.Along.{follow, before, differenceAlong, Differ, swapped, isNone}
+use Rattle.reason_agreement.specs.Cases.{AllHold, cases}
 use Rattle.reason_agreement.specs.Calls.{decidedBy, Written}
 use Rattle.reason_agreement.proofs.AlongLaws.{found-along, found-first, none-along}
 use Rattle.reason_agreement.proofs.CallLaws.{compared, whole, short, nothing}
+use Rattle.reason_agreement.proofs.CasesHold.{all-hold}
 use Rattle.reason_agreement.proofs.RightLaws.{found-right}
 use Rattle.reason_agreement.proofs.ShownLaws.{found-shown}
 use Rattle.reason_agreement.proofs.SwapLaws.{found-turned}
@@ -83,3 +85,8 @@ module _ (all : Bool) (aw an bw bn : List ℕ) where
     pub not-written : ((n : ℕ) → reasonLen all aw an bw bn ≡ Bytes n → ⊥)
         → (reasonAnswer all aw an bw bn (length out) ≡ reasonLen all aw an bw bn) × (reasonOutput all aw an bw bn out ≡ out)
     not-written = nothing all aw an bw bn out
+
+-- ---- Each case of the table holds.
+
+pub reason-cases : AllHold cases
+reason-cases = all-hold

@@ -2,3 +2,4 @@
 pub mod Along
 pub mod Calls
 pub mod Limits
+pub mod Cases
