@@ -1,18 +1,16 @@
 -- The calls, from the trees that the lists hold.
 use Prim.Native.Nat.{ℕ, _≤_, _<_}
 use native.Mathlib.Omega.{arith}
-use mathlib.Core.Path.{_≡_, refl, sym, ap, ap₂, _∙_}
-use mathlib.Core.Bool.{Bool, true, false, cond, true≢false}
-use mathlib.Core.List.{List, _++_}
+use mathlib.Core.Path.{_≡_, refl, ap, _∙_}
+use mathlib.Core.Bool.{Bool, true, false, true≢false}
+use mathlib.Core.List.{List}
 use mathlib.Core.Option.{Option, some, none}
-use lib.Dec.{leb}
-use lib.ListN.{length, drop}
+use lib.ListN.{length}
 use borrow.Author.Tests.{le-leb, lt-leb}
 use Rattle.kinds.specs.Compare.{compareEncodings}
 use Rattle.kinds.specs.Tree.{Trees}
 use Rattle.kinds.specs.declared.Compared.the-variants as C
 use Rattle.kinds.specs.declared.NestingLevel.the-variants.{Top}
-use Rattle.kinds.specs.declared.Refusal.{Refusal}
 use Rattle.kinds.specs.declared.Refusal.the-variants as R
 use Rattle.sheet.specs.Answer.{Held, refused, holding, held, HeldBoth, refusedBoth, holdingBoth, paired, heldBoth, ofHeldBoth, ofSheets}
 use Rattle.static_str.specs.Answer.{placed}
@@ -20,8 +18,7 @@ use Rattle.helper.specs.Answer.{compareAnswer}
 use Rattle.bounds.proofs.HeldLaws.{held-holds}
 use Rattle.reason.specs.Answer.{measured, fittedReason, placedReason, reasonLen, reasonAnswer, reasonOutput}
 use Rattle.reason.specs.Reason.{Reason, firstDifference, reasonText}
-use Rattle.reason.specs.declared.Reasoned.{Reasoned}
-use Rattle.reason.specs.declared.Reasoned.the-variants.{Refused, Yes, Bytes}
+use Rattle.reason.specs.declared.Reasoned.the-variants.{Refused, Bytes}
 use Rattle.reason_agreement.specs.Along.{isNone}
 use Rattle.reason_agreement.specs.Calls.{decidedBy, Written}
 use Rattle.reason_agreement.proofs.YesLaws.{yes-exactly}

@@ -1,14 +1,14 @@
 -- By levels the reason is that of the shown parts.
 use Prim.Native.Nat.{ℕ, suc}
 use mathlib.Core.Path.{_≡_, refl, sym, ap, ap₂, _∙_}
-use mathlib.Core.Bool.{Bool, true, false, cond, not, _&&_, true≢false}
+use mathlib.Core.Bool.{Bool, true, false, cond, true≢false}
 use mathlib.Core.Option.{Option, some, none}
 use Rattle.kinds.specs.Sound.{validLabel, valid}
 use Rattle.kinds.specs.Tree as T
 use Rattle.kinds.specs.Tree.{Label, Trees, end, node, primitive, bitField, typedBitField, pointer, atomic, array, struct, union, isEnd, isContainer, inside, shows, keep, shown}
 use Rattle.kinds.specs.declared.NestingLevel.{NestingLevel}
 use Rattle.reason.specs.Reason.{Difference, Reason, orElse, ownDifference, items, itemsCompared, countDifference, here, under, nodeDifference, itemsDifference, firstDifference}
-use Rattle.reason_agreement.proofs.KindLaws.{Alike, labels-alike, ValidParts, valid-parts}
+use Rattle.reason_agreement.proofs.KindLaws.{labels-alike, valid-parts}
 use Rattle.reason_agreement.proofs.RightLaws.{own-same}
 
 end-shown : (v : NestingLevel) (t : Trees) → isEnd (shown v t) ≡ isEnd t

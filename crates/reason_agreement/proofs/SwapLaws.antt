@@ -8,12 +8,12 @@ use lib.Dec.{eqb}
 use borrow.Author.Tests.{eqb-true, eqb-false, eq-eqb, ne-eqb}
 use Rattle.kinds.specs.Byte.{sameBytes}
 use Rattle.kinds.specs.Compare.{bits, levelFor}
-use Rattle.kinds.specs.Primitive.{equivalent}
 use Rattle.kinds.specs.Sound.{validLabel, valid}
 use Rattle.kinds.specs.Tree as T
 use Rattle.kinds.specs.Tree.{Label, Trees, end, node, isEnd, isContainer, inside, shows}
 use Rattle.kinds.specs.declared.NestingLevel.{NestingLevel}
-use Rattle.reason.specs.Reason.{Difference, kind, size, offset, length, name, count, Reason, orElse, unless, offsetOf, lengthOf, ownDifference, items, itemsCompared, countDifference, here, under, nodeDifference, itemsDifference, firstDifference}
+use Rattle.reason.specs.Reason.{Difference, kind, size, offset, length, name, count, Reason, orElse, unless, offsetOf, lengthOf, ownDifference, items, itemsCompared, countDifference}
+use Rattle.reason.specs.Reason.{here, under, nodeDifference, itemsDifference, firstDifference}
 use Rattle.reason_agreement.specs.Along.{turned, swapped}
 use Rattle.reason_agreement.proofs.KindLaws.{equivalent-turned, Alike, labels-alike, ValidParts, valid-parts}
 use Rattle.reason_agreement.proofs.RightLaws.{own-same}
