@@ -2,9 +2,10 @@
 use Prim.Native.Nat.{ℕ, zero, suc, _+_, _*_, _/_, _≤_, _<_}
 use native.Mathlib.Omega.{arith}
 use mathlib.Core.Path.{_≡_, refl, sym, ap, _∙_}
-use mathlib.Core.Bool.{Bool, true, false, true≢false}
+use mathlib.Core.Bool.{Bool, true, false, cond, true≢false}
 use mathlib.Core.List.{List, [], _∷_, _++_}
-use mathlib.Core.Option.{some}
+use mathlib.Core.Logic.{_⊎_, inl, inr}
+use mathlib.Core.Option.{Option, some, none}
 use lib.Dec.{leb, ltb}
 use lib.ListN as N
 use lib.ListN.{length-append}
@@ -13,21 +14,26 @@ use Rattle.kinds.specs.Byte.{byte, bytes}
 use Rattle.kinds.specs.Compare.{bits}
 use Rattle.kinds.specs.Parse.{maxU64, maxU8}
 use Rattle.kinds.specs.Print.{decimal}
+use Rattle.kinds.specs.Refusal.{number}
 use Rattle.kinds.specs.Sheet.{Holds, namesOf, maxNodes, maxNames}
 use Rattle.kinds.specs.Sound.{validLabel, valid}
 use Rattle.kinds.specs.Tree as T
 use Rattle.kinds.specs.Tree.{Label, Trees, end, node, primitive, bitField, typedBitField, pointer, atomic, array, struct, union, isEnd}
 use Rattle.kinds.specs.declared.NestingLevel.{NestingLevel}
 use Rattle.kinds.specs.declared.NestingLevel.the-variants.{Top}
+use Rattle.kinds.specs.declared.Refusal.{Refusal}
+use Rattle.kinds.specs.declared.Refusal.the-variants as R
 use Rattle.kinds.proofs.TableLaws.{both}
+use Rattle.sheet.specs.Answer.{Held, refused, holding, held, paired, heldBoth, ofHeldBoth, ofSheets}
 use Rattle.static_str.proofs.NumberLaws.{decimal-one, decimal-more, decimal-fits}
-use Rattle.reason.specs.Answer.{reasonLen}
+use Rattle.reason.specs.Answer.{measured, reasonLen, reasonAnswer}
 use Rattle.reason.specs.Reason.{Difference, kind, size, offset, length, name, count, Reason, offsetOf, lengthOf, items, firstDifference, dotted, pathText, valueText, valuesText, differenceText, reasonText}
-use Rattle.reason.specs.declared.Reasoned.the-variants.{Bytes}
-use Rattle.bounds.proofs.HeldLaws.{held-holds}
+use Rattle.reason.specs.declared.Reasoned.{Reasoned}
+use Rattle.reason.specs.declared.Reasoned.the-variants.{Refused, Yes, Bytes}
+use Rattle.bounds.proofs.HeldLaws.{held-refused, held-holds}
 use Rattle.reason_agreement.specs.Along.{itemAt, follow, NodesDiffer, Differ}
 use Rattle.reason_agreement.specs.Limits.{maxReason}
-use Rattle.reason_agreement.proofs.CallLaws.{length-says}
+use Rattle.reason_agreement.proofs.CallLaws.{length-says, whole, nothing}
 use Rattle.reason_agreement.proofs.KindLaws.{valid-parts}
 use Rattle.reason_agreement.proofs.RightLaws.{valid-item, found-right}
 
@@ -256,3 +262,39 @@ most all aw an bw bn n h =
     let m = length-says all aw an bw bn h in
     let l = m .long in
     omega (arith, tree-bound all Top aw an bw bn (m .first) (m .second) (held-holds aw an (m .first) (m .first-held)) (held-holds bw bn (m .second) (m .second-held)) (m .reason) (m .found))
+
+-- Any output of that length has room.
+pub enough : (all : Bool) (aw an bw bn out : List ℕ) → maxReason ≤ N.length out → reasonAnswer all aw an bw bn (N.length out) ≡ reasonLen all aw an bw bn
+enough all aw an bw bn out l = go (reasonLen all aw an bw bn) refl
+  where
+    go : (x : Reasoned) → reasonLen all aw an bw bn ≡ x → reasonAnswer all aw an bw bn (N.length out) ≡ reasonLen all aw an bw bn
+    go (Bytes n) e = whole all aw an bw bn out n e (omega (arith, most all aw an bw bn n e)) .answer ∙ sym e
+    go Yes e = nothing all aw an bw bn out (λ n h. let z : true ≡ false = cc in true≢false z) .0
+    go (Refused r) e = nothing all aw an bw bn out (λ n h. let z : true ≡ false = cc in true≢false z) .0
+
+-- The length itself is refused by 3 or 4 alone.
+other-refusal : {r : Refusal} → (r ≡ R.NotASheet) ⊎ (r ≡ R.BadName) → Refused r ≡ Refused R.OutputTooShort → ⊥
+other-refusal (inl e) h = let z : true ≡ false = cc in true≢false z
+other-refusal (inr e) h = let z : true ≡ false = cc in true≢false z
+
+length-never : (all : Bool) (aw an bw bn : List ℕ) → reasonLen all aw an bw bn ≡ Refused R.OutputTooShort → ⊥
+unfolding reasonLen ofSheets heldBoth measured
+length-never all aw an bw bn = go (held aw an) refl (held bw bn) refl
+  where
+    either : {r q : Refusal} → (r ≡ R.NotASheet) ⊎ (r ≡ R.BadName) → (q ≡ R.NotASheet) ⊎ (q ≡ R.BadName) → (b : Bool) → Refused (cond b r q) ≡ Refused R.OutputTooShort → ⊥
+    either x y true h = other-refusal x h
+    either x y false h = other-refusal y h
+
+    answer : (o : Option Reason) → measured o ≡ Refused R.OutputTooShort → ⊥
+    answer none h = let z : true ≡ false = cc in true≢false z
+    answer (some r) h = let z : true ≡ false = cc in true≢false z
+
+    go : (h : Held) → held aw an ≡ h → (k : Held) → held bw bn ≡ k
+        → ofHeldBoth Refused (λ t u. measured (firstDifference all Top t u)) (paired h k) ≡ Refused R.OutputTooShort → ⊥
+    go (refused r) e (refused q) f h = either (held-refused aw an e) (held-refused bw bn f) (leb (number r) (number q)) h
+    go (refused r) e (holding u) f h = other-refusal (held-refused aw an e) h
+    go (holding t) e (refused q) f h = other-refusal (held-refused bw bn f) h
+    go (holding t) e (holding u) f h = answer (firstDifference all Top t u) h
+
+pub never-short : (all : Bool) (aw an bw bn out : List ℕ) → maxReason ≤ N.length out → reasonAnswer all aw an bw bn (N.length out) ≡ Refused R.OutputTooShort → ⊥
+never-short all aw an bw bn out l h = length-never all aw an bw bn (sym (enough all aw an bw bn out l) ∙ h)
