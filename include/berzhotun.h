@@ -69,6 +69,10 @@ extern "C" {
  * name of 2,000. */
 #define BERZHOTUN_MAX_PRINT 50003
 
+/* The most bytes of the reason for a no: 2,000 pointers around a struct with a name of 2,000, in
+ * which two trees differ. */
+#define BERZHOTUN_MAX_REASON 8016
+
 /* The words and name bytes that reading a text of `text_len` bytes needs, and fills. */
 #define BERZHOTUN_WORDS_FOR(text_len) (4 + 4 * ((size_t)(text_len) + 1))
 #define BERZHOTUN_NAMES_FOR(text_len) ((size_t)(text_len))
@@ -123,7 +127,7 @@ extern "C" {
 #define BERZHOTUN_BAD_SHEET 3u
 /* A struct or union, also one whose fields or itself no print shows, has a name that is none. */
 #define BERZHOTUN_BAD_NAME 4u
-/* The output is shorter than the printed length. */
+/* The output is shorter than the printed length, or than the reason for a no. */
 #define BERZHOTUN_OUTPUT_TOO_SHORT 5u
 /* The size is above 2^64 - 1. */
 #define BERZHOTUN_SIZE_TOO_LARGE 6u
@@ -272,6 +276,74 @@ uint64_t berzhotun_equivalent_to_box(const uint64_t *a_words, size_t a_words_len
 uint64_t berzhotun_eq(const uint64_t *a_words, size_t a_words_len, const uint8_t *a_names,
                       size_t a_names_len, const uint64_t *b_words, size_t b_words_len,
                       const uint8_t *b_names, size_t b_names_len, uint64_t answer[1]);
+
+/*
+ * Measures the reason for a no: the first difference of two trees that are compared by levels, which
+ * is what a desk must change. A node is compared before its items, and these in order, from 0:
+ *
+ *     every node           its kind; Object, Block and Class do not differ, and a bitfield with a
+ *                          type differs from one without
+ *     bitfields            the size in bits; with a type, then the offset, then the type, item 0
+ *     pointers, atomics    what they hold, item 0
+ *     arrays               the length, then what they hold, item 0
+ *     structs, unions      the name; then, if they are not at bottom and both have fields, the count
+ *                          of fields, then the fields
+ *
+ * The reason is the item numbers from the root down, with dots between (none for the root itself), a
+ * colon, one of the words kind, size, offset, length, name and count, then the value of a and that of
+ * b. Each value is a space, its count of bytes, a colon and its bytes; a kind is its number, as in a
+ * sheet, and all numbers are decimal. So the reason is
+ *
+ *     :kind 1:2 2:11       for `i` against `d`
+ *     1.0:kind 2:17 1:2    for `{R=i^v}` against `{R=i^i}`
+ *     :name 1:R 1:S        for `{R=i}` against `{S=i}`
+ *     :length 1:3 2:12     for `[3c]` against `[12c]`
+ *     :count 1:2 1:1       for `{R=ii}` against `{R=i}`
+ *
+ * Two different reasons never have the same bytes. A reason has at most BERZHOTUN_MAX_REASON.
+ *
+ * Reads   both sheets, a and b, as far as their first four words say.
+ * Writes  answer[0 .. 2].
+ * 0       answer is 1 and 0 for yes, which has no reason, and 0 and the reason's count of bytes for
+ *         no. It is yes exactly when berzhotun_equivalent_to says yes.
+ * Refuses 3 if a is no sheet, then 3 if b is none, then 4 if a name of a, or one of b, is bad.
+ *         answer is then 0 0.
+ */
+uint64_t berzhotun_reason_len(const uint64_t *a_words, size_t a_words_len, const uint8_t *a_names,
+                              size_t a_names_len, const uint64_t *b_words, size_t b_words_len,
+                              const uint8_t *b_names, size_t b_names_len, uint64_t answer[2]);
+
+/*
+ * Writes the reason that berzhotun_reason_len measures. No zero byte is put behind it.
+ *
+ * Reads   both sheets, a and b, as far as their first four words say.
+ * Writes  answer[0 .. 2]; and, for no, the first answer[1] bytes of out. What lies beyond is left as
+ *         it was.
+ * 0       answer is 1 and 0 for yes, whatever out_len is, and 0 and the reason's count of bytes for
+ *         no.
+ * Refuses 3 if a is no sheet, then 3 if b is none, then 4 if a name of a, or one of b, is bad, then 5
+ *         if out_len is below the reason's count of bytes. answer is then 0 0 and out is left as it
+ *         was.
+ */
+uint64_t berzhotun_reason(const uint64_t *a_words, size_t a_words_len, const uint8_t *a_names,
+                          size_t a_names_len, const uint64_t *b_words, size_t b_words_len,
+                          const uint8_t *b_names, size_t b_names_len, uint8_t *out, size_t out_len,
+                          uint64_t answer[2]);
+
+/*
+ * The two for a comparison with all fields: as berzhotun_reason_len and berzhotun_reason, but that
+ * every node counts as top, so that the first difference may stand behind any number of pointers and
+ * atomics too. It is yes exactly when berzhotun_eq says yes. So `^^{R=i}` against `^^{R=d}` is yes by
+ * levels, and here the reason is `0.0.0:kind 1:2 2:11`.
+ */
+uint64_t berzhotun_reason_all_len(const uint64_t *a_words, size_t a_words_len,
+                                  const uint8_t *a_names, size_t a_names_len,
+                                  const uint64_t *b_words, size_t b_words_len,
+                                  const uint8_t *b_names, size_t b_names_len, uint64_t answer[2]);
+uint64_t berzhotun_reason_all(const uint64_t *a_words, size_t a_words_len, const uint8_t *a_names,
+                              size_t a_names_len, const uint64_t *b_words, size_t b_words_len,
+                              const uint8_t *b_names, size_t b_names_len, uint8_t *out,
+                              size_t out_len, uint64_t answer[2]);
 
 /*
  * Compares a tree with a text by levels, without reading the text into a tree first. Leading bytes

@@ -57,6 +57,54 @@ mod exported {
             b_names_len: usize,
             answer: *mut u64,
         ) -> u64;
+        pub fn berzhotun_reason_len(
+            a_words: *const u64,
+            a_words_len: usize,
+            a_names: *const u8,
+            a_names_len: usize,
+            b_words: *const u64,
+            b_words_len: usize,
+            b_names: *const u8,
+            b_names_len: usize,
+            answer: *mut u64,
+        ) -> u64;
+        pub fn berzhotun_reason(
+            a_words: *const u64,
+            a_words_len: usize,
+            a_names: *const u8,
+            a_names_len: usize,
+            b_words: *const u64,
+            b_words_len: usize,
+            b_names: *const u8,
+            b_names_len: usize,
+            out: *mut u8,
+            out_len: usize,
+            answer: *mut u64,
+        ) -> u64;
+        pub fn berzhotun_reason_all_len(
+            a_words: *const u64,
+            a_words_len: usize,
+            a_names: *const u8,
+            a_names_len: usize,
+            b_words: *const u64,
+            b_words_len: usize,
+            b_names: *const u8,
+            b_names_len: usize,
+            answer: *mut u64,
+        ) -> u64;
+        pub fn berzhotun_reason_all(
+            a_words: *const u64,
+            a_words_len: usize,
+            a_names: *const u8,
+            a_names_len: usize,
+            b_words: *const u64,
+            b_words_len: usize,
+            b_names: *const u8,
+            b_names_len: usize,
+            out: *mut u8,
+            out_len: usize,
+            answer: *mut u64,
+        ) -> u64;
         pub fn berzhotun_size(
             words: *const u64,
             words_len: usize,
@@ -167,6 +215,59 @@ pub fn equivalent_to_box(a: Sheet, b: Sheet) -> Reply {
 
 pub fn eq(a: Sheet, b: Sheet) -> Reply {
     pair(exported::berzhotun_eq, a, b)
+}
+
+pub fn reason_len(a: Sheet, b: Sheet) -> Reply {
+    pair(exported::berzhotun_reason_len, a, b)
+}
+
+pub fn reason_all_len(a: Sheet, b: Sheet) -> Reply {
+    pair(exported::berzhotun_reason_all_len, a, b)
+}
+
+type ReasonCall = unsafe extern "C" fn(
+    *const u64,
+    usize,
+    *const u8,
+    usize,
+    *const u64,
+    usize,
+    *const u8,
+    usize,
+    *mut u8,
+    usize,
+    *mut u64,
+) -> u64;
+
+fn written(call: ReasonCall, a: Sheet, b: Sheet, out: &mut [u8]) -> Reply {
+    let mut answers = [MARK; 4];
+    // SAFETY: as in `pair`.
+    let refusal = unsafe {
+        call(
+            a.words.as_ptr(),
+            a.words.len(),
+            a.names.as_ptr(),
+            a.names.len(),
+            b.words.as_ptr(),
+            b.words.len(),
+            b.names.as_ptr(),
+            b.names.len(),
+            out.as_mut_ptr(),
+            out.len(),
+            answers.as_mut_ptr(),
+        )
+    };
+    (refusal, answers)
+}
+
+/// Lends the first `lent` bytes of `out`.
+pub fn reason(a: Sheet, b: Sheet, out: &mut [u8], lent: usize) -> Reply {
+    written(exported::berzhotun_reason, a, b, &mut out[..lent])
+}
+
+/// The same.
+pub fn reason_all(a: Sheet, b: Sheet, out: &mut [u8], lent: usize) -> Reply {
+    written(exported::berzhotun_reason_all, a, b, &mut out[..lent])
 }
 
 pub fn size(sheet: Sheet) -> Reply {

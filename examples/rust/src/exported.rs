@@ -68,6 +68,54 @@ extern "C" {
         b_names_len: usize,
         answer: *mut [u64; 1],
     ) -> u64;
+    pub fn berzhotun_reason_len(
+        a_words: *const u64,
+        a_words_len: usize,
+        a_names: *const u8,
+        a_names_len: usize,
+        b_words: *const u64,
+        b_words_len: usize,
+        b_names: *const u8,
+        b_names_len: usize,
+        answer: *mut [u64; 2],
+    ) -> u64;
+    pub fn berzhotun_reason(
+        a_words: *const u64,
+        a_words_len: usize,
+        a_names: *const u8,
+        a_names_len: usize,
+        b_words: *const u64,
+        b_words_len: usize,
+        b_names: *const u8,
+        b_names_len: usize,
+        out: *mut u8,
+        out_len: usize,
+        answer: *mut [u64; 2],
+    ) -> u64;
+    pub fn berzhotun_reason_all_len(
+        a_words: *const u64,
+        a_words_len: usize,
+        a_names: *const u8,
+        a_names_len: usize,
+        b_words: *const u64,
+        b_words_len: usize,
+        b_names: *const u8,
+        b_names_len: usize,
+        answer: *mut [u64; 2],
+    ) -> u64;
+    pub fn berzhotun_reason_all(
+        a_words: *const u64,
+        a_words_len: usize,
+        a_names: *const u8,
+        a_names_len: usize,
+        b_words: *const u64,
+        b_words_len: usize,
+        b_names: *const u8,
+        b_names_len: usize,
+        out: *mut u8,
+        out_len: usize,
+        answer: *mut [u64; 2],
+    ) -> u64;
     pub fn berzhotun_equivalent_to_str(
         words: *const u64,
         words_len: usize,
