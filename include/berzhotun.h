@@ -278,21 +278,21 @@ uint64_t berzhotun_eq(const uint64_t *a_words, size_t a_words_len, const uint8_t
                       const uint8_t *b_names, size_t b_names_len, uint64_t answer[1]);
 
 /*
- * Measures the reason for a no: the first difference of two trees that are compared by levels, which
- * is what a desk must change. A node is compared before its items, and these in order, from 0:
+ * Measures the reason for a no: the first difference of two trees that are compared by levels. A
+ * node is compared before its items, and these in order, from 0:
  *
  *     every node           its kind; Object, Block and Class do not differ, and a bitfield with a
  *                          type differs from one without
  *     bitfields            the size in bits; with a type, then the offset, then the type, item 0
  *     pointers, atomics    what they hold, item 0
  *     arrays               the length, then what they hold, item 0
- *     structs, unions      the name; then, if they are not at bottom and both have fields, the count
- *                          of fields, then the fields
+ *     structs, unions      the name; then, if they are not at bottom and both have fields, the
+ *                          count of fields, then the fields
  *
- * The reason is the item numbers from the root down, with dots between (none for the root itself), a
- * colon, one of the words kind, size, offset, length, name and count, then the value of a and that of
- * b. Each value is a space, its count of bytes, a colon and its bytes; a kind is its number, as in a
- * sheet, and all numbers are decimal. So the reason is
+ * The reason is the item numbers from the root down, with dots between (none for the root itself),
+ * a colon, one of the words kind, size, offset, length, name and count, then the value of a and that
+ * of b. Each value is a space, its count of bytes, a colon and its bytes; a kind is its number, as
+ * in a sheet, and all numbers are decimal. So the reason is
  *
  *     :kind 1:2 2:11       for `i` against `d`
  *     1.0:kind 2:17 1:2    for `{R=i^v}` against `{R=i^i}`
@@ -317,13 +317,13 @@ uint64_t berzhotun_reason_len(const uint64_t *a_words, size_t a_words_len, const
  * Writes the reason that berzhotun_reason_len measures. No zero byte is put behind it.
  *
  * Reads   both sheets, a and b, as far as their first four words say.
- * Writes  answer[0 .. 2]; and, for no, the first answer[1] bytes of out. What lies beyond is left as
- *         it was.
+ * Writes  answer[0 .. 2]; and, for no, the first answer[1] bytes of out. What lies beyond is left
+ *         as it was.
  * 0       answer is 1 and 0 for yes, whatever out_len is, and 0 and the reason's count of bytes for
  *         no.
- * Refuses 3 if a is no sheet, then 3 if b is none, then 4 if a name of a, or one of b, is bad, then 5
- *         if out_len is below the reason's count of bytes. answer is then 0 0 and out is left as it
- *         was.
+ * Refuses 3 if a is no sheet, then 3 if b is none, then 4 if a name of a, or one of b, is bad, then
+ *         5 if out_len is below the reason's count of bytes. answer is then 0 0 and out is left as
+ *         it was.
  */
 uint64_t berzhotun_reason(const uint64_t *a_words, size_t a_words_len, const uint8_t *a_names,
                           size_t a_names_len, const uint64_t *b_words, size_t b_words_len,
@@ -332,9 +332,9 @@ uint64_t berzhotun_reason(const uint64_t *a_words, size_t a_words_len, const uin
 
 /*
  * The two for a comparison with all fields: as berzhotun_reason_len and berzhotun_reason, but that
- * every node counts as top, so that the first difference may stand behind any number of pointers and
- * atomics too. It is yes exactly when berzhotun_eq says yes. So `^^{R=i}` against `^^{R=d}` is yes by
- * levels, and here the reason is `0.0.0:kind 1:2 2:11`.
+ * every node counts as top, so that the first difference may stand behind any number of pointers
+ * and atomics too. It is yes exactly when berzhotun_eq says yes. So `^^{R=i}` against `^^{R=d}` is
+ * yes by levels, and here the reason is `0.0.0:kind 1:2 2:11`.
  */
 uint64_t berzhotun_reason_all_len(const uint64_t *a_words, size_t a_words_len,
                                   const uint8_t *a_names, size_t a_names_len,
