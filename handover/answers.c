@@ -127,8 +127,25 @@ static void signature_question(const char *argument) {
     printf("\n");
 }
 
+typedef uint64_t reason(const uint64_t *, size_t, const uint8_t *, size_t, const uint64_t *, size_t, const uint8_t *, size_t,
+                        uint8_t *, size_t, uint64_t *);
+
+static void reason_question(reason *write) {
+    uint64_t refusal = write(LENT(first), LENT(second), out, sizeof out, values);
+    printf("%s", yes_or_no(refusal));
+    if (values[1] != 0) {
+        printf(" ");
+        say_hex(out, (size_t)values[1]);
+    }
+    printf("\n");
+}
+
 static void pair_question(const char *question) {
-    if (strcmp(question, "equal") == 0) {
+    if (strcmp(question, "reason") == 0) {
+        reason_question(berzhotun_reason);
+    } else if (strcmp(question, "reason-all") == 0) {
+        reason_question(berzhotun_reason_all);
+    } else if (strcmp(question, "equal") == 0) {
         printf("%s ", yes_or_no(berzhotun_eq(LENT(first), LENT(second), values)));
         printf("%s\n", yes_or_no(berzhotun_eq(LENT(second), LENT(first), values)));
     } else if (strcmp(question, "equivalent") == 0) {

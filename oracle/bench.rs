@@ -9,6 +9,8 @@ use crate::ask;
 use crate::helper::NestingLevel;
 use crate::library::{self, Sheet};
 use crate::parse::Parser;
+use crate::reason::Finder;
+use crate::sheet::{DOUBLE, INT, STRUCT, UNION};
 use crate::static_str::static_encoding_str_array;
 use crate::trees::{Arena, Tree};
 use crate::Encoding;
@@ -24,6 +26,7 @@ pub fn run() -> bool {
         let tree = Tree::from_box(&ask::read(&text).expect("a text that reads"));
         let name = format!("{name}: {} bytes, {} nodes", text.len(), tree.nodes.len());
         bench_tree(&name, &tree);
+        bench_reason(&name, &tree);
         bench_reading(&name, &text);
         bench_matching(&name, &tree);
     }
@@ -125,6 +128,41 @@ fn bench_tree(name: &str, tree: &Tree) {
     });
     let theirs = || black_box(a) == black_box(&boxed);
     line(name, "==", theirs, || library::eq(black_box(sheet), black_box(sheet)).0);
+}
+
+/// The tree against one with another last node, so that all nodes are compared. The crate has no reasons: a
+/// plain walk over its trees, in the order of its comparison, stands on its side.
+fn bench_reason(name: &str, tree: &Tree) {
+    let other = with_another_last(tree);
+    let (mut first, mut second) = (Arena::default(), Arena::default());
+    let (a, b) = (first.encoding(tree), second.encoding(&other));
+    let (words, other_words) = (tree.words(), other.words());
+    let sheet = Sheet { words: &words, names: &tree.names };
+    let other_sheet = Sheet { words: &other_words, names: &other.names };
+    let mut finder = Finder::default();
+    let mut out = vec![0; 8016];
+
+    let theirs = || black_box(a).equivalent_to(black_box(b));
+    let ours = || library::equivalent_to(black_box(sheet), black_box(other_sheet)).0;
+    line(name, "equivalent_to, a no", theirs, ours);
+    let theirs = || finder.find(black_box(a), black_box(b), false).map(<[u8]>::len);
+    let ours = || library::reason(black_box(sheet), black_box(other_sheet), &mut out, 8016).1[1];
+    line(name, "reason", theirs, ours);
+    let theirs = || finder.find(black_box(a), black_box(b), true).map(<[u8]>::len);
+    let ours = || library::reason_all(black_box(sheet), black_box(other_sheet), &mut out, 8016).1[1];
+    line(name, "reason_all", theirs, ours);
+}
+
+/// With another kind of the last node, which no level hides.
+fn with_another_last(tree: &Tree) -> Tree {
+    let mut other = tree.clone();
+    let last = other.nodes.last_mut().unwrap();
+    last.kind = match last.kind {
+        STRUCT => UNION,
+        INT => DOUBLE,
+        _ => INT,
+    };
+    other
 }
 
 /// The crate's printing into an array that has room, unless that takes too long.

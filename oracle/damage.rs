@@ -46,6 +46,18 @@ pub fn raw(random: &mut Random) -> Raw {
     raw
 }
 
+/// The sheet of a tree with a bad name, or with one damage, which it may bear.
+pub fn of(random: &mut Random, tree: &Tree) -> Raw {
+    if random.percent(40) {
+        let mut tree = tree.clone();
+        spoil_name(random, &mut tree);
+        return Raw::of(&tree);
+    }
+    let mut raw = Raw::of(tree);
+    damage(random, &mut raw);
+    raw
+}
+
 /// Puts random words and bytes beyond what the lists hold.
 fn pad(random: &mut Random, raw: &mut Raw) {
     for _ in 0..random.below(8) {

@@ -10,6 +10,8 @@
 //!     diff signatures SEED COUNT    random, well-formed and spoilt signatures
 //!     diff short-strict LENGTH  every text up to that length over some bytes: strict reading
 //!     diff strict SEED COUNT    random, well-formed and spoilt texts with surplus zeros: strict reading
+//!     diff short-reasons LENGTH  every pair of readable texts up to that length: the reason for a no
+//!     diff reasons SEED COUNT   related pairs of trees: the reason for a no
 //!     diff all SEED COUNT       each of these, with lengths 3 and 4
 //!     diff stack KIBIBYTES      the deepest trees, texts and signatures on a stack of that size
 //!     diff bench                times, as ratios to the crate's
@@ -17,7 +19,8 @@
 //! The exit status is 0 if there was no difference, 1 if there was one, 2 if the call makes no sense.
 
 use crate::report::run as run_all;
-use crate::{bench, run_reads, run_sheets, run_signatures, run_strict, run_texts, run_trees, stack};
+use crate::{bench, stack};
+use crate::{run_reads, run_reasons, run_sheets, run_signatures, run_strict, run_texts, run_trees};
 
 pub fn run() -> i32 {
     let arguments: Vec<String> = std::env::args().skip(1).collect();
@@ -35,11 +38,13 @@ pub fn run() -> i32 {
         (Some("signatures"), Some(&[seed, count])) => signatures(seed, count),
         (Some("short-strict"), Some(&[length])) => short_strict(length as usize),
         (Some("strict"), Some(&[seed, count])) => strict(seed, count),
+        (Some("short-reasons"), Some(&[length])) => short_reasons(length as usize),
+        (Some("reasons"), Some(&[seed, count])) => reasons(seed, count),
         (Some("stack"), Some(&[kibibytes])) => stack::run(kibibytes as usize),
         (Some("bench"), Some(&[])) => bench::run(),
         _ => {
-            eprintln!("usage: diff trees|sheets|reads|texts|signatures|strict|all SEED COUNT");
-            eprintln!("       diff short|match|short-signatures|short-strict LENGTH");
+            eprintln!("usage: diff trees|sheets|reads|texts|signatures|strict|reasons|all SEED COUNT");
+            eprintln!("       diff short|match|short-signatures|short-strict|short-reasons LENGTH");
             eprintln!("       diff stack KIBIBYTES, diff bench");
             return 2;
         }
@@ -59,6 +64,8 @@ fn all(seed: u64, count: u64) -> bool {
     same &= signatures(seed, count);
     same &= short_strict(4);
     same &= strict(seed, count);
+    same &= short_reasons(3);
+    same &= reasons(seed, count);
     same
 }
 
@@ -111,4 +118,14 @@ fn short_strict(length: usize) -> bool {
 fn strict(seed: u64, count: u64) -> bool {
     let mut check = run_strict::Check::default();
     run_all("strict", run_strict::inputs(seed, count), |case, tally| check.case(case, tally))
+}
+
+fn short_reasons(length: usize) -> bool {
+    let mut check = run_reasons::Check::new();
+    run_all("short-reasons", run_reasons::short_inputs(length), |case, tally| check.case(case, tally))
+}
+
+fn reasons(seed: u64, count: u64) -> bool {
+    let mut check = run_reasons::Check::new();
+    run_all("reasons", run_reasons::inputs(seed, count), |case, tally| check.case(case, tally))
 }

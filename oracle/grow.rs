@@ -164,6 +164,28 @@ pub fn mutated(random: &mut Random, tree: &Tree) -> Tree {
     changed
 }
 
+/// Changes a tree in one place, so that a comparison that goes there meets one difference: another kind,
+/// number, name or count, fields in another order, or fields that levels hide.
+pub fn changed(random: &mut Random, tree: &Tree) -> Tree {
+    let mut changed = tree.clone();
+    match random.below(16) {
+        0..=3 => change_number(random, &mut changed),
+        4 => add_field(random, &mut changed),
+        5 => remove_field(random, &mut changed),
+        6 | 7 => swap_fields(random, &mut changed),
+        8 => change_last_byte(random, &mut changed),
+        9 => change_last(random, &mut changed),
+        10 => change_code(random, &mut changed),
+        _ => mutate(random, &mut changed),
+    }
+    repack(&mut changed);
+    let too_large = changed.nodes.len() as u64 > MOST_NODES || changed.names.len() as u64 > MOST_NAME_BYTES;
+    if too_large {
+        return tree.clone();
+    }
+    changed
+}
+
 fn mutate(random: &mut Random, tree: &mut Tree) {
     match random.below(16) {
         0 | 1 => change_number(random, tree),
@@ -223,6 +245,38 @@ fn remove_field(random: &mut Random, tree: &mut Tree) {
         let child = if child == end { at + 1 } else { child };
         let count = tree.nodes[child].count as usize;
         splice(tree, child, count, &Tree::default());
+    }
+}
+
+/// Two fields that stand side by side change places.
+fn swap_fields(random: &mut Random, tree: &mut Tree) {
+    let two_fields = |at: usize, node: &Node| is_container(node.kind) && tree.children(at) > 1;
+    if let Some(at) = find(random, tree, two_fields) {
+        let mut first = at + 1;
+        for _ in 0..random.below(tree.children(at) - 1) {
+            first += tree.nodes[first].count as usize;
+        }
+        let second = first + tree.nodes[first].count as usize;
+        let end = second + tree.nodes[second].count as usize;
+        tree.nodes[first..end].rotate_left(second - first);
+    }
+}
+
+/// Another last byte of a name, which may be long.
+fn change_last_byte(random: &mut Random, tree: &mut Tree) {
+    if let Some(at) = find(random, tree, |_, node| is_container(node.kind)) {
+        let mut name = tree.name(&tree.nodes[at]).to_vec();
+        *name.last_mut().unwrap() = random.pick(b"RSx_09");
+        tree.nodes[at].first = tree.names.len() as u64;
+        tree.names.extend_from_slice(&name);
+    }
+}
+
+/// Another last node, so that all before it are gone through.
+fn change_last(random: &mut Random, tree: &mut Tree) {
+    let last = tree.nodes.len() - 1;
+    if !is_container(tree.nodes[last].kind) {
+        tree.nodes[last] = Node { kind: random.below(24) as u64, first: 0, second: 0, count: 1 };
     }
 }
 

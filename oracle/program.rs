@@ -15,6 +15,8 @@
 //!     equivalent TREE TREE         yes | no                  (equivalent_to)
 //!     equivalent-box TREE TREE     yes | no                  (equivalent_to_box)
 //!     equal TREE TREE              two of yes | no           (==: Encoding with box, box with Encoding)
+//!     reason TREE TREE             yes | no HEX              (request N4, by levels)
+//!     reason-all TREE TREE         yes | no HEX              (the same with all fields)
 //!     text TREE TEXT               yes | no                  (equivalent_to_str)
 //!     size TREE                    bytes N | none | outside  (document 01's target)
 //!     size-host TREE               bytes N | none            (as the crate answers on this machine)
@@ -22,8 +24,9 @@
 //!     print TREE                   t:HEX                     (static_encoding_str_array)
 //!
 //! NUMBER is the refusal of document 01, or of request N1 or N3; PLACE, BYTE and KIND (29 struct, 30
-//! union) are 0 where it carries none. PLACE after `ok` is where the rest begins. A sheet in an
-//! answer has the words and name bytes that are used and no more. Other answers to any question:
+//! union) are 0 where it carries none. PLACE after `ok` is where the rest begins. HEX after `no` is
+//! the reason's bytes. A sheet in an answer has the words and name bytes that are used and no more.
+//! Other answers to any question:
 //!
 //!     unread NUMBER PLACE BYTE KIND    a text given as a tree could not be read
 //!     panic                            the crate panicked (a bad name that it came to)
@@ -34,6 +37,7 @@ use std::io::{BufRead, BufReader, BufWriter, Write};
 use std::panic::{catch_unwind, set_hook, AssertUnwindSafe};
 
 use crate::ask::{self, Refusal};
+use crate::reason::Finder;
 use crate::sheet::is_container;
 use crate::trees::{Arena, Tree};
 use crate::EncodingBox;
@@ -85,6 +89,8 @@ fn ask(line: &str) -> Result<String, String> {
         ("equivalent", [a, b]) => Ok(equivalent(&tree_of(a)?, &tree_of(b)?)),
         ("equivalent-box", [a, b]) => Ok(equivalent_box(&tree_of(a)?, &tree_of(b)?)),
         ("equal", [a, b]) => Ok(equal(&tree_of(a)?, &tree_of(b)?)),
+        ("reason", [a, b]) => Ok(reason(&tree_of(a)?, &tree_of(b)?, false)),
+        ("reason-all", [a, b]) => Ok(reason(&tree_of(a)?, &tree_of(b)?, true)),
         ("text", [tree, text]) => Ok(against_text(&tree_of(tree)?, &text_of(text)?)),
         ("size", [tree]) => Ok(size(&tree_of(tree)?)),
         ("size-host", [tree]) => Ok(size_here(&tree_of(tree)?)),
@@ -131,6 +137,14 @@ fn equal(a: &Tree, b: &Tree) -> String {
     let (mut first, mut second) = (Arena::default(), Arena::default());
     let answers = ask::equal(first.encoding(a), &a.to_box(), second.encoding(b), &b.to_box());
     format!("{} {}", yes_no(answers.0), yes_no(answers.1))
+}
+
+fn reason(a: &Tree, b: &Tree, include_all: bool) -> String {
+    let (mut first, mut second) = (Arena::default(), Arena::default());
+    match Finder::default().find(first.encoding(a), second.encoding(b), include_all) {
+        Some(reason) => format!("no {}", hex_text(reason)),
+        None => "yes".to_string(),
+    }
 }
 
 fn against_text(tree: &Tree, text: &str) -> String {

@@ -25,6 +25,8 @@ mod ask;
 #[allow(dead_code)]
 mod plain;
 #[allow(dead_code)]
+mod reason;
+#[allow(dead_code)]
 mod sheet;
 #[allow(dead_code)]
 mod surplus;
@@ -50,6 +52,8 @@ mod random;
 mod report;
 #[cfg(diff)]
 mod run_reads;
+#[cfg(diff)]
+mod run_reasons;
 #[cfg(diff)]
 mod run_sheets;
 #[cfg(diff)]

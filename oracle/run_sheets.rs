@@ -6,6 +6,7 @@ use crate::library::{self, reply, Sheet, MARK_BYTE};
 use crate::plain;
 use crate::random::Random;
 use crate::report::{expect, refusal_name, show_sheet, Case, Difference, Input, Lent, Tally};
+use crate::run_reasons;
 use crate::run_trees;
 use crate::sheet::{is_container, is_good_name, BAD_NAME};
 use crate::trees::{Arena, Tree};
@@ -137,7 +138,9 @@ impl Check {
         let (first, second) = (self.lent_a.sheet(), self.lent_b.sheet());
         expect("equivalent_to", library::equivalent_to(first, second), reply(verdict, &[0]))?;
         expect("equivalent_to_box", library::equivalent_to_box(first, second), reply(verdict, &[0]))?;
-        expect("eq", library::eq(first, second), reply(verdict, &[0]))
+        expect("eq", library::eq(first, second), reply(verdict, &[0]))?;
+        let mut random = Random::new(case.extra);
+        run_reasons::check_refused(verdict, (first, second), &mut self.out, &mut random, tally)
     }
 
     fn compare(&mut self, case: &RawCase, tally: &mut Tally) -> Result<(), Difference> {

@@ -1,6 +1,8 @@
 //! Document 01, "The sheet": a plain test of the layout and of the names, written from that paragraph.
 
 /// The kinds that are spoken of by name; 0 to 23 are the primitives in the crate's order.
+pub const INT: u64 = 2;
+pub const DOUBLE: u64 = 11;
 pub const OBJECT: u64 = 19;
 pub const BLOCK: u64 = 20;
 pub const CLASS: u64 = 21;

@@ -9,7 +9,10 @@ use crate::trees::{Node, Tree};
 
 pub fn run(kibibytes: usize) -> bool {
     let trees = chains();
-    let all_fit = move || trees.iter().all(tree_fits) && texts_fit() && signatures_fit();
+    let pairs = deep_pairs();
+    let all_fit = move || {
+        trees.iter().all(tree_fits) && pairs.iter().all(pair_fits) && texts_fit() && signatures_fit()
+    };
     let thread = Builder::new().stack_size(kibibytes << 10).spawn(all_fit).expect("a thread");
     let fits = thread.join().unwrap_or(false);
     println!(
@@ -46,8 +49,47 @@ fn chain(kinds: &[u64]) -> Tree {
         };
         tree.nodes.push(Node { kind, first, second, count: MOST_NODES - depth });
     }
-    tree.nodes.push(Node { kind: 2, first: 0, second: 0, count: 1 });
+    tree.nodes.push(Node { kind: INT, first: 0, second: 0, count: 1 });
     tree
+}
+
+/// Each chain against one with another node in the end; records that are not the last field of theirs, so that
+/// a walk must come back to each, against the same with another innermost or last field.
+fn deep_pairs() -> Vec<(Tree, Tree)> {
+    let mut pairs: Vec<_> = chains().into_iter().map(|chain| (chain.clone(), with_other(&chain, 2000))).collect();
+    let records = records();
+    pairs.extend([1000, 2000].map(|at| (records.clone(), with_other(&records, at))));
+    pairs
+}
+
+/// 1,000 records, one in the other, with a field behind each.
+fn records() -> Tree {
+    let mut tree = Tree::default();
+    for depth in 0..1000 {
+        tree.names.push(b'R');
+        tree.nodes.push(Node { kind: STRUCT, first: depth, second: 1, count: MOST_NODES - 2 * depth });
+    }
+    tree.nodes.resize(MOST_NODES as usize, Node { kind: INT, first: 0, second: 0, count: 1 });
+    tree
+}
+
+fn with_other(tree: &Tree, at: usize) -> Tree {
+    let mut other = tree.clone();
+    other.nodes[at].kind = DOUBLE;
+    other
+}
+
+/// A no with its reason by all fields, and by levels whatever these say.
+fn pair_fits((a, b): &(Tree, Tree)) -> bool {
+    let (a_words, b_words) = (a.words(), b.words());
+    let a = Sheet { words: &a_words, names: &a.names };
+    let b = Sheet { words: &b_words, names: &b.names };
+    let mut out = vec![0; 8016];
+    let all = library::reason_all(a, b, &mut out, 8016);
+    let is_no = all.0 == 0 && all.1[0] == 0 && all.1 == library::reason_all_len(a, b).1;
+    let by_levels = library::reason(a, b, &mut out, 8016);
+    let yes = library::reason_all(a, a, &mut out, 8016);
+    is_no && by_levels.0 == 0 && by_levels == library::reason_len(a, b) && yes.0 == 0 && yes.1[0] == 1
 }
 
 fn tree_fits(tree: &Tree) -> bool {

@@ -12,15 +12,24 @@
 //! assert_eq!((types[3].encoding, types[3].offset), (&b"@"[..], 16));
 //!
 //! assert!(berzhotun::parse(b"[007c]").is_ok() && berzhotun::parse_strict(b"[007c]").is_err());
+//!
+//! let reason = rate.reason(&berzhotun::parse(b"{Rate=if}").unwrap()).unwrap();
+//! assert_eq!(reason.as_bytes(), b"1:kind 2:11 2:10");
+//! assert_eq!(reason.to_string(), "item 1 differs in kind: 11 and 10");
 //! ```
 
 mod exported;
+mod reason;
 mod refusal;
 
+pub use reason::{Difference, Reason};
 pub use refusal::{Container, Refusal};
 
 /// The most bytes of a text.
 pub const MAX_TEXT: usize = 2000;
+
+/// The most bytes of a reason.
+pub const MAX_REASON: usize = 8016;
 
 /// A type: a sheet that the library has accepted, so that only sizes and texts can be refused later.
 #[derive(Clone, Debug)]
@@ -125,7 +134,8 @@ impl<'a> Entry<'a> {
     }
 }
 
-type Pair = unsafe extern "C" fn(
+/// A function of two trees with so many numbers as its answer.
+type Pair<const N: usize> = unsafe extern "C" fn(
     *const u64,
     usize,
     *const u8,
@@ -134,7 +144,22 @@ type Pair = unsafe extern "C" fn(
     usize,
     *const u8,
     usize,
-    *mut [u64; 1],
+    *mut [u64; N],
+) -> u64;
+
+/// One that also writes into an output.
+type Written = unsafe extern "C" fn(
+    *const u64,
+    usize,
+    *const u8,
+    usize,
+    *const u64,
+    usize,
+    *const u8,
+    usize,
+    *mut u8,
+    usize,
+    *mut [u64; 2],
 ) -> u64;
 
 impl Tree {
@@ -156,21 +181,33 @@ impl Tree {
 
     /// Whether the two are equivalent, by levels. This is not transitive.
     pub fn equivalent_to(&self, other: &Tree) -> bool {
-        self.compare(exported::berzhotun_equivalent_to, other)
+        self.compare(exported::berzhotun_equivalent_to, other) == [1]
     }
 
     /// The same: in the Rust crate the other tree is then boxed, and here both are sheets.
     pub fn equivalent_to_box(&self, other: &Tree) -> bool {
-        self.compare(exported::berzhotun_equivalent_to_box, other)
+        self.compare(exported::berzhotun_equivalent_to_box, other) == [1]
     }
 
     /// Whether the two are equivalent with all fields, also those behind several pointers.
     pub fn equal(&self, other: &Tree) -> bool {
-        self.compare(exported::berzhotun_eq, other)
+        self.compare(exported::berzhotun_eq, other) == [1]
     }
 
-    fn compare(&self, pair: Pair, other: &Tree) -> bool {
-        let mut answer = [0];
+    /// Why [`Tree::equivalent_to`] says no: the first difference, by levels. A yes has none.
+    pub fn reason(&self, other: &Tree) -> Option<Reason> {
+        let length = self.compare(exported::berzhotun_reason_len, other);
+        self.explain(length, exported::berzhotun_reason, other)
+    }
+
+    /// Why [`Tree::equal`] says no: the first difference with all fields. A yes has none.
+    pub fn reason_all(&self, other: &Tree) -> Option<Reason> {
+        let length = self.compare(exported::berzhotun_reason_all_len, other);
+        self.explain(length, exported::berzhotun_reason_all, other)
+    }
+
+    fn compare<const N: usize>(&self, pair: Pair<N>, other: &Tree) -> [u64; N] {
+        let mut answer = [0; N];
         // SAFETY: each pointer goes with its own list's length, and only the answer is written.
         let number = unsafe {
             pair(
@@ -186,7 +223,38 @@ impl Tree {
             )
         };
         assert_eq!(number, 0, "a tree is a good sheet");
-        answer[0] == 1
+        answer
+    }
+
+    /// From a yes, or the count of bytes that the reason for a no has.
+    fn explain(&self, [yes, length]: [u64; 2], call: Written, other: &Tree) -> Option<Reason> {
+        if yes == 1 {
+            return None;
+        }
+        let mut out = vec![0; length as usize];
+        let mut answer = [0; 2];
+        // SAFETY: as in `compare`; the output is new.
+        let number = unsafe {
+            call(
+                self.words.as_ptr(),
+                self.words.len(),
+                self.names.as_ptr(),
+                self.names.len(),
+                other.words.as_ptr(),
+                other.words.len(),
+                other.names.as_ptr(),
+                other.names.len(),
+                out.as_mut_ptr(),
+                out.len(),
+                &mut answer,
+            )
+        };
+        assert_eq!(
+            (number, answer),
+            (0, [0, length]),
+            "the output has the reason's length"
+        );
+        Some(Reason::new(out))
     }
 
     /// Whether the tree matches the text, by levels; only a text that is too long is refused.

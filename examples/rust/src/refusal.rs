@@ -21,7 +21,8 @@ pub enum Refusal {
     BadSheet,
     /// 4: a struct or union has a name that is none.
     BadName,
-    /// 5: the output is shorter than the printed length. This crate always lends enough.
+    /// 5: the output is shorter than the printed length, or than the reason for a no. This crate
+    /// always lends enough.
     OutputTooShort,
     /// 6: the size is above 2^64 - 1.
     SizeTooLarge,

@@ -1,7 +1,8 @@
-//! Cases of the scope document, of signatures and of strict reading, through the wrapper.
+//! Cases of the scope document, of signatures, of strict reading and of reasons, through the wrapper.
 
 use berzhotun::{
-    parse, parse_signature, parse_start, parse_strict, Container, Entry, Refusal, Tree, MAX_TEXT,
+    parse, parse_signature, parse_start, parse_strict, Container, Difference, Entry, Reason,
+    Refusal, Tree, MAX_REASON, MAX_TEXT,
 };
 
 fn tree(text: &str) -> Tree {
@@ -82,7 +83,10 @@ fn comparisons() {
     assert!(tree("{R=i}").equivalent_to(&tree("{R}")));
     assert!(tree("@").equivalent_to(&tree("@?")) && tree("#").equivalent_to(&tree("@")));
     assert!(tree("^^{R=i}").equivalent_to(&tree("^^{R=d}")));
-    assert!(tree("^^{R=i}").equivalent_to_box(&tree("^^{R=d}")) && !tree("i").equivalent_to_box(&tree("d")));
+    assert!(
+        tree("^^{R=i}").equivalent_to_box(&tree("^^{R=d}"))
+            && !tree("i").equivalent_to_box(&tree("d"))
+    );
     assert!(!tree("^^{R=i}").equal(&tree("^^{R=d}")));
     assert!(!tree("b3").equivalent_to(&tree("b0i3")));
     let record = tree("{R=i}");
@@ -351,6 +355,155 @@ fn strict_reading_is_otherwise_the_same() {
             "{text}"
         );
     }
+}
+
+/// The bytes of a reason, or nothing for a yes.
+fn shown(reason: Option<Reason>) -> String {
+    reason.map_or(String::new(), |reason| {
+        String::from_utf8(reason.as_bytes().to_vec()).expect("ASCII")
+    })
+}
+
+/// Both texts, and the reasons by levels and with all fields. A yes is an empty text.
+#[rustfmt::skip]
+const REASONS: [(&str, &str, &str, &str); 35] = [
+    ("i", "d", ":kind 1:2 2:11", ":kind 1:2 2:11"),
+    ("{R=i^v}", "{R=i^i}", "1.0:kind 2:17 1:2", "1.0:kind 2:17 1:2"),
+    ("{R=i}", "{S=i}", ":name 1:R 1:S", ":name 1:R 1:S"),
+    ("[3c]", "[12c]", ":length 1:3 2:12", ":length 1:3 2:12"),
+    ("{R=ii}", "{R=i}", ":count 1:2 1:1", ":count 1:2 1:1"),
+    ("^i", "^d", "0:kind 1:2 2:11", "0:kind 1:2 2:11"),
+    ("i", "i", "", ""),
+    ("@", "#", "", ""),
+    ("@?", "@", "", ""),
+    ("@", ":", ":kind 2:19 2:22", ":kind 2:19 2:22"),
+    ("", "i", ":kind 2:31 1:2", ":kind 2:31 1:2"),
+    ("", "", "", ""),
+    ("b3", "b0i3", ":kind 2:24 2:25", ":kind 2:24 2:25"),
+    ("b3", "b255", ":size 1:3 3:255", ":size 1:3 3:255"),
+    ("b0i3", "b8i4", ":size 1:3 1:4", ":size 1:3 1:4"),
+    ("b0i3", "b8q3", ":offset 1:0 1:8", ":offset 1:0 1:8"),
+    ("b0i3", "b0q3", "0:kind 1:2 1:4", "0:kind 1:2 1:4"),
+    ("^i", "Ai", ":kind 2:26 2:27", ":kind 2:26 2:27"),
+    ("{R=i}", "(R=i)", ":kind 2:29 2:30", ":kind 2:29 2:30"),
+    ("{R=i}", "{R}", "", ""),
+    ("{R}", "{R=i}", "", ""),
+    ("{R=i}", "{Rate}", ":name 1:R 4:Rate", ":name 1:R 4:Rate"),
+    ("{?=i}", "{R=i}", ":name 1:? 1:R", ":name 1:? 1:R"),
+    ("{R=ii}", "{R=d}", ":count 1:2 1:1", ":count 1:2 1:1"),
+    ("{R=id}", "{R=qf}", "0:kind 1:2 1:4", "0:kind 1:2 1:4"),
+    ("{R=iiiiiiiiiii}", "{R=iiiiiiiiiid}", "10:kind 1:2 2:11", "10:kind 1:2 2:11"),
+    ("[2{R=i}]", "[2{R=d}]", "0.0:kind 1:2 2:11", "0.0:kind 1:2 2:11"),
+    ("[3i]", "[4d]", ":length 1:3 1:4", ":length 1:3 1:4"),
+    ("[18446744073709551615c]", "[0c]", ":length 20:18446744073709551615 1:0", ":length 20:18446744073709551615 1:0"),
+    ("^{R=i}", "^{R=d}", "0.0:kind 1:2 2:11", "0.0:kind 1:2 2:11"),
+    ("^^{R=i}", "^^{R=d}", "", "0.0.0:kind 1:2 2:11"),
+    ("^^{R=i}", "^^{S=d}", "0.0:name 1:R 1:S", "0.0:name 1:R 1:S"),
+    ("^^{R=i}", "^^{R=ii}", "", "0.0:count 1:1 1:2"),
+    ("A{R=i}", "A{R=d}", "", "0.0:kind 1:2 2:11"),
+    ("{R=^{S=i}d}", "{R=^{S=q}f}", "1:kind 2:11 2:10", "0.0.0:kind 1:2 1:4"),
+];
+
+#[test]
+fn reasons() {
+    for (first, second, by_levels, all_fields) in REASONS {
+        let (a, b) = (tree(first), tree(second));
+        assert_eq!(shown(a.reason(&b)), by_levels, "{first} {second}");
+        assert_eq!(shown(a.reason_all(&b)), all_fields, "{first} {second}");
+        assert_eq!(a.equivalent_to(&b), by_levels.is_empty());
+        assert_eq!(a.equal(&b), all_fields.is_empty());
+    }
+}
+
+#[test]
+fn reasons_have_named_parts() {
+    let cases = [
+        (
+            "{R=i^v}",
+            "{R=i^i}",
+            Difference::Kind {
+                first: 17,
+                second: 2,
+            },
+        ),
+        (
+            "{R=b3}",
+            "{R=b4}",
+            Difference::Size {
+                first: 3,
+                second: 4,
+            },
+        ),
+        (
+            "{R=b0i3}",
+            "{R=b8i3}",
+            Difference::Offset {
+                first: 0,
+                second: 8,
+            },
+        ),
+        (
+            "^[3i]",
+            "^[4i]",
+            Difference::Length {
+                first: 3,
+                second: 4,
+            },
+        ),
+        (
+            "{R}",
+            "{S}",
+            Difference::Name {
+                first: "R".into(),
+                second: "S".into(),
+            },
+        ),
+        (
+            "^{R=iii}",
+            "^{R=d}",
+            Difference::Count {
+                first: 3,
+                second: 1,
+            },
+        ),
+    ];
+    let paths: [&[usize]; 6] = [&[1, 0], &[0], &[0], &[0], &[], &[0]];
+    let words = [
+        "item 1.0 differs in kind: 17 and 2",
+        "item 0 differs in size: 3 and 4",
+        "item 0 differs in offset: 0 and 8",
+        "item 0 differs in length: 3 and 4",
+        "the trees differ in name: R and S",
+        "item 0 differs in count: 3 and 1",
+    ];
+    for ((case, path), words) in cases.into_iter().zip(paths).zip(words) {
+        let (first, second, differs) = case;
+        let reason = tree(first).reason(&tree(second)).expect(first);
+        assert_eq!((&reason.path[..], &reason.differs), (path, &differs));
+        assert_eq!(reason.to_string(), words);
+    }
+}
+
+#[test]
+fn the_longest_reason() {
+    let pointers = |name: u8| {
+        let mut words = vec![2001, 4, 2000, 8008];
+        for nodes in (2..=2001).rev() {
+            words.extend([26, 0, 0, nodes]);
+        }
+        words.extend([29, 0, 2000, 1]);
+        Tree::from_sheet(words, vec![name; 2000]).unwrap()
+    };
+    let reason = pointers(b'R').reason(&pointers(b'S')).unwrap();
+    assert_eq!(reason.as_bytes().len(), MAX_REASON);
+    assert_eq!(reason.path, [0; 2000]);
+    assert_eq!(
+        reason.differs,
+        Difference::Name {
+            first: "R".repeat(2000),
+            second: "S".repeat(2000)
+        }
+    );
 }
 
 #[test]
