@@ -13,6 +13,7 @@ enum { OUT_ROOM = 1 << 16 };
 
 const char *const function_names[FUNCTIONS] = {
     "from_str", "from_str_strict", "from_start_of_str", "signature", "equivalent_to", "equivalent_to_box", "eq",
+    "reason_len", "reason_all_len", "reason", "reason_all",
     "equivalent_to_str", "size", "static_encoding_str_len", "static_encoding_str_array",
 };
 
@@ -44,17 +45,21 @@ static const uint8_t carried[NUMBERS] = {
 
 /* The numbers that each function may return, a bit each. */
 static const uint64_t returned[FUNCTIONS] = {
-    [FROM_STR] = 0xff87,      /* 0, 1, 2, 7 to 15 */
-    [FROM_STRICT] = 0x8ff87,  /* 0, 1, 2, 7 to 15, 19 */
-    [FROM_START] = 0x7f87,    /* 0, 1, 2, 7 to 14 */
-    [SIGNATURE] = 0x77f87,    /* 0, 1, 2, 7 to 14, 16 to 18 */
-    [EQUIVALENT] = 0x19,      /* 0, 3, 4 */
-    [EQUIVALENT_BOX] = 0x19,  /* 0, 3, 4 */
-    [EQ] = 0x19,              /* 0, 3, 4 */
-    [MATCHES] = 0x1b,         /* 0, 1, 3, 4 */
-    [SIZE] = 0x59,            /* 0, 3, 4, 6 */
-    [LENGTH] = 0x19,          /* 0, 3, 4 */
-    [PRINT] = 0x39,           /* 0, 3, 4, 5 */
+    [FROM_STR] = 0xff87,         /* 0, 1, 2, 7 to 15 */
+    [FROM_STRICT] = 0x8ff87,     /* 0, 1, 2, 7 to 15, 19 */
+    [FROM_START] = 0x7f87,       /* 0, 1, 2, 7 to 14 */
+    [SIGNATURE] = 0x77f87,       /* 0, 1, 2, 7 to 14, 16 to 18 */
+    [EQUIVALENT] = 0x19,         /* 0, 3, 4 */
+    [EQUIVALENT_BOX] = 0x19,     /* 0, 3, 4 */
+    [EQ] = 0x19,                 /* 0, 3, 4 */
+    [REASON_LENGTH] = 0x19,      /* 0, 3, 4 */
+    [REASON_ALL_LENGTH] = 0x19,  /* 0, 3, 4 */
+    [REASON] = 0x39,             /* 0, 3, 4, 5 */
+    [REASON_ALL] = 0x39,         /* 0, 3, 4, 5 */
+    [MATCHES] = 0x1b,            /* 0, 1, 3, 4 */
+    [SIZE] = 0x59,               /* 0, 3, 4, 6 */
+    [LENGTH] = 0x19,             /* 0, 3, 4 */
+    [PRINT] = 0x39,              /* 0, 3, 4, 5 */
 };
 
 uint64_t counts[FUNCTIONS][NUMBERS], yeses[FUNCTIONS];
@@ -92,7 +97,7 @@ void fail(const char *what) {
     if (running > SIGNATURE) {
         show_sheet(0);
     }
-    if (running == EQUIVALENT || running == EQUIVALENT_BOX || running == EQ) {
+    if (running >= EQUIVALENT && running <= REASON_ALL) {
         show_sheet(1);
     }
     printf("\n");
@@ -315,6 +320,96 @@ uint64_t call_pair(enum function function, uint64_t *answer) {
                                                                  names_length[1], lent));
     check_yes_or_no(refusal, *lent);
     *answer = *lent;
+    return refusal;
+}
+
+#define BOTH words[0], words_length[0], names[0], names_length[0], words[1], words_length[1], names[1], names_length[1]
+
+/* Yes and 0, no and the bytes of a reason, refused and 0. */
+static void check_reason_answer(uint64_t refusal, const uint64_t *answer) {
+    check_yes_or_no(refusal, answer[0]);
+    if ((answer[1] != 0) != (refusal == 0 && answer[0] == 0) || answer[1] > BERZHOTUN_MAX_REASON) {
+        fail("gave a count of bytes that no reason has");
+    }
+}
+
+uint64_t call_reason_length(enum function function, uint64_t *answer) {
+    uint64_t *lent = lend_marked(&answer_room, 2 * sizeof(uint64_t));
+    uint64_t refusal;
+    running = function;
+    refusal = ends((function == REASON_LENGTH ? berzhotun_reason_len : berzhotun_reason_all_len)(BOTH, lent));
+    check_reason_answer(refusal, lent);
+    memcpy(answer, lent, 2 * sizeof(uint64_t));
+    return refusal;
+}
+
+/* A number in decimal without a zero in front. Returns where its digits end. */
+static size_t pass_number(const uint8_t *bytes, size_t at, size_t end, size_t *number) {
+    size_t start = at;
+    *number = 0;
+    while (at < end && bytes[at] >= '0' && bytes[at] <= '9') {
+        *number = 10 * *number + (bytes[at++] - '0');
+    }
+    if (at == start || at - start > 4 || (at - start > 1 && bytes[start] == '0')) {
+        fail("wrote a number that is none");
+    }
+    return at;
+}
+
+/* A space, a count of bytes, a colon and so many bytes. Returns where they begin. */
+static size_t pass_value(const uint8_t *bytes, size_t at, size_t end, size_t *length) {
+    if (at == end || bytes[at] != ' ') {
+        fail("wrote a reason without two values");
+    }
+    at = pass_number(bytes, at + 1, end, length);
+    if (at == end || bytes[at] != ':' || *length > end - at - 1 || *length == 0) {
+        fail("wrote a value that does not end");
+    }
+    return at + 1;
+}
+
+/* Item numbers, a colon, a word and two values that differ, and nothing more. */
+static void check_reason(const uint8_t *bytes, size_t end) {
+    static const char *const known[] = {"kind", "size", "offset", "length", "name", "count"};
+    size_t at = 0, number, word, first, first_length, second, second_length;
+    while (at < end && bytes[at] != ':') {
+        at = pass_number(bytes, at + (at > 0 && bytes[at] == '.'), end, &number);
+    }
+    for (at++, word = 0; word < 6; word++) {
+        if (at + strlen(known[word]) < end && memcmp(bytes + at, known[word], strlen(known[word])) == 0) {
+            break;
+        }
+    }
+    if (word == 6) {
+        fail("wrote a reason without a word");
+    }
+    first = pass_value(bytes, at + strlen(known[word]), end, &first_length);
+    second = pass_value(bytes, first + first_length, end, &second_length);
+    if (second + second_length != end) {
+        fail("wrote more than a reason");
+    }
+    if (first_length == second_length && memcmp(bytes + first, bytes + second, first_length) == 0) {
+        fail("wrote a reason that is none");
+    }
+}
+
+uint64_t call_reason(enum function function, size_t room, uint64_t *answer) {
+    uint8_t *out = lend_marked(&out_room, room);
+    uint64_t *lent = lend_marked(&answer_room, 2 * sizeof(uint64_t));
+    uint64_t refusal;
+    running = function;
+    refusal = ends((function == REASON ? berzhotun_reason : berzhotun_reason_all)(BOTH, out, room, lent));
+    check_reason_answer(refusal, lent);
+    if (lent[1] > room) {
+        fail("gave a length of what it did not write");
+    }
+    if (!all_are(out, lent[1], room, MARK)) {
+        fail("wrote behind its reason");
+    }
+    if (lent[1] != 0) {
+        check_reason(out, lent[1]);
+    }
+    memcpy(answer, lent, 2 * sizeof(uint64_t));
     return refusal;
 }
 

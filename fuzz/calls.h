@@ -1,13 +1,13 @@
-/* The eleven functions, each called in guarded memory and held to its contract. */
+/* The fifteen functions, each called in guarded memory and held to its contract. */
 #ifndef CALLS_H
 #define CALLS_H
 
 #include "inputs.h"
 
-/* Those up to SIGNATURE take a text alone, the others a sheet first. */
+/* Those up to SIGNATURE take a text alone, those from there up to REASON_ALL two sheets, the others a sheet first. */
 enum function {
-    FROM_STR, FROM_STRICT, FROM_START, SIGNATURE, EQUIVALENT, EQUIVALENT_BOX, EQ, MATCHES, SIZE, LENGTH, PRINT,
-    FUNCTIONS
+    FROM_STR, FROM_STRICT, FROM_START, SIGNATURE, EQUIVALENT, EQUIVALENT_BOX, EQ, REASON_LENGTH, REASON_ALL_LENGTH, REASON,
+    REASON_ALL, MATCHES, SIZE, LENGTH, PRINT, FUNCTIONS
 };
 
 extern const char *const function_names[FUNCTIONS];
@@ -36,6 +36,11 @@ struct entries {
 uint64_t call_signature(size_t lent_numbers, struct entries *entries);
 
 uint64_t call_pair(enum function function, uint64_t *answer);
+
+/* A reason's length, with an answer of two numbers; and a reason written into an output of `room` bytes. */
+uint64_t call_reason_length(enum function function, uint64_t *answer);
+uint64_t call_reason(enum function function, size_t room, uint64_t *answer);
+
 uint64_t call_matches(uint64_t *answer);
 uint64_t call_size(void);
 uint64_t call_length(uint64_t *answer);

@@ -1,5 +1,5 @@
 /*
- * The deepest trees, texts and signatures through all eleven functions, each call on a stack of its own with a page below it
+ * The deepest trees, texts and signatures through all fifteen functions, each call on a stack of its own with a page below it
  * that may not be touched. Prints the most stack that each function took.
  *
  *     deep [KIBIBYTES]    512 unless said otherwise
@@ -17,13 +17,13 @@
 
 static struct room stack;
 static size_t most[FUNCTIONS];
-static struct sheet tree, spare;
+static struct sheet tree, other, spare;
 static struct text text, print;
 static struct entries entries;
 
 /* One call of a function with what is lent; whether it was accepted. */
 static uint64_t call(enum function function) {
-    uint64_t answer;
+    uint64_t answer, reason[2];
     switch (function) {
     case FROM_STR:
     case FROM_STRICT:
@@ -35,6 +35,12 @@ static uint64_t call(enum function function) {
     case EQUIVALENT_BOX:
     case EQ:
         return call_pair(function, &answer);
+    case REASON_LENGTH:
+    case REASON_ALL_LENGTH:
+        return call_reason_length(function, reason);
+    case REASON:
+    case REASON_ALL:
+        return call_reason(function, BERZHOTUN_MAX_REASON, reason);
     case MATCHES:
         return call_matches(&answer);
     case SIZE:
@@ -103,11 +109,40 @@ static void make_chain(const uint64_t *kinds, size_t count) {
     tree.words[3] = tree.words_length = BERZHOTUN_MAX_WORDS;
 }
 
+/* 1,000 records, one in the other, with a field behind each, so that a walk must come back to every one of them. */
+static void make_records(void) {
+    size_t i;
+    for (i = 0; i < BERZHOTUN_MAX_NODES; i++) {
+        int is_record = i < 1000;
+        uint64_t node[4] = {is_record ? BERZHOTUN_STRUCT : BERZHOTUN_INT, is_record ? i : 0, is_record,
+                            is_record ? BERZHOTUN_MAX_NODES - 2 * i : 1};
+        memcpy(tree.words + 4 + 4 * i, node, sizeof node);
+    }
+    memset(tree.names, 'R', 1000);
+    tree.words[2] = tree.names_length = 1000;
+}
+
+/* The tree against itself and against one with another node at `at`: comparisons and their reasons. */
+static void run_pair(size_t at) {
+    static const enum function functions[] = {EQUIVALENT, EQ, REASON_LENGTH, REASON_ALL_LENGTH, REASON, REASON_ALL};
+    size_t i;
+    other = tree;
+    other.words[4 + 4 * at] = BERZHOTUN_DOUBLE;
+    lend_sheet(0, &tree);
+    for (i = 0; i < 12; i++) {
+        lend_sheet(1, i < 6 ? &tree : &other);
+        if (call_on_stack(functions[i % 6]) != 0) {
+            fail("refused a deep pair");
+        }
+    }
+}
+
 /* Every function that takes trees, the tree against itself and against as much of its print as a text can have. */
 static void run_chain(const uint64_t *kinds, size_t count) {
     static const enum function functions[] = {EQUIVALENT, EQUIVALENT_BOX, EQ, SIZE, LENGTH, PRINT, MATCHES};
     size_t i;
     make_chain(kinds, count);
+    run_pair(BERZHOTUN_MAX_NODES - 1);
     lend_sheet(0, &tree);
     lend_sheet(1, &tree);
     for (i = 0; i < sizeof functions / sizeof functions[0]; i++) {
@@ -131,6 +166,9 @@ static void run_chains(void) {
     }
     run_chain(mixed, 4);
     run_chain(rows, 3);
+    make_records();
+    run_pair(1000);
+    run_pair(BERZHOTUN_MAX_NODES - 1);
 }
 
 static void repeat(const char *part, size_t times) {

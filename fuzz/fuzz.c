@@ -1,5 +1,5 @@
 /*
- * Random bytes, texts and sheets through all eleven functions. The memory behind and before each lent list may not
+ * Random bytes, texts and sheets through all fifteen functions. The memory behind and before each lent list may not
  * be touched, lists that are only to be read cannot be written, and what each call wrote is looked at.
  *
  *     fuzz COUNT [SEED]    at least COUNT calls
@@ -137,6 +137,25 @@ static void print_first(void) {
     }
 }
 
+/* The reason goes with the comparison's answer, its length and the room that it has. */
+static void explain(enum function length, enum function write, uint64_t refusal, uint64_t yes) {
+    uint64_t needed[2], written[2], due = refusal;
+    size_t room;
+    if (call_reason_length(length, needed) != refusal || needed[0] != yes) {
+        fail("does not go with the comparison");
+    }
+    room = length_around(needed[1]);
+    if (refusal == 0 && room < needed[1]) {
+        due = BERZHOTUN_OUTPUT_TOO_SHORT;
+    }
+    if (call_reason(write, room, written) != due) {
+        fail("does not go with the reason's length");
+    }
+    if (due == 0 && (written[0] != needed[0] || written[1] != needed[1])) {
+        fail("wrote another length");
+    }
+}
+
 static void compare_both(void) {
     uint64_t levels, box, all;
     uint64_t refusal = call_pair(EQUIVALENT, &levels);
@@ -146,6 +165,8 @@ static void compare_both(void) {
     if (call_pair(EQ, &all) != refusal || all > levels) {
         fail("does not go with equivalent_to");
     }
+    explain(REASON_LENGTH, REASON, refusal, levels);
+    explain(REASON_ALL_LENGTH, REASON_ALL, refusal, all);
 }
 
 static void round_of_calls(void) {

@@ -21,11 +21,13 @@ typedef struct {
     __typeof__(berzhotun_static_encoding_str_array) *print;
     __typeof__(berzhotun_signature) *signature; // none in an archive from before it was there
     __typeof__(berzhotun_from_str_strict) *strict; // likewise
+    __typeof__(berzhotun_reason_len) *reason_len, *reason_all_len; // likewise
+    __typeof__(berzhotun_reason) *reason, *reason_all;
 } Build;
 
 static const char *const whats[] = {"whole-text reading", "reading from the start", "tree against tree", "with all fields",
                                     "tree against text", "size", "length", "print", "strict reading", "signature"};
-enum { TEXT = 4, STRICT = 8, SIGNATURE = 9 };
+enum { TREE = 2, ALL = 3, TEXT = 4, STRICT = 8, SIGNATURE = 9, REASON_LEN, REASON_ALL_LEN, REASON, REASON_ALL };
 
 static uint8_t text[BERZHOTUN_MAX_TEXT + 1], printed[BERZHOTUN_MAX_PRINT], output[BERZHOTUN_MAX_PRINT];
 static size_t text_len, printed_len;
@@ -52,7 +54,9 @@ static Build load(const char *path) {
                    symbol(library, "berzhotun_equivalent_to"),     symbol(library, "berzhotun_eq"),
                    symbol(library, "berzhotun_equivalent_to_str"), symbol(library, "berzhotun_size"),
                    symbol(library, "berzhotun_static_encoding_str_len"), symbol(library, "berzhotun_static_encoding_str_array"),
-                   dlsym(library, "berzhotun_signature"), dlsym(library, "berzhotun_from_str_strict")};
+                   dlsym(library, "berzhotun_signature"), dlsym(library, "berzhotun_from_str_strict"),
+                   dlsym(library, "berzhotun_reason_len"), dlsym(library, "berzhotun_reason_all_len"),
+                   dlsym(library, "berzhotun_reason"), dlsym(library, "berzhotun_reason_all")};
 }
 
 #define SHEET words, words[3], names, words[2]
@@ -64,13 +68,17 @@ static uint64_t call(const Build *build, int what) {
     switch (what) {
     case 0: return build->from_str(text, text_len, LENT, answer);
     case 1: return build->from_start_of_str(text, text_len, LENT, answer);
-    case 2: return build->equivalent_to(SHEET, OTHER, answer) + answer[0];
-    case 3: return build->eq(SHEET, OTHER, answer) + answer[0];
+    case TREE: return build->equivalent_to(SHEET, OTHER, answer) + answer[0];
+    case ALL: return build->eq(SHEET, OTHER, answer) + answer[0];
     case TEXT: return build->equivalent_to_str(SHEET, printed, printed_len, answer) + answer[0];
     case 5: return build->size(SHEET, answer) + answer[0];
     case 6: return build->len(SHEET, answer) + answer[0];
     case 7: return build->print(SHEET, output, sizeof output, answer) + answer[0];
     case STRICT: return build->strict(text, text_len, LENT, answer);
+    case REASON_LEN: return build->reason_len(SHEET, OTHER, answer) + answer[1];
+    case REASON_ALL_LEN: return build->reason_all_len(SHEET, OTHER, answer) + answer[1];
+    case REASON: return build->reason(SHEET, OTHER, output, sizeof output, answer) + answer[1];
+    case REASON_ALL: return build->reason_all(SHEET, OTHER, output, sizeof output, answer) + answer[1];
     default: return build->signature(text, text_len, list, BERZHOTUN_MAX_SIGNATURE, answer) + answer[0];
     }
 }
@@ -92,17 +100,22 @@ static void summed(const double *times, int builds, double *mean, double *least)
     }
 }
 
-static void row(const char *shape, const Build *builds, int each, int rounds, int what) {
-    double times[MOST_BUILDS] = {0}, mean[2], least[2];
+// The least time of each build.
+static void timed(const Build *builds, int count, int rounds, int what, double *times) {
     int calls = 1;
     while (batch(&builds[0], what, calls) < BATCH_NS) calls *= 2;
-    for (int i = 0; i < 2 * each; i++) times[i] = 1e18;
+    for (int i = 0; i < count; i++) times[i] = 1e18;
     for (int round = 0; round < rounds; round++) {
-        for (int i = 0; i < 2 * each; i++) {
+        for (int i = 0; i < count; i++) {
             double took = batch(&builds[i], what, calls) / calls;
             if (took < times[i]) times[i] = took;
         }
     }
+}
+
+static void row(const char *shape, const Build *builds, int each, int rounds, int what) {
+    double times[MOST_BUILDS] = {0}, mean[2], least[2];
+    timed(builds, 2 * each, rounds, what, times);
     summed(times, each, &mean[0], &least[0]);
     summed(times + each, each, &mean[1], &least[1]);
     printf("%-14s %-22s %9.1f %9.1f  %5.2f %5.2f\n", shape, whats[what], mean[0], mean[1], mean[1] / mean[0], least[1] / least[0]);
@@ -149,6 +162,68 @@ static const char *signature(int which) {
     }
 }
 
+// The two trees whose comparison is held against its reason; of most the second has another last node.
+static const char *pair(int which) {
+    static const struct { int shape; const char *name; } from_shapes[] = {{0, "a code"}, {1, "25 nodes"}, {2, "1,188 nodes"}, {5, "nested records"}};
+    text_len = 0;
+    if (which < 4) return shape(from_shapes[which].shape), from_shapes[which].name;
+    switch (which) {
+    case 4: return repeat("{R=", 1), repeat("i", 1000), repeat("}", 1), "1,000 fields";
+    case 5: return repeat("^", 2000), "2,000 pointers";
+    case 6: return repeat("{R=", 332), repeat("i", 1), repeat("}i", 331), repeat("}", 1), "not the last"; // each record has a field behind it
+    case 7: return repeat("{", 1), repeat("R", 1000), repeat("}", 1), "long names";
+    case 8: return shape(1), "25, equal";
+    case 9: return shape(2), "1,188, equal";
+    default: return NULL;
+    }
+}
+
+static void read_into(const Build *build, uint64_t *to_words, uint8_t *to_names) {
+    uint64_t answer[3];
+    if (build->from_str(text, text_len, to_words, BERZHOTUN_MAX_WORDS, to_names, BERZHOTUN_MAX_NAMES, answer)) fail("a text that does not read");
+}
+
+static void lend_pair(const Build *build, int which) {
+    read_into(build, words, names);
+    memcpy(other_words, words, sizeof words);
+    memcpy(other_names, names, sizeof names);
+    uint64_t *last = other_words + other_words[3] - 4;
+    if (which >= 8) return;
+    if (which == 7) other_names[999] = 'S';
+    else if (*last == BERZHOTUN_STRUCT) *last = BERZHOTUN_UNION;
+    else *last = *last == BERZHOTUN_INT ? BERZHOTUN_DOUBLE : BERZHOTUN_INT;
+}
+
+// A comparison, the length of its reason and the reason, all of the same two trees, and the reason by the comparison.
+static void reason_row(const char *name, const Build *builds, int each, int rounds, int compare, int measure, int reason) {
+    double times[MOST_BUILDS] = {0}, compared[2], measured[2], written[2];
+    timed(builds, each, rounds, compare, times);
+    summed(times, each, &compared[0], &compared[1]);
+    timed(builds, each, rounds, measure, times);
+    summed(times, each, &measured[0], &measured[1]);
+    timed(builds, each, rounds, reason, times);
+    summed(times, each, &written[0], &written[1]);
+    printf("%-14s %-22s %9.1f %9.1f %9.1f  %5.2f %5.2f\n", name, whats[compare], compared[0], measured[0], written[0],
+           written[0] / compared[0], written[1] / compared[1]);
+}
+
+// Of the archive AFTER alone.
+static void reason_rows(const Build *builds, int each, int rounds) {
+    for (int i = 0; i < each; i++) {
+        if (!builds[i].reason) {
+            printf("the archive AFTER has no berzhotun_reason: reasons are left out\n");
+            return;
+        }
+    }
+    printf("\n%-14s %-22s %9s %9s %9s  %5s %5s\n", "pair", "comparison", "compare", "length", "reason", "mean", "least");
+    for (int which = 0; pair(which); which++) {
+        lend_pair(&builds[0], which);
+        reason_row(pair(which), builds, each, rounds, TREE, REASON_LEN, REASON);
+        reason_row(pair(which), builds, each, rounds, ALL, REASON_ALL_LEN, REASON_ALL);
+    }
+    printf("\n");
+}
+
 int main(int count, char **given) {
     static Build builds[MOST_BUILDS];
     int rounds = count > 1 ? atoi(given[1]) : 0, each = (count - 2) / 2;
@@ -162,7 +237,7 @@ int main(int count, char **given) {
     printf("%-14s %-22s %9s %9s  %5s %5s\n", "tree", "what", "before", "after", "mean", "least");
     for (int which = 0; shape(which); which++) {
         uint64_t answer[3];
-        if (builds[0].from_str(text, text_len, words, BERZHOTUN_MAX_WORDS, names, BERZHOTUN_MAX_NAMES, answer)) fail("a text that does not read");
+        read_into(&builds[0], words, names);
         memcpy(other_words, words, sizeof words);
         memcpy(other_names, names, sizeof names);
         if (builds[0].print(SHEET, printed, sizeof printed, answer)) fail("a tree that does not print");
@@ -172,15 +247,15 @@ int main(int count, char **given) {
     // An empty record passes over the fields of these shapes.
     static const struct { int shape; const char *name; } passed[] = {{2, "1,188 passed"}, {3, "1,997 passed"}, {5, "nested passed"}};
     for (int i = 0; i < 3; i++) {
-        uint64_t answer[3];
         text_len = 0;
         repeat("{R=}", 1);
-        if (builds[0].from_str(text, text_len, words, BERZHOTUN_MAX_WORDS, names, BERZHOTUN_MAX_NAMES, answer)) fail("a text that does not read");
+        read_into(&builds[0], words, names);
         shape(passed[i].shape);
         printed_len = text_len;
         memcpy(printed, text, text_len);
         row(passed[i].name, builds, each, rounds, TEXT);
     }
+    reason_rows(builds + each, each, rounds);
     for (int i = 0; i < 2 * each; i++) {
         if (!builds[i].signature) return printf("one of the archives has no berzhotun_signature: signatures are left out\n"), 0;
     }

@@ -134,6 +134,43 @@ static void compare_some(void) {
     compare("@?", "@\"Rate\"");
 }
 
+/* Why the answer is no: the first difference, as bytes that a program can take apart. */
+static void explain(const char *first, const char *second) {
+    static struct tree a, b;
+    static uint8_t levels[BERZHOTUN_MAX_REASON], all_fields[BERZHOTUN_MAX_REASON];
+    uint64_t by_levels[2], by_all_fields[2];
+    if (!read_text(first, &a) || !read_text(second, &b)) {
+        return;
+    }
+    if (berzhotun_reason(LENT(a), LENT(b), levels, sizeof levels, by_levels) == 0 &&
+        berzhotun_reason_all(LENT(a), LENT(b), all_fields, sizeof all_fields, by_all_fields) == 0) {
+        printf("%-10s %-10s %-22.*s %.*s\n", first, second, by_levels[0] ? 3 : (int)by_levels[1],
+               by_levels[0] ? "yes" : (const char *)levels, by_all_fields[0] ? 3 : (int)by_all_fields[1],
+               by_all_fields[0] ? "yes" : (const char *)all_fields);
+    }
+}
+
+static void explain_some(void) {
+    static struct tree a, b;
+    uint8_t out[12];
+    uint64_t length[2], answer[2];
+    printf("\n%-10s %-10s %-22s %s\n", "tree", "other", "equivalent", "all fields");
+    explain("i", "d");
+    explain("{R=i^v}", "{R=i^i}");
+    explain("{R=i}", "{S=i}");
+    explain("{R=ii}", "{R=i}");
+    explain("{R=i}", "{R}");
+    explain("[3c]", "[12c]");
+    explain("b0i3", "b8i3");
+    explain("b3", "b0i3");
+    explain("^^{R=i}", "^^{R=d}");
+    /* The length may be asked first; an output that is too short is left as it was. */
+    if (read_text("i", &a) && read_text("d", &b) && berzhotun_reason_len(LENT(a), LENT(b), length) == 0) {
+        uint64_t refusal = berzhotun_reason(LENT(a), LENT(b), out, sizeof out, answer);
+        printf("  a reason of %" PRIu64 " bytes, an output of %d: %s\n", length[1], (int)sizeof out, in_words[refusal]);
+    }
+}
+
 /* One type from the start of a text, and where the rest begins. */
 static void read_start(const char *text) {
     static struct tree tree;
@@ -208,6 +245,7 @@ static void refuse_some(void) {
 int main(void) {
     read_print_size();
     compare_some();
+    explain_some();
     read_start("{R=i}16@0:8");
     take_some_apart();
     register_some();
