@@ -22,7 +22,12 @@ pub struct Finder {
 
 impl Finder {
     /// The reason's bytes, or none for a yes.
-    pub fn find<A: EncodingType, B: EncodingType>(&mut self, a: &A, b: &B, include_all: bool) -> Option<&[u8]> {
+    pub fn find<A: EncodingType, B: EncodingType>(
+        &mut self,
+        a: &A,
+        b: &B,
+        include_all: bool,
+    ) -> Option<&[u8]> {
         self.path.clear();
         let found = walk(a, b, NestingLevel::new(), include_all, &mut self.path)?;
         self.put(found);

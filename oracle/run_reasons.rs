@@ -20,7 +20,8 @@ const OUT: usize = 2 * MOST;
 
 /// What short trees are made of: each of the words occurs, at the root and below.
 const TOKENS: [&str; 18] = [
-    "i", "@", "#", "b1", "b2", "b0i1", "b0s1", "b1i1", "^", "A", "[1", "[2", "]", "{R=", "{S=", "(R=", "}", ")",
+    "i", "@", "#", "b1", "b2", "b0i1", "b0s1", "b1i1", "^", "A", "[1", "[2", "]", "{R=", "{S=", "(R=", "}",
+    ")",
 ];
 
 /// Every pair of texts of up to `most` tokens that can be read.
@@ -145,7 +146,8 @@ impl Check {
         if which != 1 {
             b = damage::of(garbage, &case.b);
         }
-        let verdict = plain::verdict_of_two(plain::verdict(&a.words, &a.names), plain::verdict(&b.words, &b.names));
+        let verdict =
+            plain::verdict_of_two(plain::verdict(&a.words, &a.names), plain::verdict(&b.words, &b.names));
         if verdict == 0 {
             return Ok(());
         }
