@@ -64,7 +64,7 @@ fn all(seed: u64, count: u64) -> bool {
     same &= signatures(seed, count);
     same &= short_strict(4);
     same &= strict(seed, count);
-    same &= short_reasons(3);
+    same &= short_reasons(4);
     same &= reasons(seed, count);
     same
 }

@@ -168,22 +168,31 @@ pub fn mutated(random: &mut Random, tree: &Tree) -> Tree {
 /// number, name or count, fields in another order, or fields that levels hide.
 pub fn changed(random: &mut Random, tree: &Tree) -> Tree {
     let mut changed = tree.clone();
-    match random.below(16) {
-        0..=3 => change_number(random, &mut changed),
-        4 => add_field(random, &mut changed),
-        5 => remove_field(random, &mut changed),
-        6 | 7 => swap_fields(random, &mut changed),
-        8 => change_last_byte(random, &mut changed),
-        9 => change_last(random, &mut changed),
-        10 => change_code(random, &mut changed),
-        _ => mutate(random, &mut changed),
-    }
-    repack(&mut changed);
-    let too_large = changed.nodes.len() as u64 > MOST_NODES || changed.names.len() as u64 > MOST_NAME_BYTES;
-    if too_large {
-        return tree.clone();
+    // Not every tree has what is to be changed.
+    for _ in 0..6 {
+        change(random, &mut changed);
+        repack(&mut changed);
+        let too_large =
+            changed.nodes.len() as u64 > MOST_NODES || changed.names.len() as u64 > MOST_NAME_BYTES;
+        if !too_large && changed != *tree {
+            break;
+        }
+        changed.clone_from(tree);
     }
     changed
+}
+
+fn change(random: &mut Random, tree: &mut Tree) {
+    match random.below(16) {
+        0..=4 => change_number(random, tree),
+        5 => add_field(random, tree),
+        6 => remove_field(random, tree),
+        7 => swap_fields(random, tree),
+        8 => change_last_byte(random, tree),
+        9 => change_last(random, tree),
+        10 | 11 => change_code(random, tree),
+        _ => mutate(random, tree),
+    }
 }
 
 fn mutate(random: &mut Random, tree: &mut Tree) {
