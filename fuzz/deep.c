@@ -124,27 +124,26 @@ static void make_records(void) {
 
 /* The tree against itself and against one with another node at `at`: comparisons and their reasons. */
 static void run_pair(size_t at) {
-    static const enum function functions[] = {EQUIVALENT, EQ, REASON_LENGTH, REASON_ALL_LENGTH, REASON, REASON_ALL};
+    static const enum function functions[] = {EQUIVALENT,        EQUIVALENT_BOX, EQ,        REASON_LENGTH,
+                                              REASON_ALL_LENGTH, REASON,         REASON_ALL};
     size_t i;
     other = tree;
     other.words[4 + 4 * at] = BERZHOTUN_DOUBLE;
     lend_sheet(0, &tree);
-    for (i = 0; i < 12; i++) {
-        lend_sheet(1, i < 6 ? &tree : &other);
-        if (call_on_stack(functions[i % 6]) != 0) {
+    for (i = 0; i < 14; i++) {
+        lend_sheet(1, i < 7 ? &tree : &other);
+        if (call_on_stack(functions[i % 7]) != 0) {
             fail("refused a deep pair");
         }
     }
 }
 
-/* Every function that takes trees, the tree against itself and against as much of its print as a text can have. */
-static void run_chain(const uint64_t *kinds, size_t count) {
-    static const enum function functions[] = {EQUIVALENT, EQUIVALENT_BOX, EQ, SIZE, LENGTH, PRINT, MATCHES};
+/* Every function that takes trees, of two with another last node, and against as much of its print as a text can have. */
+static void run_tree(void) {
+    static const enum function functions[] = {SIZE, LENGTH, PRINT, MATCHES};
     size_t i;
-    make_chain(kinds, count);
     run_pair(BERZHOTUN_MAX_NODES - 1);
     lend_sheet(0, &tree);
-    lend_sheet(1, &tree);
     for (i = 0; i < sizeof functions / sizeof functions[0]; i++) {
         if (functions[i] == MATCHES) {
             if (print.length > BERZHOTUN_MAX_TEXT) {
@@ -153,9 +152,14 @@ static void run_chain(const uint64_t *kinds, size_t count) {
             lend_text(&print);
         }
         if (call_on_stack(functions[i]) != 0) {
-            fail("refused a chain");
+            fail("refused a deep tree");
         }
     }
+}
+
+static void run_chain(const uint64_t *kinds, size_t count) {
+    make_chain(kinds, count);
+    run_tree();
 }
 
 static void run_chains(void) {
@@ -168,7 +172,7 @@ static void run_chains(void) {
     run_chain(rows, 3);
     make_records();
     run_pair(1000);
-    run_pair(BERZHOTUN_MAX_NODES - 1);
+    run_tree();
 }
 
 static void repeat(const char *part, size_t times) {

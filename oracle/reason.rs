@@ -1,8 +1,6 @@
 //! The reason for a no as request N4 has it, over the crate's own trees: its comparison (helper.rs,
 //! `compare_encodings`) in its order, up to the first thing that it finds unequal.
 
-use std::io::Write as _;
-
 use crate::helper::{ContainerKind, EncodingType, Helper, IndirectionKind, NestingLevel};
 use crate::sheet::*;
 
@@ -35,21 +33,46 @@ impl Finder {
     }
 
     fn put(&mut self, found: Difference) {
-        self.bytes.clear();
-        for (i, item) in self.path.iter().enumerate() {
-            let dot = if i == 0 { "" } else { "." };
-            write!(self.bytes, "{dot}{item}").unwrap();
+        let bytes = &mut self.bytes;
+        bytes.clear();
+        for (i, &item) in self.path.iter().enumerate() {
+            if i > 0 {
+                bytes.push(b'.');
+            }
+            put_number(bytes, item as u64);
         }
+        bytes.push(b':');
         match found {
             Difference::Numbers(word, first, second) => {
-                let (first, second) = (first.to_string(), second.to_string());
-                write!(self.bytes, ":{word} {}:{first} {}:{second}", first.len(), second.len()).unwrap();
+                bytes.extend_from_slice(word.as_bytes());
+                for number in [first, second] {
+                    put_length(bytes, number.checked_ilog10().map_or(1, |log| log as usize + 1));
+                    put_number(bytes, number);
+                }
             }
             Difference::Names(first, second) => {
-                write!(self.bytes, ":name {}:{first} {}:{second}", first.len(), second.len()).unwrap();
+                bytes.extend_from_slice(b"name");
+                for name in [first, second] {
+                    put_length(bytes, name.len());
+                    bytes.extend_from_slice(name.as_bytes());
+                }
             }
         }
     }
+}
+
+/// What stands before a value of so many bytes.
+fn put_length(bytes: &mut Vec<u8>, length: usize) {
+    bytes.push(b' ');
+    put_number(bytes, length as u64);
+    bytes.push(b':');
+}
+
+fn put_number(bytes: &mut Vec<u8>, number: u64) {
+    if number >= 10 {
+        put_number(bytes, number / 10);
+    }
+    bytes.push(b'0' + (number % 10) as u8);
 }
 
 /// The first difference of two nodes; the path, which leads to them, is then lengthened to where it is.

@@ -8,7 +8,7 @@ use crate::sheet::*;
 use crate::trees::{Node, Tree};
 
 pub fn run(kibibytes: usize) -> bool {
-    let trees = chains();
+    let trees = deepest();
     let pairs = deep_pairs();
     let all_fit = move || {
         trees.iter().all(tree_fits) && pairs.iter().all(pair_fits) && texts_fit() && signatures_fit()
@@ -22,8 +22,9 @@ pub fn run(kibibytes: usize) -> bool {
     fits
 }
 
-/// Chains of 2,001 nodes, of each kind that holds something and of all in turn.
-fn chains() -> Vec<Tree> {
+/// Chains of 2,001 nodes, of each kind that holds something and of all in turn; and records that are not the
+/// last field of theirs, so that a walk must come back to each.
+fn deepest() -> Vec<Tree> {
     let kinds: [&[u64]; 8] = [
         &[POINTER],
         &[ATOMIC],
@@ -34,7 +35,7 @@ fn chains() -> Vec<Tree> {
         &[STRUCT, POINTER, UNION, ARRAY],
         &[ARRAY, TYPED_BITFIELD],
     ];
-    kinds.iter().map(|kinds| chain(kinds)).collect()
+    kinds.iter().map(|kinds| chain(kinds)).chain([records()]).collect()
 }
 
 fn chain(kinds: &[u64]) -> Tree {
@@ -53,12 +54,10 @@ fn chain(kinds: &[u64]) -> Tree {
     tree
 }
 
-/// Each chain against one with another node in the end; records that are not the last field of theirs, so that
-/// a walk must come back to each, against the same with another innermost or last field.
+/// Each of them against one with another last node; the records also with another innermost field.
 fn deep_pairs() -> Vec<(Tree, Tree)> {
-    let mut pairs: Vec<_> = chains().into_iter().map(|chain| (chain.clone(), with_other(&chain, 2000))).collect();
-    let records = records();
-    pairs.extend([1000, 2000].map(|at| (records.clone(), with_other(&records, at))));
+    let mut pairs: Vec<_> = deepest().into_iter().map(|tree| (tree.clone(), with_other(&tree, 2000))).collect();
+    pairs.push((records(), with_other(&records(), 1000)));
     pairs
 }
 

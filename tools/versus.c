@@ -100,24 +100,27 @@ static void summed(const double *times, int builds, double *mean, double *least)
     }
 }
 
-// The least time of each build.
-static void timed(const Build *builds, int count, int rounds, int what, double *times) {
-    int calls = 1;
-    while (batch(&builds[0], what, calls) < BATCH_NS) calls *= 2;
-    for (int i = 0; i < count; i++) times[i] = 1e18;
+// The least time of each build for each of some calls, all in turn.
+static void timed(const Build *builds, int count, int rounds, const int *what, int kinds, double times[][MOST_BUILDS]) {
+    int calls[3];
+    for (int k = 0; k < kinds; k++) {
+        for (calls[k] = 1; batch(&builds[0], what[k], calls[k]) < BATCH_NS;) calls[k] *= 2;
+        for (int i = 0; i < count; i++) times[k][i] = 1e18;
+    }
     for (int round = 0; round < rounds; round++) {
-        for (int i = 0; i < count; i++) {
-            double took = batch(&builds[i], what, calls) / calls;
-            if (took < times[i]) times[i] = took;
+        for (int i = 0; i < count * kinds; i++) {
+            int build = i / kinds, k = i % kinds;
+            double took = batch(&builds[build], what[k], calls[k]) / calls[k];
+            if (took < times[k][build]) times[k][build] = took;
         }
     }
 }
 
 static void row(const char *shape, const Build *builds, int each, int rounds, int what) {
-    double times[MOST_BUILDS] = {0}, mean[2], least[2];
-    timed(builds, 2 * each, rounds, what, times);
-    summed(times, each, &mean[0], &least[0]);
-    summed(times + each, each, &mean[1], &least[1]);
+    double times[1][MOST_BUILDS], mean[2], least[2];
+    timed(builds, 2 * each, rounds, &what, 1, times);
+    summed(times[0], each, &mean[0], &least[0]);
+    summed(times[0] + each, each, &mean[1], &least[1]);
     printf("%-14s %-22s %9.1f %9.1f  %5.2f %5.2f\n", shape, whats[what], mean[0], mean[1], mean[1] / mean[0], least[1] / least[0]);
 }
 
@@ -195,16 +198,11 @@ static void lend_pair(const Build *build, int which) {
 }
 
 // A comparison, the length of its reason and the reason, all of the same two trees, and the reason by the comparison.
-static void reason_row(const char *name, const Build *builds, int each, int rounds, int compare, int measure, int reason) {
-    double times[MOST_BUILDS] = {0}, compared[2], measured[2], written[2];
-    timed(builds, each, rounds, compare, times);
-    summed(times, each, &compared[0], &compared[1]);
-    timed(builds, each, rounds, measure, times);
-    summed(times, each, &measured[0], &measured[1]);
-    timed(builds, each, rounds, reason, times);
-    summed(times, each, &written[0], &written[1]);
-    printf("%-14s %-22s %9.1f %9.1f %9.1f  %5.2f %5.2f\n", name, whats[compare], compared[0], measured[0], written[0],
-           written[0] / compared[0], written[1] / compared[1]);
+static void reason_row(const char *name, const Build *builds, int each, int rounds, const int what[3]) {
+    double times[3][MOST_BUILDS], mean[3], least[3];
+    timed(builds, each, rounds, what, 3, times);
+    for (int k = 0; k < 3; k++) summed(times[k], each, &mean[k], &least[k]);
+    printf("%-14s %-22s %9.1f %9.1f %9.1f  %5.2f %5.2f\n", name, whats[what[0]], mean[0], mean[1], mean[2], mean[2] / mean[0], least[2] / least[0]);
 }
 
 // Of the archive AFTER alone.
@@ -218,8 +216,8 @@ static void reason_rows(const Build *builds, int each, int rounds) {
     printf("\n%-14s %-22s %9s %9s %9s  %5s %5s\n", "pair", "comparison", "compare", "length", "reason", "mean", "least");
     for (int which = 0; pair(which); which++) {
         lend_pair(&builds[0], which);
-        reason_row(pair(which), builds, each, rounds, TREE, REASON_LEN, REASON);
-        reason_row(pair(which), builds, each, rounds, ALL, REASON_ALL_LEN, REASON_ALL);
+        reason_row(pair(which), builds, each, rounds, (const int[]){TREE, REASON_LEN, REASON});
+        reason_row(pair(which), builds, each, rounds, (const int[]){ALL, REASON_ALL_LEN, REASON_ALL});
     }
     printf("\n");
 }
