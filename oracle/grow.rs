@@ -164,8 +164,8 @@ pub fn mutated(random: &mut Random, tree: &Tree) -> Tree {
     changed
 }
 
-/// Changes a tree in one place, so that a comparison that goes there meets one difference: another kind,
-/// number, name or count, fields in another order, or fields that levels hide.
+/// Changes a tree in one place: another kind, number, name or count, fields in another order, fields that
+/// levels hide; or several of these at one node and below it.
 pub fn changed(random: &mut Random, tree: &Tree) -> Tree {
     let mut changed = tree.clone();
     // Not every tree has what is to be changed.
@@ -184,7 +184,8 @@ pub fn changed(random: &mut Random, tree: &Tree) -> Tree {
 
 fn change(random: &mut Random, tree: &mut Tree) {
     match random.below(16) {
-        0..=4 => change_number(random, tree),
+        0..=2 => change_number(random, tree),
+        3 | 4 => change_several(random, tree),
         5 => add_field(random, tree),
         6 => remove_field(random, tree),
         7 => swap_fields(random, tree),
@@ -254,6 +255,36 @@ fn remove_field(random: &mut Random, tree: &mut Tree) {
         let child = if child == end { at + 1 } else { child };
         let count = tree.nodes[child].count as usize;
         splice(tree, child, count, &Tree::default());
+    }
+}
+
+/// Several things at one node and below it, so that it matters which of them is met first.
+fn change_several(random: &mut Random, tree: &mut Tree) {
+    let bitfield = random.percent(40);
+    let test = |_: usize, node: &Node| if bitfield { node.kind == TYPED_BITFIELD } else { node.count > 1 };
+    let Some(at) = find(random, tree, test) else { return };
+    for below in at + 1..at + tree.nodes[at].count as usize {
+        if tree.nodes[below].kind < BITFIELD && random.percent(50) {
+            tree.nodes[below].kind = random.below(24) as u64;
+        }
+    }
+    match tree.nodes[at].kind {
+        TYPED_BITFIELD => {
+            tree.nodes[at].first = number(random);
+            tree.nodes[at].second = bits(random);
+        }
+        ARRAY => tree.nodes[at].first = number(random),
+        POINTER | ATOMIC => tree.nodes[at].kind = random.pick(&[POINTER, POINTER, ATOMIC]),
+        _ => {
+            if random.percent(60) {
+                insert_under(tree, at, at + 1, &small_tree(random));
+            }
+            if random.percent(40) {
+                tree.nodes[at].first = tree.names.len() as u64;
+                tree.nodes[at].second = 1;
+                tree.names.push(b'S');
+            }
+        }
     }
 }
 

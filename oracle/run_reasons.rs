@@ -19,9 +19,9 @@ const BEYOND: usize = 32;
 const OUT: usize = 2 * MOST;
 
 /// What short trees are made of: each of the words occurs, at the root and below.
-const TOKENS: [&str; 18] = [
-    "i", "@", "#", "b1", "b2", "b0i1", "b0s1", "b1i1", "^", "A", "[1", "[2", "]", "{R=", "{S=", "(R=", "}",
-    ")",
+const TOKENS: [&str; 19] = [
+    "i", "@", "#", "b1", "b2", "b0i1", "b0s1", "b1i1", "b1s2", "^", "A", "[1", "[2", "]", "{R=", "{S=",
+    "(R=", "}", ")",
 ];
 
 /// Every pair of texts of up to `most` tokens that can be read.
