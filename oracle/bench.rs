@@ -139,6 +139,7 @@ fn bench_reason(name: &str, tree: &Tree) {
     let (words, other_words) = (tree.words(), other.words());
     let sheet = Sheet { words: &words, names: &tree.names };
     let other_sheet = Sheet { words: &other_words, names: &other.names };
+    assert_eq!(library::equivalent_to(sheet, other_sheet), library::reply(0, &[0]), "the pair is a no");
     let mut finder = Finder::default();
     let mut out = vec![0; 8016];
 

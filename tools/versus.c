@@ -190,11 +190,10 @@ static void lend_pair(const Build *build, int which) {
     read_into(build, words, names);
     memcpy(other_words, words, sizeof words);
     memcpy(other_names, names, sizeof names);
-    uint64_t *last = other_words + other_words[3] - 4;
-    if (which >= 8) return;
+    uint64_t *last = other_words + other_words[3] - 4, answer[1];
     if (which == 7) other_names[999] = 'S';
-    else if (*last == BERZHOTUN_STRUCT) *last = BERZHOTUN_UNION;
-    else *last = *last == BERZHOTUN_INT ? BERZHOTUN_DOUBLE : BERZHOTUN_INT;
+    else if (which < 7) *last = *last == BERZHOTUN_STRUCT ? BERZHOTUN_UNION : *last == BERZHOTUN_INT ? BERZHOTUN_DOUBLE : BERZHOTUN_INT;
+    if (build->equivalent_to(SHEET, OTHER, answer) || answer[0] != (which >= 8)) fail("a pair that does not compare as it should");
 }
 
 // A comparison, the length of its reason and the reason, all of the same two trees, and the reason by the comparison.
