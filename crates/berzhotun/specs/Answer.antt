@@ -11,6 +11,8 @@ use Rattle.helper.specs.declared.Sized.the-variants as S
 use Rattle.parse.specs.Answer.{fromStartRest}
 use Rattle.parse.specs.declared.Reading.{Reading}
 use Rattle.parse.specs.declared.Reading.the-variants as G
+use Rattle.reason.specs.declared.Reasoned.{Reasoned}
+use Rattle.reason.specs.declared.Reasoned.the-variants as N
 use Rattle.signature.specs.declared.SignatureReading.{SignatureReading}
 use Rattle.signature.specs.declared.SignatureReading.the-variants as I
 use Rattle.static_str.specs.declared.Printed.{Printed}
@@ -36,6 +38,17 @@ abbrev pub compareValues : Compared → List ℕ
 compareValues (C.Refused r) = 0 ∷ []
 compareValues (C.Decided true) = 1 ∷ []
 compareValues (C.Decided false) = 0 ∷ []
+
+abbrev pub reasonNumber : Reasoned → ℕ
+reasonNumber (N.Refused r) = number r
+reasonNumber N.Yes = 0
+reasonNumber (N.Bytes n) = 0
+
+-- 1 and 0 for yes; for no, 0 and the count of the reason's bytes.
+abbrev pub reasonValues : Reasoned → List ℕ
+reasonValues (N.Refused r) = 0 ∷ 0 ∷ []
+reasonValues N.Yes = 1 ∷ 0 ∷ []
+reasonValues (N.Bytes n) = 0 ∷ n ∷ []
 
 abbrev pub printNumber : Printed → ℕ
 printNumber (P.Refused r) = number r

@@ -7,12 +7,15 @@ ghost use Rattle.parse.specs.Answer.{fromStrAnswer, fromStrWords, fromStrNames,
 ghost use Rattle.parse.specs.Answer.{fromStrStrictAnswer, fromStrStrictWords, fromStrStrictNames};
 ghost use Rattle.expect.specs.Answer.{compared};
 ghost use Rattle.helper.specs.Answer.{sizeAnswer, compareAnswer};
+ghost use Rattle.reason.specs.Answer.{reasonLen, reasonAnswer, reasonOutput};
 ghost use Rattle.signature.specs.Answer.{signatureAnswer, signatureList};
 ghost use Rattle.static_str.specs.Answer.{encodingLen, encodingArray, encodingOutput};
 ghost use Rattle.berzhotun.specs.Answer.{sizeNumber, sizeValues, compareNumber, compareValues, printNumber, printValues, readNumber, readValues, restPlace, signatureNumber, signatureValues};
+ghost use Rattle.berzhotun.specs.Answer.{reasonNumber, reasonValues};
 use helper::Sized;
 use kinds::Compared;
 use parse::Reading;
+use reason::Reasoned;
 use signature::SignatureReading;
 use static_str::Printed;
 
@@ -70,6 +73,27 @@ fn give_sized(s: Sized, answer: &mut [u64; 2]) -> u64
         }
         Sized::Bytes(n) => {
             *answer = [1, n];
+            0
+        }
+    }
+}
+
+// A reason's answer as numbers.
+fn give_reasoned(reasoned: Reasoned, answer: &mut [u64; 2]) -> u64
+    ensures returns { λ r. ⌜ r ≡ reasonNumber reasoned ⌝ }
+    ensures answers { λ _. ⌜ now (answer .exit) ≡ reasonValues reasoned ⌝ }
+{
+    match reasoned {
+        Reasoned::Refused(why) => {
+            *answer = [0, 0];
+            why.number()
+        }
+        Reasoned::Yes => {
+            *answer = [1, 0];
+            0
+        }
+        Reasoned::Bytes(n) => {
+            *answer = [0, n as u64];
             0
         }
     }
@@ -157,6 +181,66 @@ pub extern "C" fn berzhotun_eq(
     ensures answers { λ _. ⌜ now (answer .exit) ≡ compareValues (compareAnswer true (now (aw .entry)) (now (an .entry)) (now (bw .entry)) (now (bn .entry))) ⌝ }
 {
     give_compared(encoding_box::eq(aw, an, bw, bn), answer)
+}
+
+#[no_mangle]
+pub extern "C" fn berzhotun_reason_len(
+    aw: &[u64],
+    an: &[u8],
+    bw: &[u64],
+    bn: &[u8],
+    answer: &mut [u64; 2],
+) -> u64
+    ensures returns { λ r. ⌜ r ≡ reasonNumber (reasonLen false (now (aw .entry)) (now (an .entry)) (now (bw .entry)) (now (bn .entry))) ⌝ }
+    ensures answers { λ _. ⌜ now (answer .exit) ≡ reasonValues (reasonLen false (now (aw .entry)) (now (an .entry)) (now (bw .entry)) (now (bn .entry))) ⌝ }
+{
+    give_reasoned(reason::reason_len(aw, an, bw, bn, false), answer)
+}
+
+#[no_mangle]
+pub extern "C" fn berzhotun_reason(
+    aw: &[u64],
+    an: &[u8],
+    bw: &[u64],
+    bn: &[u8],
+    out: &mut [u8],
+    answer: &mut [u64; 2],
+) -> u64
+    ensures returns { λ r. ⌜ r ≡ reasonNumber (reasonAnswer false (now (aw .entry)) (now (an .entry)) (now (bw .entry)) (now (bn .entry)) (length (now (out .entry)))) ⌝ }
+    ensures answers { λ _. ⌜ now (answer .exit) ≡ reasonValues (reasonAnswer false (now (aw .entry)) (now (an .entry)) (now (bw .entry)) (now (bn .entry)) (length (now (out .entry)))) ⌝ }
+    ensures writes { λ _. ⌜ now (out .exit) ≡ reasonOutput false (now (aw .entry)) (now (an .entry)) (now (bw .entry)) (now (bn .entry)) (now (out .entry)) ⌝ }
+{
+    give_reasoned(reason::reason(aw, an, bw, bn, false, out), answer)
+}
+
+#[no_mangle]
+pub extern "C" fn berzhotun_reason_all_len(
+    aw: &[u64],
+    an: &[u8],
+    bw: &[u64],
+    bn: &[u8],
+    answer: &mut [u64; 2],
+) -> u64
+    ensures returns { λ r. ⌜ r ≡ reasonNumber (reasonLen true (now (aw .entry)) (now (an .entry)) (now (bw .entry)) (now (bn .entry))) ⌝ }
+    ensures answers { λ _. ⌜ now (answer .exit) ≡ reasonValues (reasonLen true (now (aw .entry)) (now (an .entry)) (now (bw .entry)) (now (bn .entry))) ⌝ }
+{
+    give_reasoned(reason::reason_len(aw, an, bw, bn, true), answer)
+}
+
+#[no_mangle]
+pub extern "C" fn berzhotun_reason_all(
+    aw: &[u64],
+    an: &[u8],
+    bw: &[u64],
+    bn: &[u8],
+    out: &mut [u8],
+    answer: &mut [u64; 2],
+) -> u64
+    ensures returns { λ r. ⌜ r ≡ reasonNumber (reasonAnswer true (now (aw .entry)) (now (an .entry)) (now (bw .entry)) (now (bn .entry)) (length (now (out .entry)))) ⌝ }
+    ensures answers { λ _. ⌜ now (answer .exit) ≡ reasonValues (reasonAnswer true (now (aw .entry)) (now (an .entry)) (now (bw .entry)) (now (bn .entry)) (length (now (out .entry)))) ⌝ }
+    ensures writes { λ _. ⌜ now (out .exit) ≡ reasonOutput true (now (aw .entry)) (now (an .entry)) (now (bw .entry)) (now (bn .entry)) (now (out .entry)) ⌝ }
+{
+    give_reasoned(reason::reason(aw, an, bw, bn, true, out), answer)
 }
 
 #[no_mangle]
