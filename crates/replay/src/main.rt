@@ -8,6 +8,7 @@ use libc::STDIN_FILENO;
 use libc::STDOUT_FILENO;
 use lines::Decoded;
 use parse::Reading;
+use reason::Reasoned;
 use sheet::MAX_WORDS;
 use signature::SignatureReading;
 use static_str::Printed;
@@ -195,6 +196,26 @@ fn answer_text(words: &[u64], names: &[u8], text: &[u8], out: &mut [u8]) -> usiz
     put_compared(out, 0, encoding::equivalent_to_str(words, names, text))
 }
 
+// The reason's bytes go into `text` first.
+fn answer_reason(
+    aw: &[u64],
+    an: &[u8],
+    bw: &[u64],
+    bn: &[u8],
+    all: bool,
+    text: &mut [u8],
+    out: &mut [u8],
+) -> usize {
+    match reason::reason(aw, an, bw, bn, all, text) {
+        Reasoned::Refused(why) => put_refused(out, b"refused ", why),
+        Reasoned::Yes => put_yes_no(out, 0, true),
+        Reasoned::Bytes(n) => {
+            let at = lines::put_bytes(out, 0, b"no ");
+            lines::put_hex(out, at, lines::front(text, n))
+        }
+    }
+}
+
 fn is_reading(question: &[u8]) -> bool {
     if check::same(question, b"read") {
         return true;
@@ -293,6 +314,12 @@ fn is_comparison(question: &[u8]) -> bool {
     if check::same(question, b"equivalent-box") {
         return true;
     }
+    if check::same(question, b"reason") {
+        return true;
+    }
+    if check::same(question, b"reason-all") {
+        return true;
+    }
     check::same(question, b"equal")
 }
 
@@ -302,6 +329,7 @@ fn answer_two(
     an: &[u8],
     bw: &[u64],
     bn: &[u8],
+    text: &mut [u8],
     out: &mut [u8],
 ) -> usize {
     if check::same(question, b"equal") {
@@ -309,6 +337,12 @@ fn answer_two(
     }
     if check::same(question, b"equivalent-box") {
         return put_compared(out, 0, encoding::equivalent_to_box(aw, an, bw, bn));
+    }
+    if check::same(question, b"reason") {
+        return answer_reason(aw, an, bw, bn, false, text, out);
+    }
+    if check::same(question, b"reason-all") {
+        return answer_reason(aw, an, bw, bn, true, text, out);
     }
     put_compared(out, 0, encoding::equivalent_to(aw, an, bw, bn))
 }
@@ -326,7 +360,7 @@ fn answer_trees(
     match load_trees(arguments, text, aw, an, bw, bn) {
         Loaded::Unread(why) => put_refused(out, b"unread ", why),
         Loaded::Bad => put_bad_line(out),
-        Loaded::Tree => answer_two(question, aw, an, bw, bn, out),
+        Loaded::Tree => answer_two(question, aw, an, bw, bn, text, out),
     }
 }
 
