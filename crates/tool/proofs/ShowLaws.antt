@@ -8,13 +8,15 @@ use mathlib.Core.Bool.{Bool, true, false, cond, _||_}
 use mathlib.Core.List.{List, [], _∷_, _++_}
 use lib.Dec.{eqb}
 use lib.ListN.{take, drop, length, getD}
-use lib.Seq.{take-nil}
+use lib.Seq.{take-nil, sets}
 use borrow.Author.Tests.{le-leb, lt-leb, lt-ltb, le-ltb, eq-eqb, ne-eqb, eqb-false}
 use Rattle.kinds.proofs.ListLaws.{unread, unread-end}
-use Rattle.lines.specs.Answer.{until}
+use Rattle.lines.specs.Answer.{until, decimals}
+use Rattle.lines.proofs.PutLaws.{sets-out}
 use Rattle.kinds.specs.Print.{decimal}
 use Rattle.tool.specs.Answer.{countOf, shownByte, times, holders, depthOf, lineOf, countText, kindNames, valuesText, rightText, nodeText, columnText, entryText}
 use Rattle.tool.specs.Answer.{byteText, containerText, shownText, shownOrCut, markText, namedText, refusedBy}
+use Rattle.tool.specs.Answer.{before, after, compoundNames, kindText, placeText, unitText, valueText, differenceBy, differenceText}
 
 pub counts : (b : ℕ) (s : List ℕ) (i : ℕ) → i < length s → getD s i 0 ≡ b → countOf b (drop i s) ≡ suc (countOf b (drop (i + 1) s))
 unfolding countOf
@@ -196,3 +198,59 @@ pub refused-is : (line text why reason : List ℕ) (carried : ℕ) → carried �
     ≡ refusedBy line text why
 unfolding refusedBy
 refused-is line text why reason carried p q = rw (p, q)
+
+-- ---- The sentence of a reason by cases.
+
+-- The first of the numbers that are put into a list of one.
+pub first-number : (s : List ℕ) → getD (sets (0 ∷ []) 0 s) 0 0 ≡ getD s 0 0
+first-number [] = refl
+first-number (x ∷ s) = ap (λ (l : List ℕ). getD l 0 0) (sets-out (x ∷ []) 1 s (omega arith))
+
+pub kind-primitive : (k : ℕ) → k < 24 → lineOf k kindNames ≡ kindText k
+unfolding kindText
+kind-primitive k h = sym (rw (lt-ltb k 24 h))
+
+pub kind-compound : (k : ℕ) → 24 ≤ k → lineOf (k - 24) compoundNames ≡ kindText k
+unfolding kindText
+kind-compound k h = sym (rw (le-ltb k 24 h))
+
+pub place-root : (path : List ℕ) → length path ≡ 0 → (116 ∷ 104 ∷ 101 ∷ 32 ∷ 114 ∷ 111 ∷ 111 ∷ 116 ∷ []) ≡ placeText path
+unfolding placeText
+place-root path h = sym (rw (eq-eqb (length path) 0 h))
+
+pub place-item : (path : List ℕ) → (length path ≡ 0 → ⊥) → (105 ∷ 116 ∷ 101 ∷ 109 ∷ 32 ∷ []) ++ path ≡ placeText path
+unfolding placeText
+place-item path h = sym (rw (ne-eqb (length path) 0 h))
+
+pub unit-size : (b : ℕ) → b ≡ 115 → (32 ∷ 105 ∷ 110 ∷ 32 ∷ 98 ∷ 105 ∷ 116 ∷ 115 ∷ []) ≡ unitText b
+unfolding unitText
+unit-size b e = sym (rw (eq-eqb b 115 e))
+
+pub unit-count : (b : ℕ) → (b ≡ 115 → ⊥) → b ≡ 99 → (32 ∷ 111 ∷ 102 ∷ 32 ∷ 102 ∷ 105 ∷ 101 ∷ 108 ∷ 100 ∷ 115 ∷ []) ≡ unitText b
+unfolding unitText
+unit-count b d e = sym (rw (ne-eqb b 115 d, eq-eqb b 99 e))
+
+pub unit-none : (b : ℕ) → (b ≡ 115 → ⊥) → (b ≡ 99 → ⊥) → [] ≡ unitText b
+unfolding unitText
+unit-none b d e = sym (rw (ne-eqb b 115 d, ne-eqb b 99 e))
+
+pub value-kind : (b k : ℕ) (v : List ℕ) → b ≡ 107 → k ≡ getD (decimals 0 v) 0 0 → kindText k ≡ valueText b v
+unfolding valueText
+value-kind b k v e p = ap kindText p ∙ sym (rw (eq-eqb b 107 e))
+
+pub value-itself : (b : ℕ) (v : List ℕ) → (b ≡ 107 → ⊥) → v ≡ valueText b v
+unfolding valueText
+value-itself b v e = sym (rw (ne-eqb b 107 e))
+
+pub difference-by : (path word v w : List ℕ) (b : ℕ) → b ≡ getD word 0 0 → (97 ∷ 116 ∷ 32 ∷ []) ++ (placeText path ++ ((58 ∷ 32 ∷ 116 ∷ 104 ∷ 101 ∷ 32 ∷ []) ++
+    (word ++ (unitText b ++ ((32 ∷ 105 ∷ 115 ∷ 32 ∷ []) ++ (valueText b v ++ ((32 ∷ 105 ∷ 110 ∷ 32 ∷ 116 ∷ 104 ∷ 101 ∷ 32 ∷ 102 ∷ 105 ∷ 114 ∷ 115 ∷ 116 ∷ 44 ∷ 32 ∷ []) ++
+    (valueText b w ++ (32 ∷ 105 ∷ 110 ∷ 32 ∷ 116 ∷ 104 ∷ 101 ∷ 32 ∷ 115 ∷ 101 ∷ 99 ∷ 111 ∷ 110 ∷ 100 ∷ [])))))))))
+    ≡ differenceBy path word v w
+unfolding differenceBy
+difference-by path word v w b e = rw e
+
+pub difference-is : (reason path said word values one v other w : List ℕ) → path ≡ take (until 58 reason) reason → said ≡ drop (until 58 reason + 1) reason
+    → word ≡ take (until 32 said) said → values ≡ drop (until 32 said + 1) said → one ≡ take (until 32 values) values → v ≡ drop (until 58 one + 1) one
+    → other ≡ drop (until 32 values + 1) values → w ≡ drop (until 58 other + 1) other → differenceBy path word v w ≡ differenceText reason
+unfolding differenceText before after
+difference-is reason path said word values one v other w p d q e f g h j = rw (p, q, g, j, f, h, e, d)

@@ -6,7 +6,7 @@ use lib.Dec.{leb, ltb, eqb}
 use lib.ListN.{length, take, drop, getD}
 use Rattle.kinds.specs.Byte.{byte, bytes}
 use Rattle.kinds.specs.Print.{decimal}
-use Rattle.lines.specs.Answer.{until, each}
+use Rattle.lines.specs.Answer.{until, each, decimals}
 
 -- How often a byte stands in a text.
 unfoldable pub countOf : ℕ → List ℕ → ℕ
@@ -129,3 +129,53 @@ refusedBy line text why =
 
 unfoldable pub refusedText : List ℕ → List ℕ → List ℕ
 refusedText text why = refusedBy (lineOf (getD why 0 0) reasons) text why
+
+-- ---- The reason for a no, in a sentence.
+
+-- What stands before the first `b`, and what stands after it.
+unfoldable pub before : ℕ → List ℕ → List ℕ
+before b s = take (until b s) s
+
+unfoldable pub after : ℕ → List ℕ → List ℕ
+after b s = drop (until b s + 1) s
+
+-- The kinds from 24 on, a line each.
+unfoldable pub compoundNames : List ℕ
+compoundNames = bytes "bitfield\nbitfield with a type\npointer\natomic\narray\nstruct\nunion\nnothing"
+
+-- A kind, without its node's numbers or name.
+unfoldable pub kindText : ℕ → List ℕ
+kindText k = cond (ltb k 24) (lineOf k kindNames) (lineOf (k - 24) compoundNames)
+
+-- Where the difference is, by the path to it.
+unfoldable pub placeText : List ℕ → List ℕ
+placeText path = cond (eqb (length path) 0) (bytes "the root") (bytes "item " ++ path)
+
+-- What is said of the size and of the count besides; each of the six words begins with another byte.
+unfoldable pub unitText : ℕ → List ℕ
+unitText b = cond (eqb b (byte "s")) (bytes " in bits") (cond (eqb b (byte "c")) (bytes " of fields") [])
+
+-- A value: a kind's number in words, all others as they are.
+unfoldable pub valueText : ℕ → List ℕ → List ℕ
+valueText b v = cond (eqb b (byte "k")) (kindText (getD (decimals 0 v) 0 0)) v
+
+-- The sentence by the reason's path, its word and the values of both sides.
+unfoldable pub differenceBy : List ℕ → List ℕ → List ℕ → List ℕ → List ℕ
+differenceBy path word v w =
+    bytes "at "
+    ++ (placeText path
+    ++ (bytes ": the "
+    ++ (word
+    ++ (unitText (getD word 0 0)
+    ++ (bytes " is "
+    ++ (valueText (getD word 0 0) v
+    ++ (bytes " in the first, "
+    ++ (valueText (getD word 0 0) w
+    ++ bytes " in the second"))))))))
+
+-- By the reason's bytes: a value is what stands after its length and a colon.
+unfoldable pub differenceText : List ℕ → List ℕ
+differenceText reason =
+    differenceBy (before (byte ":") reason) (before (byte " ") (after (byte ":") reason))
+    (after (byte ":") (before (byte " ") (after (byte " ") (after (byte ":") reason))))
+    (after (byte ":") (after (byte " ") (after (byte " ") (after (byte ":") reason))))

@@ -9,6 +9,7 @@ use libc::STDERR_FILENO;
 use libc::STDIN_FILENO;
 use libc::STDOUT_FILENO;
 use parse::Reading;
+use reason::Reasoned;
 use sheet::Checked;
 use sheet::MAX_WORDS;
 use signature::SignatureReading;
@@ -45,8 +46,10 @@ fn say_usage(to: i32) {
             \x20      berzhotun start TEXT        the tree of the type at the start of TEXT, and the rest\n\
             \x20      berzhotun print TEXT        the printed text of the tree\n\
             \x20      berzhotun size TEXT         its size on 64-bit Apple ARM\n\
-            \x20      berzhotun compare A B       whether the trees of A and B are equivalent, by levels\n\
+            \x20      berzhotun compare A B       whether the trees of A and B are equivalent, by levels, or where they differ\n\
             \x20      berzhotun compare-all A B   the same with all fields\n\
+            \x20      berzhotun reason A B        the same for programs: yes, or the first difference in bytes\n\
+            \x20      berzhotun reason-all A B    the same with all fields\n\
             \x20      berzhotun match A TEXT      whether the tree of A is equivalent to TEXT\n\
             \x20      berzhotun signature TEXT    the types of a method's signature with their numbers, a line each\n\
             \x20      berzhotun -                 commands from standard input, a line each\n",
@@ -206,31 +209,42 @@ fn answer_match(a: &[u8], text: &[u8]) {
     }
 }
 
-// By levels, or with all fields.
-fn compared(all: bool, aw: &[u64], an: &[u8], bw: &[u64], bn: &[u8]) -> Compared {
-    if all {
-        return encoding_box::eq(aw, an, bw, bn);
-    }
-    encoding::equivalent_to(aw, an, bw, bn)
+// A no, and under it where the trees first differ, by the reason's bytes.
+fn say_difference(reason: &[u8]) {
+    let mut out = [0u8; MAX_LINE];
+    say(b"no\n");
+    let at = show::put_difference(&mut out, reason);
+    say_line(&mut out, at);
 }
 
-// Compares a tree with that of a text.
-fn compare_with(all: bool, a: &[u8], aw: &[u64], an: &[u8], b: &[u8]) {
+// The reason for a no: its bytes, or in words.
+fn say_reason(in_words: bool, out: &mut [u8], n: usize) {
+    if in_words {
+        say_difference(lines::front(out, n));
+    } else {
+        say_line(out, n);
+    }
+}
+
+// Compares a tree with that of a text, by levels or with `all` fields.
+fn compare_with(all: bool, in_words: bool, a: &[u8], aw: &[u64], an: &[u8], b: &[u8]) {
     let mut bw = [0u64; MAX_WORDS];
     let mut bn = [0u8; MAX_TEXT];
+    let mut out = [0u8; MAX_LINE];
     if reads(b, &mut bw, &mut bn) {
-        match compared(all, aw, an, &bw, &bn) {
-            Compared::Refused(why) => say_refused(a, &why.words()),
-            Compared::Decided(answer) => say_decided(answer),
+        match reason::reason(aw, an, &bw, &bn, all, &mut out) {
+            Reasoned::Refused(why) => say_refused(a, &why.words()),
+            Reasoned::Yes => say_decided(true),
+            Reasoned::Bytes(n) => say_reason(in_words, &mut out, n),
         }
     }
 }
 
-fn answer_compare(all: bool, a: &[u8], b: &[u8]) {
+fn answer_compare(all: bool, in_words: bool, a: &[u8], b: &[u8]) {
     let mut words = [0u64; MAX_WORDS];
     let mut names = [0u8; MAX_TEXT];
     if reads(a, &mut words, &mut names) {
-        compare_with(all, a, &words, &names, b);
+        compare_with(all, in_words, a, &words, &names, b);
     }
 }
 
@@ -281,6 +295,12 @@ fn texts_of(command: &[u8]) -> usize {
     if check::same(command, b"compare-all") {
         return 2;
     }
+    if check::same(command, b"reason") {
+        return 2;
+    }
+    if check::same(command, b"reason-all") {
+        return 2;
+    }
     if check::same(command, b"match") {
         return 2;
     }
@@ -303,9 +323,13 @@ fn answer_known(command: &[u8], a: &[u8], b: &[u8]) {
     } else if check::same(command, b"size") {
         answer_size(a);
     } else if check::same(command, b"compare") {
-        answer_compare(false, a, b);
+        answer_compare(false, true, a, b);
     } else if check::same(command, b"compare-all") {
-        answer_compare(true, a, b);
+        answer_compare(true, true, a, b);
+    } else if check::same(command, b"reason") {
+        answer_compare(false, false, a, b);
+    } else if check::same(command, b"reason-all") {
+        answer_compare(true, false, a, b);
     } else if check::same(command, b"match") {
         answer_match(a, b);
     } else {

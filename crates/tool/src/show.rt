@@ -1,13 +1,16 @@
-// What is shown of a tree, of a signature and of a refusal, put into a lent output from a place on; each answers the next place.
+// What is shown of a tree, of a signature, of a refusal and of the reason for a no, put into a lent output from a place on; each answers the next place.
 ghost use mathlib.Core.Path.{_≡_};
 ghost use mathlib.Core.List.{[], _∷_};
 ghost use lib.ListN.{take, drop, getD};
 ghost use Rattle.lines.specs.Answer.{Put};
 ghost use Rattle.tool.specs.Answer.{countOf, shownByte, shownText, times, depthOf, lineOf, countText, kindNames, valuesText, rightText, nodeText, columnText, entryText};
 ghost use Rattle.tool.specs.Answer.{byteText, containerText, shownOrCut, markText, namedText, refusedBy, refusedText};
+ghost use Rattle.tool.specs.Answer.{kindText, placeText, unitText, valueText, differenceBy, differenceText};
+ghost use Rattle.lines.specs.Answer.{decimals};
 use kinds::ARRAY;
 use kinds::BIT_FIELD;
 use kinds::MAX_TEXT;
+use kinds::PRIMITIVES;
 use kinds::STRUCT;
 use kinds::TYPED_BIT_FIELD;
 use kinds::UNION;
@@ -230,12 +233,12 @@ fn put_text(out: &mut [u8], at: usize, text: &[u8]) -> usize
     lines::put_bytes(out, to, b"...")
 }
 
-// What a refusal carries, by the first byte of its line of reasons; 0 of an empty line.
-fn carried_by(line: &[u8]) -> u8
-    ensures { λ r. ⌜ r ≡ getD (now (line .entry)) 0 0 ⌝ }
+// The first byte; 0 of an empty text.
+fn first_byte(s: &[u8]) -> u8
+    ensures { λ r. ⌜ r ≡ getD (now (s .entry)) 0 0 ⌝ }
 {
-    if 0 < line.len() {
-        return line[0];
+    if 0 < s.len() {
+        return s[0];
     }
     0
 }
@@ -269,7 +272,7 @@ fn put_named(out: &mut [u8], at: usize, carried: u8, byte: u64, container: u64) 
 fn put_reason(out: &mut [u8], text: &[u8], why: &[u64; 4], line: &[u8]) -> usize
     ensures { λ r. ⌜ Put (now (out .entry)) 0 (refusedBy (now (line .entry)) (now (text .entry)) (now (why .entry))) (now (out .exit)) r ⌝ }
 {
-    let carried = carried_by(line);
+    let carried = first_byte(line);
     let shown = put_text(out, 0, text);
     let mark = put_mark(out, shown, carried, why[1]);
     let to = lines::put_bytes(out, mark, b"\nrefused (");
@@ -306,4 +309,88 @@ pub fn put_refused(out: &mut [u8], text: &[u8], why: &[u64; 4]) -> usize
         - the signature is empty\n\
         ^ the number starts with a surplus zero";
     put_reason(out, text, why, line_of(reasons, why[0]))
+}
+
+// The number at the front of a text; 0 where there is none.
+fn number_of(s: &[u8]) -> u64
+    ensures { λ r. ⌜ r ≡ getD (decimals 0 (now (s .entry))) 0 0 ⌝ }
+{
+    let mut list = [0u64; 1];
+    lines::decode_words(s, &mut list);
+    list[0]
+}
+
+// A kind, without its node's numbers or name.
+fn put_kind_alone(out: &mut [u8], at: usize, kind: u64) -> usize
+    ensures { λ r. ⌜ Put (now (out .entry)) at (kindText kind) (now (out .exit)) r ⌝ }
+{
+    if kind < PRIMITIVES {
+        return put_kind(out, at, kind);
+    }
+    let table = b"bitfield\nbitfield with a type\npointer\natomic\narray\nstruct\nunion\nnothing";
+    lines::put_bytes(out, at, line_of(table, kind - PRIMITIVES))
+}
+
+// Where a difference is, by the path to it.
+fn put_place(out: &mut [u8], at: usize, path: &[u8]) -> usize
+    ensures { λ r. ⌜ Put (now (out .entry)) at (placeText (now (path .entry))) (now (out .exit)) r ⌝ }
+{
+    if path.len() == 0 {
+        return lines::put_bytes(out, at, b"the root");
+    }
+    let to = lines::put_bytes(out, at, b"item ");
+    lines::put_bytes(out, to, path)
+}
+
+// What is said of the size and of the count besides; each of a reason's six words begins with another byte.
+fn put_unit(out: &mut [u8], at: usize, word: u8) -> usize
+    ensures { λ r. ⌜ Put (now (out .entry)) at (unitText word) (now (out .exit)) r ⌝ }
+{
+    if word == b's' {
+        return lines::put_bytes(out, at, b" in bits");
+    }
+    if word == b'c' {
+        return lines::put_bytes(out, at, b" of fields");
+    }
+    at
+}
+
+// A value of a reason: a kind's number in words, all others as they are.
+fn put_value(out: &mut [u8], at: usize, word: u8, value: &[u8]) -> usize
+    ensures { λ r. ⌜ Put (now (out .entry)) at (valueText word (now (value .entry))) (now (out .exit)) r ⌝ }
+{
+    if word == b'k' {
+        return put_kind_alone(out, at, number_of(value));
+    }
+    lines::put_bytes(out, at, value)
+}
+
+// What `put_difference` puts, by the reason's path, its word and the values of both sides.
+fn put_sentence(out: &mut [u8], path: &[u8], word: &[u8], first: &[u8], second: &[u8]) -> usize
+    ensures { λ r. ⌜ Put (now (out .entry)) 0 (differenceBy (now (path .entry)) (now (word .entry)) (now (first .entry)) (now (second .entry))) (now (out .exit)) r ⌝ }
+{
+    let letter = first_byte(word);
+    let place = lines::put_bytes(out, 0, b"at ");
+    let colon = put_place(out, place, path);
+    let noun = lines::put_bytes(out, colon, b": the ");
+    let unit = lines::put_bytes(out, noun, word);
+    let verb = put_unit(out, unit, letter);
+    let one = lines::put_bytes(out, verb, b" is ");
+    let between = put_value(out, one, letter, first);
+    let other = lines::put_bytes(out, between, b" in the first, ");
+    let end = put_value(out, other, letter, second);
+    lines::put_bytes(out, end, b" in the second")
+}
+
+// The reason for a no, in a sentence.
+pub fn put_difference(out: &mut [u8], reason: &[u8]) -> usize
+    ensures { λ r. ⌜ Put (now (out .entry)) 0 (differenceText (now (reason .entry))) (now (out .exit)) r ⌝ }
+{
+    let path = lines::field(reason, b':');
+    let said = lines::rest(reason, b':');
+    let word = lines::field(said, b' ');
+    let values = lines::rest(said, b' ');
+    let first = lines::rest(lines::field(values, b' '), b':');
+    let second = lines::rest(lines::rest(values, b' '), b':');
+    put_sentence(out, path, word, first, second)
 }

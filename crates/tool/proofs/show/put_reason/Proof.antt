@@ -30,7 +30,7 @@ returns c =
     let c33 = c28 .before .before .before .before .before in
     let c35 = c33 .before .before in
     let c39 = c35 .before .before .before .before in
-    put-same (refused-is (c39 .args .line .now) (c39 .args .text .now) (c39 .args .why .now) (c9 .rest .result .now) (c35 .carried-by .result) (c35 .carried-by .ensures) (remains-bytes _ _ (c9 .rest .ensures)))
+    put-same (refused-is (c39 .args .line .now) (c39 .args .text .now) (c39 .args .why .now) (c9 .rest .result .now) (c35 .first-byte .result) (c35 .first-byte .ensures) (remains-bytes _ _ (c9 .rest .ensures)))
     (put-append _ _ (c33 .put-text .ensures) (put-append _ _ (c28 .put-mark .ensures)
     (put-append _ _ (c23 .put-bytes .ensures) (put-append _ _ (c18 .put-number .ensures)
     (put-append _ _ (c13 .put-bytes2 .ensures) (put-append _ _ (c8 .put-bytes3 .ensures) (c2 .put-named .ensures)))))))
