@@ -84,8 +84,11 @@ module _ (an a bn b : List ℕ) (at bt : ℕ) (ha : NodeAt a at) (hb : NodeAt b 
     pub own-primitive : kindAt a at < 24 → OwnIs F.Same
     unfolding ownDifference T.kind bits offsetOf lengthOf T.name sameBytes orElse unless
     own-primitive p =
-        same (rw (label-primitive an (kindAt a at) (firstAt a at) (secondAt a at) p,
-        label-primitive bn (kindAt b bt) (firstAt b bt) (secondAt b bt) (low-partner (kindAt a at) (kindAt b bt) h p), h))
+        same (rw (
+          label-primitive an (kindAt a at) (firstAt a at) (secondAt a at) p,
+          label-primitive bn (kindAt b bt) (firstAt b bt) (secondAt b bt) (low-partner (kindAt a at) (kindAt b bt) h p),
+          h,
+        ))
 
     -- names
     named : isContainerKind (kindAt a at) ≡ true → ownDifference (labelAt an a at) (labelAt bn b bt) ≡ unless (sameBytes (nameAt an a at) (nameAt bn b bt)) (name (nameAt an a at) (nameAt bn b bt))

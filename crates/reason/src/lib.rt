@@ -142,7 +142,14 @@ fn subtree(nodes: &[u64], at: usize) -> usize
 }
 
 // Whether the trees of the `left` nodes from `at` on are as many as those of the `more` nodes from `bt` on.
-fn same_count(a: &[u64], mut at: usize, mut left: usize, b: &[u64], mut bt: usize, mut more: usize) -> bool
+fn same_count(
+    a: &[u64],
+    mut at: usize,
+    mut left: usize,
+    b: &[u64],
+    mut bt: usize,
+    mut more: usize,
+) -> bool
     requires { ⌜ TreesAt (now a) at left × TreesAt (now b) bt more ⌝ }
     ensures { λ r. ⌜ ((s t : List ℕ) → r ≡ eqb (items (trees s (now (a .entry)) left at)) (items (trees t (now (b .entry)) more bt))) ⌝ }
 {
@@ -229,7 +236,18 @@ fn first_difference(
                         here = inner;
                         continue;
                     }
-                    if let Found::At(x, y, aspect) = first_difference(&a[0..], &an[0..], i, n, &b[0..], &bn[0..], j, m, inner, all) {
+                    if let Found::At(x, y, aspect) = first_difference(
+                        &a[0..],
+                        &an[0..],
+                        i,
+                        n,
+                        &b[0..],
+                        &bn[0..],
+                        j,
+                        m,
+                        inner,
+                        all,
+                    ) {
                         return Found::At(x, y, aspect);
                     }
                 }
@@ -268,11 +286,11 @@ fn item_towards(nodes: &[u64], parent: usize, x: usize) -> Item
 {
     let mut at = parent + 4;
     let mut number = 0;
-    let mut count = nodes[at + 3] as usize;
+    let mut count = subtree(nodes, at);
     while 4 * count <= x - at {
         at += 4 * count;
         number += 1;
-        count = nodes[at + 3] as usize;
+        count = subtree(nodes, at);
     }
     Item { at, number }
 }
@@ -406,7 +424,14 @@ fn put_bytes_value(out: &mut [u8], to: usize, s: &[u8]) -> usize
 }
 
 // Writes a value; the next place.
-fn put_value(out: &mut [u8], to: usize, nodes: &[u64], names: &[u8], at: usize, aspect: Aspect) -> usize
+fn put_value(
+    out: &mut [u8],
+    to: usize,
+    nodes: &[u64],
+    names: &[u8],
+    at: usize,
+    aspect: Aspect,
+) -> usize
     requires { ⌜ NodeAt (now nodes) at × NameWithin aspect (length (now names)) (now nodes) at ⌝ }
     ensures { λ r. ⌜ Put (now (out .entry)) to (valueText (valueAt aspect (now (names .entry)) (now (nodes .entry)) at)) (now (out .exit)) r ⌝ }
 {
@@ -524,7 +549,15 @@ pub fn reason_len(aw: &[u64], an: &[u8], bw: &[u64], bn: &[u8], all: bool) -> Re
     match check_both(aw, an, bw, bn) {
         CheckedBoth::Refused(why) => Reasoned::Refused(why),
         CheckedBoth::Codes(k, j) => codes_len(k, j),
-        CheckedBoth::Nodes(f, n, g, m) => nodes_len(&aw[f..], &an[0..], n, &bw[g..], &bn[0..], m, all),
+        CheckedBoth::Nodes(f, n, g, m) => nodes_len(
+            &aw[f..],
+            &an[0..],
+            n,
+            &bw[g..],
+            &bn[0..],
+            m,
+            all,
+        ),
     }
 }
 
@@ -536,6 +569,15 @@ pub fn reason(aw: &[u64], an: &[u8], bw: &[u64], bn: &[u8], all: bool, out: &mut
     match check_both(aw, an, bw, bn) {
         CheckedBoth::Refused(why) => Reasoned::Refused(why),
         CheckedBoth::Codes(k, j) => write_codes(k, j, out),
-        CheckedBoth::Nodes(f, n, g, m) => write_nodes(&aw[f..], &an[0..], n, &bw[g..], &bn[0..], m, all, out),
+        CheckedBoth::Nodes(f, n, g, m) => write_nodes(
+            &aw[f..],
+            &an[0..],
+            n,
+            &bw[g..],
+            &bn[0..],
+            m,
+            all,
+            out,
+        ),
     }
 }

@@ -65,8 +65,7 @@ abbrev μ-loop : first-difference-lts.MeasureT-loop
 
 first-difference-loop-holds : (t : ℕ) → first-difference-lts.Need-loop-holds (claims t) (asked t) first-difference.Post Inv-loop μ-loop
 first-difference-loop-holds t c =
-    let pre = c .before .before .before .before .pre in
-    (
+    let pre = c .before .before .before .before .pre in (
       omega arith,
       record {
         first = pre .1 .0 .0;

@@ -1,5 +1,5 @@
 use Prim.Native.Nat.{_-_}
-use mathlib.Core.Path.{_≡_, refl}
+use mathlib.Core.Path.{_≡_}
 use native.Mathlib.Omega.{arith}
 use Rattle.kinds.specs.Sheet.{countAt}
 use Rattle.reason.proofs.PathLaws.{Among, among-first, among-node, among-start, among-next, among-found}
@@ -13,34 +13,13 @@ abbrev μ-loop : tie.MeasureT-loop
 μ-loop nodes parent x at₀ number₀ count₀ at number count = x - at
 
 add-at : tie.Need-add-at Inv-loop μ-loop
-add-at c = let r = c .pre .0 .room in let s = c .pre .0 .some-node in omega arith
+add-at c = let r = c .before .pre .0 .room in let s = c .before .pre .0 .some-node in omega arith
 
-add-count : tie.Need-add-count Inv-loop μ-loop
-add-count c =
-    let a = among-first _ _ _ (c .pre .0) (c .pre .1) in
-    let n = among-node _ _ _ _ _ a in
-    let r = n .room in
-    let s = n .some-node in
-    omega arith
-
-mul-count : tie.Need-mul-count Inv-loop μ-loop
-mul-count c =
-    let a = among-first _ _ _ (c .pre .0) (c .pre .1) in
-    let n = among-node _ _ _ _ _ a in
-    let r = n .room in
-    let s = n .some-node in
-    omega arith
-
-shared-slice-read-count : tie.Need-shared-slice-read-count Inv-loop μ-loop
-shared-slice-read-count c =
-    let a = among-first _ _ _ (c .before .pre .0) (c .before .pre .1) in
-    let n = among-node _ _ _ _ _ a in
-    let r = n .room in
-    let s = n .some-node in
-    omega arith
+subtree-requires : tie.Need-subtree-requires Inv-loop μ-loop
+subtree-requires c κs = among-node _ _ _ _ _ (among-first _ _ _ (c .before .pre .0) (c .before .pre .1))
 
 loop-holds : tie.Need-loop-holds Inv-loop μ-loop
-loop-holds c = (among-first _ _ _ (c .before .pre .0) (c .before .pre .1), refl)
+loop-holds c = (among-first _ _ _ (c .before .before .pre .0) (c .before .before .pre .1), c .subtree .ensures)
 
 mul-loop : tie.Need-mul-loop Inv-loop μ-loop
 mul-loop c =
@@ -74,29 +53,8 @@ add-number c =
     let r = n .room in
     omega arith
 
-add-count-2 : tie.Need-add-count-2 Inv-loop μ-loop
-add-count-2 c =
-    let l = c .before .loop in
-    let n = among-node _ _ _ _ _ (among-next _ _ _ _ _ (l .inv .0) (l .inv .1) (c .loop-test .taken)) in
-    let r = n .room in
-    let s = n .some-node in
-    omega arith
-
-mul-count-2 : tie.Need-mul-count-2 Inv-loop μ-loop
-mul-count-2 c =
-    let l = c .before .loop in
-    let n = among-node _ _ _ _ _ (among-next _ _ _ _ _ (l .inv .0) (l .inv .1) (c .loop-test .taken)) in
-    let r = n .room in
-    let s = n .some-node in
-    omega arith
-
-shared-slice-read-count-2 : tie.Need-shared-slice-read-count-2 Inv-loop μ-loop
-shared-slice-read-count-2 c =
-    let l = c .before .before .loop in
-    let n = among-node _ _ _ _ _ (among-next _ _ _ _ _ (l .inv .0) (l .inv .1) (c .before .loop-test .taken)) in
-    let r = n .room in
-    let s = n .some-node in
-    omega arith
+subtree-requires-2 : tie.Need-subtree-requires-2 Inv-loop μ-loop
+subtree-requires-2 c κs = let l = c .before .loop in among-node _ _ _ _ _ (among-next _ _ _ _ _ (l .inv .0) (l .inv .1) (c .loop-test .taken))
 
 loop-less : tie.Need-loop-less Inv-loop μ-loop
 loop-less c =
@@ -108,9 +66,7 @@ loop-less c =
     omega arith
 
 loop-again : tie.Need-loop-again Inv-loop μ-loop
-loop-again c =
-    let l = c .before .before .loop in
-    (among-next _ _ _ _ _ (l .inv .0) (l .inv .1) (c .before .loop-test .taken), refl)
+loop-again c = let l = c .before .before .loop in (among-next _ _ _ _ _ (l .inv .0) (l .inv .1) (c .before .loop-test .taken), c .subtree2 .ensures)
 
 returns : tie.Need-returns Inv-loop μ-loop
 returns c =
@@ -126,18 +82,14 @@ item-towards-spec =
     Inv-loop
     μ-loop
     add-at
-    add-count
-    mul-count
-    shared-slice-read-count
+    subtree-requires
     loop-holds
     mul-loop
     sub-loop
     mul-at
     add-at-2
     add-number
-    add-count-2
-    mul-count-2
-    shared-slice-read-count-2
+    subtree-requires-2
     loop-less
     loop-again
     returns)
