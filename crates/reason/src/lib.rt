@@ -33,7 +33,7 @@ use sheet::check_both;
 use static_str::static_int_str_len;
 
 // What of two nodes differs.
-pub enum Aspect {
+enum Aspect {
     Kind,
     Size,
     Offset,

@@ -2,11 +2,10 @@
 ghost use mathlib.Core.Path.{_≡_};
 ghost use mathlib.Core.List.{[], _∷_};
 ghost use lib.ListN.{take, drop, getD};
-ghost use Rattle.lines.specs.Answer.{Put};
+ghost use Rattle.lines.specs.Answer.{Put, decimals};
 ghost use Rattle.tool.specs.Answer.{countOf, shownByte, shownText, times, depthOf, lineOf, countText, kindNames, valuesText, rightText, nodeText, columnText, entryText};
 ghost use Rattle.tool.specs.Answer.{byteText, containerText, shownOrCut, markText, namedText, refusedBy, refusedText};
 ghost use Rattle.tool.specs.Answer.{kindText, placeText, unitText, valueText, differenceBy, differenceText};
-ghost use Rattle.lines.specs.Answer.{decimals};
 use kinds::ARRAY;
 use kinds::BIT_FIELD;
 use kinds::MAX_TEXT;
