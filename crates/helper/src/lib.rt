@@ -353,7 +353,7 @@ pub fn level_for(all: bool, level: NestingLevel) -> NestingLevel
     level
 }
 
-// The level after a node that is no container: that of what it holds, or `level`, at which the trees side by side are.
+// The level after a node: that of what it holds, or, after a container and what holds nothing, `level`, at which the trees side by side are.
 pub fn level_after(all: bool, kind: u64, level: NestingLevel, here: NestingLevel) -> NestingLevel
     ensures { λ r. ⌜ r ≡ levelAfter all kind level here ⌝ }
 {

@@ -1,4 +1,4 @@
-// Lines of questions and answers (oracle/README.md): the fields of a line, hex and decimal read into lent lists, and texts put into a lent output.
+// Texts put into a lent output; and lines of questions and answers (oracle/README.md): the fields of a line, hex and decimal read into lent lists.
 ghost use mathlib.Core.Path.{_≡_};
 ghost use Prim.Native.Nat.{_+_, _≤_, _<_};
 ghost use mathlib.Core.List.{[], _∷_};

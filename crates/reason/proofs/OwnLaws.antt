@@ -1,12 +1,11 @@
 -- Laws of what two nodes differ in by themselves, their children aside.
-use Prim.Native.Nat.{ℕ, _+_, _-_, _*_, _≤_, _<_}
+use Prim.Native.Nat.{ℕ, _-_, _≤_, _<_}
 use native.Mathlib.Omega.{arith}
-use mathlib.Core.Path.{_≡_, refl, ap, ap₂, sym, _∙_}
+use mathlib.Core.Path.{_≡_, refl, ap, sym, _∙_}
 use mathlib.Core.List.{List}
-use mathlib.Core.Option.{Option, some, none}
+use mathlib.Core.Option.{some, none}
 use mathlib.Core.Bool.{Bool, true, false, _||_, false≢true}
 use borrow.Author.Tests.{ne-eqb, eq-eqb, eqb-true, eqb-false}
-use lib.ListN.{length, take, drop}
 use lib.Dec.{eqb}
 use Rattle.kinds.specs.Byte.{sameBytes}
 use Rattle.kinds.specs.Compare.{bits}
@@ -16,8 +15,8 @@ use Rattle.kinds.specs.Tree as T
 use Rattle.kinds.specs.Walk.{NodeAt}
 use Rattle.kinds.proofs.NodeLaws.{by-kind, kind-label, label-primitive, label-struct, label-union}
 use Rattle.helper.proofs.CompareLaws.{partner, low-partner}
-use Rattle.reason.specs.Reason.{Difference, kind, size, offset, length as len, name, orElse, unless, offsetOf, lengthOf, ownDifference}
-use Rattle.reason.specs.Spot.{Spot, spotted, nameAt, NodeOf, differenceAt, Named, ValueAt, Finds}
+use Rattle.reason.specs.Reason.{kind, size, offset, length as len, name, orElse, unless, offsetOf, lengthOf, ownDifference}
+use Rattle.reason.specs.Spot.{spotted, nameAt, differenceAt, Named, ValueAt, Finds}
 use Rattle.reason.specs.declared.Aspect.{Aspect}
 use Rattle.reason.specs.declared.Aspect.the-variants as A
 use Rattle.reason.specs.declared.Found.{Found}

@@ -1,31 +1,27 @@
 -- Laws of the walk for the first difference.
 use Prim.Native.Nat.{ℕ, zero, suc, _+_, _-_, _*_, _≤_, _<_}
 use native.Mathlib.Omega.{arith}
-use mathlib.Core.Path.{_≡_, refl, ap, ap₂, sym, _∙_, subst}
+use mathlib.Core.Path.{_≡_, refl, ap, ap₂, sym, _∙_}
 use mathlib.Core.List.{List, []}
 use mathlib.Core.Option.{Option, some, none}
-use mathlib.Core.Bool.{Bool, true, false, cond, not, _&&_, false≢true}
-use borrow.Author.Tests.{leb-true, leb-false, ne-eqb, eq-eqb, eqb-true, eqb-false}
-use lib.ListN.{length}
+use mathlib.Core.Bool.{Bool, true, false, cond, false≢true}
+use borrow.Author.Tests.{leb-true, leb-false}
 use lib.Dec.{leb, eqb}
 use Rattle.kinds.specs.Compare.{levelFor}
-use Rattle.kinds.specs.Kind.{insideKind}
-use Rattle.kinds.specs.Level.{showsFields}
 use Rattle.kinds.specs.Primitive.{equivalent}
 use Rattle.kinds.specs.Sheet as S
-use Rattle.kinds.specs.Sheet.{kindAt, firstAt, secondAt, countAt, labelAt, label, isContainerKind, read, trees}
+use Rattle.kinds.specs.Sheet.{kindAt, firstAt, secondAt, countAt, labelAt, isContainerKind, read, trees}
 use Rattle.kinds.specs.Tree as T
-use Rattle.kinds.specs.Tree.{Label, Trees, end, node, isEnd, kind, isContainer, inside, shows}
-use Rattle.kinds.specs.Walk.{NodeAt, TreesAt, KindsAndNames}
+use Rattle.kinds.specs.Tree.{Label, Trees, end, node, kind, inside}
+use Rattle.kinds.specs.Walk.{TreesAt}
 use Rattle.kinds.specs.declared.NestingLevel.{NestingLevel}
-use Rattle.kinds.specs.declared.NestingLevel.the-variants.{Top, Within, Bottom}
 use Rattle.kinds.proofs.KindLaws.{inside-kind}
 use Rattle.kinds.proofs.SheetLaws.{trees-step}
-use Rattle.kinds.proofs.NodeLaws.{leaf-count, none-count, child-count, node-child, node-inner, first-some, first-within, first-node, other-trees, kind-label, container-label, no-trees, some-trees, walk-here, walk-inner, walk-rest}
+use Rattle.kinds.proofs.NodeLaws.{leaf-count, none-count, child-count, node-child, first-some, first-within, first-node, kind-label, container-label, no-trees}
 use Rattle.helper.specs.Measure.{levelAfter}
-use Rattle.helper.proofs.CompareLaws.{partner, low-partner, plain-partner, held-then, held-alone, after-trees}
+use Rattle.helper.proofs.CompareLaws.{partner, low-partner, plain-partner, held-then, held-alone}
 use Rattle.reason.specs.Reason.{Difference, count, orElse, unless, ownDifference, items, itemsCompared, countDifference}
-use Rattle.reason.specs.Spot.{Spot, spotted, nodeSpot, itemsSpot, NodeOf, below, itemsAt}
+use Rattle.reason.specs.Spot.{Spot, spotted, nodeSpot, itemsSpot, below, itemsAt}
 
 -- ---- Trees of words.
 

@@ -1,16 +1,15 @@
 -- What the walk for the first difference keeps from one node to the next.
 use Prim.Native.Nat.{ℕ, _+_, _-_, _*_, _≤_, _<_}
 use native.Mathlib.Omega.{arith}
-use mathlib.Core.Path.{_≡_, refl, ap, ap₂, sym, _∙_, subst}
+use mathlib.Core.Path.{_≡_, refl, ap, sym, _∙_, subst}
 use mathlib.Core.List.{List}
 use mathlib.Core.Option.{Option, some, none}
-use mathlib.Core.Bool.{Bool, true, false, cond}
+use mathlib.Core.Bool.{Bool, true, false}
 use lib.ListN.{length}
-use lib.Dec.{eqb}
 use Rattle.kinds.specs.Compare.{levelFor}
 use Rattle.kinds.specs.Kind.{insideKind}
 use Rattle.kinds.specs.Sheet.{kindAt, firstAt, secondAt, countAt, labelAt, isContainerKind, trees}
-use Rattle.kinds.specs.Tree.{end, inside}
+use Rattle.kinds.specs.Tree.{inside}
 use Rattle.kinds.specs.Walk.{NodeAt, TreesAt, KindAndName, KindsAndNames}
 use Rattle.kinds.specs.declared.NestingLevel.{NestingLevel}
 use Rattle.kinds.specs.declared.NestingLevel.the-variants.{Within}
@@ -18,12 +17,11 @@ use Rattle.kinds.proofs.KindLaws.{inside-kind}
 use Rattle.kinds.proofs.NodeLaws.{node-inner, first-some, first-within, first-node, other-trees, no-trees, walk-here, walk-inner, walk-rest}
 use Rattle.helper.specs.Measure.{levelAfter}
 use Rattle.helper.proofs.CompareLaws.{Bounds, plain-partner, level-container, after-trees}
-use Rattle.reason.specs.Reason.{orElse, ownDifference, items, itemsCompared}
+use Rattle.reason.specs.Reason.{orElse, ownDifference}
 use Rattle.reason.specs.Spot.{Spot, spotted, itemsSpot, NodeOf, below, differenceAt, ValueAt, Finds, CountsAre}
 use Rattle.reason.specs.declared.Aspect.{Aspect}
 use Rattle.reason.specs.declared.Aspect.the-variants as A
 use Rattle.reason.specs.declared.Counts.the-variants as C
-use Rattle.reason.specs.declared.Found.{Found}
 use Rattle.reason.specs.declared.Found.the-variants as F
 use Rattle.reason.proofs.SpotLaws.{resume, resume-level, resume-end, resume-short, resume-own, resume-over, resume-count, resume-items, resume-plain, spotted-kinds}
 

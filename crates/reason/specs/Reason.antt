@@ -81,7 +81,7 @@ items (node l cs ts) = suc (items ts)
 unfoldable pub itemsCompared : Label → NestingLevel → Trees → Trees → Bool
 itemsCompared l v cs ds = cond (isContainer l) (shows l v && (not (isEnd cs) && not (isEnd ds))) true
 
--- The count of items, which differs in containers alone.
+-- The count of items; of valid trees only containers differ in it.
 unfoldable pub countDifference : Trees → Trees → Option Difference
 countDifference cs ds = unless (eqb (items cs) (items ds)) (count (items cs) (items ds))
 

@@ -102,7 +102,7 @@ differenceAt A.Length an a at bn b bt = length (firstAt a at) (firstAt b bt)
 differenceAt A.Name an a at bn b bt = name (nameAt an a at) (nameAt bn b bt)
 differenceAt A.Count an a at bn b bt = count (itemsAt a at) (itemsAt b bt)
 
--- A name as the aspect is a container's.
+-- Where the aspect is the name, the node is a container.
 abbrev pub Named : Aspect → List ℕ → ℕ → Type 0
 Named A.Kind w at = Unit {0}
 Named A.Size w at = Unit {0}

@@ -1,18 +1,18 @@
 // The reason for a no: the first difference of two trees in the order of helper.rs, `compare_encodings`, and its words in an output that the caller lends.
-ghost use Prim.Native.Nat.{ℕ, suc, _+_, _-_, _*_, _≤_, _<_};
+ghost use Prim.Native.Nat.{ℕ, _+_, _-_, _*_, _≤_, _<_};
 ghost use mathlib.Core.Path.{_≡_};
 ghost use mathlib.Core.Bool.{Bool, true, false};
-ghost use mathlib.Core.List.{List, [], _∷_, _++_};
+ghost use mathlib.Core.List.{List, []};
 ghost use lib.Dec.{eqb};
 ghost use lib.ListN.{length};
-ghost use Rattle.kinds.specs.Byte.{byte, sameBytes};
+ghost use Rattle.kinds.specs.Byte.{sameBytes};
 ghost use Rattle.kinds.specs.Print.{decimal};
-ghost use Rattle.kinds.specs.Sheet.{kindAt, firstAt, secondAt, countAt, labelAt, isContainerKind, trees, maxNodes, maxNames};
+ghost use Rattle.kinds.specs.Sheet.{kindAt, firstAt, secondAt, countAt, labelAt, isContainerKind, trees, maxNames};
 ghost use Rattle.kinds.specs.Walk.{NodeAt, TreesAt, KindAndName, KindsAndNames};
 ghost use Rattle.lines.specs.Answer.{Put};
 ghost use Rattle.reason.specs.Reason.{items, ownDifference, firstDifference, pathText, valueText, reasonText};
 ghost use Rattle.reason.specs.Answer.{measured, fittedReason, placedReason, reasonLen, reasonAnswer, reasonOutput};
-ghost use Rattle.reason.specs.Spot.{spotted, itemsSpot, nameAt, NodeOf, wordOf, numberAt, valueAt, NameWithin, ValueAt, Finds, CountsAre, pathFrom, Inside, Towards, itemText, maxPathText, maxValueText, reasonAt, Rooted, codesDifference};
+ghost use Rattle.reason.specs.Spot.{spotted, itemsSpot, nameAt, NodeOf, wordOf, numberAt, valueAt, NameWithin, Finds, CountsAre, pathFrom, Inside, Towards, itemText, maxPathText, maxValueText, reasonAt, Rooted, codesDifference};
 use helper::level_after;
 use helper::level_for;
 use helper::same_bytes;
@@ -202,7 +202,8 @@ fn first_difference(
 ) -> Found
     requires { ⌜ TreesAt (now a) at left × TreesAt (now b) bt more ⌝ }
     requires { ⌜ KindsAndNames (now a) (length (now an)) at left × KindsAndNames (now b) (length (now bn)) bt more ⌝ }
-    ensures { λ r. ⌜ Finds (now (an .entry)) (now (a .entry)) at left (now (bn .entry)) (now (b .entry)) bt more (itemsSpot all level at (trees (now (an .entry)) (now (a .entry)) left at) (trees (now (bn .entry)) (now (b .entry)) more bt)) r ⌝ }
+    ensures { λ r. ⌜ Finds (now (an .entry)) (now (a .entry)) at left (now (bn .entry)) (now (b .entry)) bt more
+        (itemsSpot all level at (trees (now (an .entry)) (now (a .entry)) left at) (trees (now (bn .entry)) (now (b .entry)) more bt)) r ⌝ }
 {
     let mut here = level;
     while 0 < left {

@@ -21,6 +21,7 @@ use Rattle.reason.specs.Reason.{Reason, firstDifference, reasonText}
 use Rattle.reason.specs.declared.Reasoned.the-variants.{Refused, Bytes}
 use Rattle.reason_agreement.specs.Along.{isNone}
 use Rattle.reason_agreement.specs.Calls.{decidedBy, Written}
+use Rattle.reason_agreement.proofs.RightLaws.{found-right}
 use Rattle.reason_agreement.proofs.YesLaws.{yes-exactly}
 
 decided : (o : Option Reason) → C.Decided (isNone o) ≡ decidedBy (measured o)
@@ -89,13 +90,18 @@ module _ (all : Bool) (aw an bw bn : List ℕ) where
         let m = length-says h in
         let q = m .long in
         let fits = le-leb (length (reasonText (m .reason))) (length out) (omega arith) in
+        let a = held-holds aw an (m .first) (m .first-held) .valid-tree in
+        let b = held-holds bw bn (m .second) (m .second-held) .valid-tree in
         record {
           first = m .first;
           second = m .second;
           reason = m .reason;
           first-held = m .first-held;
           second-held = m .second-held;
+          first-valid = a;
+          second-valid = b;
           found = m .found;
+          right = found-right all Top (m .reason .path) (m .reason .differs) (m .first) (m .second) a b (m .found);
           long = m .long;
           answer = rw (m .both, m .found, fits, q);
           output = rw (m .both, m .found, fits, q);

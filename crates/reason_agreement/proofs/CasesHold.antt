@@ -26,5 +26,5 @@ all-hold =
     also refl also refl also refl also refl also refl also refl also refl also refl also refl
     also refl also refl also refl
     also refl also refl also refl also refl also refl also refl also refl also refl also refl also refl also refl also refl also refl also refl also refl
-    also refl also refl also refl also refl also refl also refl
+    also refl also refl also refl also refl also refl also refl also refl also refl
     also tt

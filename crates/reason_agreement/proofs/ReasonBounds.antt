@@ -23,6 +23,6 @@ reason-has-room = enough
 pub reason-never-short : (all : Bool) (aw an bw bn out : List ℕ) → maxReason ≤ length out → reasonAnswer all aw an bw bn (length out) ≡ Refused OutputTooShort → ⊥
 reason-never-short = never-short
 
--- And one of two sheets has as many, by levels and with all fields.
+-- And the reason of these two sheets has as many, by levels and with all fields.
 pub reason-reached : (all : Bool) → reasonLen all (sheetOf farthestR) (namesOf farthestR) (sheetOf farthestS) (namesOf farthestS) ≡ Bytes maxReason
 reason-reached = reaches

@@ -72,7 +72,7 @@ module _ (all : Bool) (aw an bw bn : List ℕ) where
   compare-and-reason = compared all aw an bw bn
 
   module _ (out : List ℕ) where
-    -- With room for it, the reason is written, and the answer is its length.
+    -- With room for it, the reason is written, which is right of the trees that the lists hold, and the answer is its length.
     pub written : (n : ℕ) → reasonLen all aw an bw bn ≡ Bytes n → n ≤ length out → Written all aw an bw bn out n
     written = whole all aw an bw bn out
 

@@ -1,4 +1,4 @@
--- Two texts and the reason of the trees that they are read as, as one table: the cases of 02's N4 and more where one rule meets another.
+-- Two texts and the reason of the trees that they are read as, as one table: the cases that come with request N4 and more where one rule meets another.
 use Prim.Native.Nat.{ℕ}
 use mathlib.Core.Path.{_≡_}
 use mathlib.Core.Bool.{Bool, true, false}
@@ -41,7 +41,7 @@ same s t = (s, t, false, yes)
 abbrev pub differ : List ℕ → List ℕ → List ℕ → Case
 differ s t r = (s, t, false, no r)
 
--- The cases of 02.
+-- The cases that come with the request.
 unfoldable pub named : List Case
 named =
     differ (bytes "i") (bytes "d") (bytes ":kind 1:2 2:11")
@@ -107,6 +107,9 @@ below =
     ∷ differ (bytes "[2{R=i}]") (bytes "[2{R=d}]") (bytes "0.0:kind 1:2 2:11")
     ∷ differ (bytes "{R={S=i}i}") (bytes "{R={S=d}d}") (bytes "0.0:kind 1:2 2:11")
     ∷ differ (bytes "{R={S}^i}") (bytes "{R={S=d}^^i}") (bytes "1.0:kind 1:2 2:26")
+    -- the name of a container at bottom still counts
+    ∷ differ (bytes "^^{R=i}") (bytes "^^{S=d}") (bytes "0.0:name 1:R 1:S")
+    ∷ differ (bytes "[2^i]") (bytes "[2Ai]") (bytes "0:kind 2:26 2:27")
     ∷ []
 
 unfoldable pub cases : List Case

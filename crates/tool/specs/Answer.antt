@@ -149,7 +149,7 @@ kindText k = cond (ltb k 24) (lineOf k kindNames) (lineOf (k - 24) compoundNames
 
 -- Where the difference is, by the path to it.
 unfoldable pub placeText : List ℕ → List ℕ
-placeText path = cond (eqb (length path) 0) (bytes "the root") (bytes "item " ++ path)
+placeText path = cond (eqb (length path) 0) (bytes "the whole type") (bytes "item " ++ path)
 
 -- What is said of the size and of the count besides; each of the six words begins with another byte.
 unfoldable pub unitText : ℕ → List ℕ
@@ -162,7 +162,7 @@ valueText b v = cond (eqb b (byte "k")) (kindText (getD (decimals 0 v) 0 0)) v
 -- The sentence by the reason's path, its word and the values of both sides.
 unfoldable pub differenceBy : List ℕ → List ℕ → List ℕ → List ℕ → List ℕ
 differenceBy path word v w =
-    bytes "at "
+    bytes "in "
     ++ (placeText path
     ++ (bytes ": the "
     ++ (word

@@ -335,7 +335,7 @@ fn put_place(out: &mut [u8], at: usize, path: &[u8]) -> usize
     ensures { λ r. ⌜ Put (now (out .entry)) at (placeText (now (path .entry))) (now (out .exit)) r ⌝ }
 {
     if path.len() == 0 {
-        return lines::put_bytes(out, at, b"the root");
+        return lines::put_bytes(out, at, b"the whole type");
     }
     let to = lines::put_bytes(out, at, b"item ");
     lines::put_bytes(out, to, path)
@@ -369,7 +369,7 @@ fn put_sentence(out: &mut [u8], path: &[u8], word: &[u8], first: &[u8], second: 
     ensures { λ r. ⌜ Put (now (out .entry)) 0 (differenceBy (now (path .entry)) (now (word .entry)) (now (first .entry)) (now (second .entry))) (now (out .exit)) r ⌝ }
 {
     let letter = first_byte(word);
-    let place = lines::put_bytes(out, 0, b"at ");
+    let place = lines::put_bytes(out, 0, b"in ");
     let colon = put_place(out, place, path);
     let noun = lines::put_bytes(out, colon, b": the ");
     let unit = lines::put_bytes(out, noun, word);

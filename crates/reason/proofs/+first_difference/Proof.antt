@@ -57,7 +57,8 @@ claims t = (
 )
 
 abbrev Inv-loop : first-difference-lts.InvT-loop
-Inv-loop a an at₀ left₀ b bn bt₀ more₀ level₀ all here₀ at left bt more level here = (left ≤ left₀) × Left all level an a bn b at left bt more here at₀ left₀ bt₀ more₀
+Inv-loop a an at₀ left₀ b bn bt₀ more₀ level₀ all here₀ at left bt more level here = (left ≤ left₀) × Left all level an a bn b at left bt more here at₀ left₀
+    bt₀ more₀
     (itemsSpot all level₀ at₀ (trees an a left₀ at₀) (trees bn b more₀ bt₀))
 
 abbrev μ-loop : first-difference-lts.MeasureT-loop
@@ -81,28 +82,44 @@ first-difference-loop-holds t c =
 first-difference-returns : (t : ℕ) → first-difference-lts.Need-returns (claims t) (asked t) first-difference.Post Inv-loop μ-loop
 first-difference-returns t c = left-short (c .before .before .loop .inv .1) (zero-left _ (c .if1 .taken))
 
-first-difference-own-difference-requires : (t : ℕ) → first-difference-lts.Need-own-difference-requires (claims t) (asked t) first-difference.Post Inv-loop μ-loop
-first-difference-own-difference-requires t c κs = left-here (c .before .before .loop .inv .1) (c .before .loop-test .taken) (some-left _ (c .if1 .left))
+first-difference-own-difference-requires : (t : ℕ) → first-difference-lts.Need-own-difference-requires (claims t) (asked t) first-difference.Post Inv-loop
+    μ-loop
+first-difference-own-difference-requires t c κs =
+    let c2 = c .before .before in
+    left-here (c2 .loop .inv .1) (c .before .loop-test .taken) (some-left _ (c .if1 .left))
 
 first-difference-enum-known-x : (t : ℕ) → first-difference-lts.Need-enum-known-x (claims t) (asked t) first-difference.Post Inv-loop μ-loop
 first-difference-enum-known-x t c = search needs
 
 first-difference-returns-2 : (t : ℕ) → first-difference-lts.Need-returns-2 (claims t) (asked t) first-difference.Post Inv-loop μ-loop
-first-difference-returns-2 t c = left-own (c .before .before .before .before .before .before .loop .inv .1) (c .before .before .before .before .before .loop-test .taken) (some-left _ (c .before .before .before .before .if1 .left)) (rw (c .before .x .given .1) at (c .before .before .before .own-difference .ensures))
+first-difference-returns-2 t c =
+    let c3 = c .before .before .before in
+    let c4 = c3 .before in
+    let c5 = c4 .before in
+    let c6 = c5 .before in
+    left-own (c6 .loop .inv .1) (c5 .loop-test .taken) (some-left _ (c4 .if1 .left)) (rw (c .before .x .given .1) at (c3 .own-difference .ensures))
 
 first-difference-enum-told : (t : ℕ) → first-difference-lts.Need-enum-told (claims t) (asked t) first-difference.Post Inv-loop μ-loop
 first-difference-enum-told t c = search needs
 
 first-difference-mul-kind : (t : ℕ) → first-difference-lts.Need-mul-kind (claims t) (asked t) first-difference.Post Inv-loop μ-loop
 first-difference-mul-kind t c =
-    let b = left-bounds (c .before .before .before .before .before .loop .inv .1) (c .before .before .before .before .loop-test .taken) (some-left _ (c .before .before .before .if1 .left)) in
-    let g = c .before .before .before .before .before .before .before .before .before .before .good in
+    let c3 = c .before .before .before in
+    let c4 = c3 .before in
+    let c5 = c4 .before in
+    let c10 = c5 .before .before .before .before .before in
+    let b = left-bounds (c5 .loop .inv .1) (c4 .loop-test .taken) (some-left _ (c3 .if1 .left)) in
+    let g = c10 .good in
     omega arith
 
 first-difference-shared-slice-read-kind : (t : ℕ) → first-difference-lts.Need-shared-slice-read-kind (claims t) (asked t) first-difference.Post Inv-loop μ-loop
 first-difference-shared-slice-read-kind t c =
-    let b = left-bounds (c .before .before .before .before .before .before .loop .inv .1) (c .before .before .before .before .before .loop-test .taken) (some-left _ (c .before .before .before .before .if1 .left)) in
-    let g = c .before .before .before .before .before .before .before .before .before .before .before .good in
+    let c4 = c .before .before .before .before in
+    let c5 = c4 .before in
+    let c6 = c5 .before in
+    let c11 = c6 .before .before .before .before .before in
+    let b = left-bounds (c6 .loop .inv .1) (c5 .loop-test .taken) (some-left _ (c4 .if1 .left)) in
+    let g = c11 .good in
     omega arith
 
 first-difference-is-container-requires : (t : ℕ) → first-difference-lts.Need-is-container-requires (claims t) (asked t) first-difference.Post Inv-loop μ-loop
@@ -110,45 +127,77 @@ first-difference-is-container-requires t c κs = search needs
 
 first-difference-add-c : (t : ℕ) → first-difference-lts.Need-add-c (claims t) (asked t) first-difference.Post Inv-loop μ-loop
 first-difference-add-c t c =
-    let b = left-bounds (c .before .before .before .before .before .before .before .before .loop .inv .1) (c .before .before .before .before .before .before .before .loop-test .taken) (some-left _ (c .before .before .before .before .before .before .if1 .left)) in
-    let g = c .before .before .before .before .before .before .before .before .before .before .before .before .before .good in
+    let c6 = c .before .before .before .before .before .before in
+    let c7 = c6 .before in
+    let c8 = c7 .before in
+    let c13 = c8 .before .before .before .before .before in
+    let b = left-bounds (c8 .loop .inv .1) (c7 .loop-test .taken) (some-left _ (c6 .if1 .left)) in
+    let g = c13 .good in
     omega arith
 
 first-difference-mul-c : (t : ℕ) → first-difference-lts.Need-mul-c (claims t) (asked t) first-difference.Post Inv-loop μ-loop
 first-difference-mul-c t c =
-    let b = left-bounds (c .before .before .before .before .before .before .before .before .loop .inv .1) (c .before .before .before .before .before .before .before .loop-test .taken) (some-left _ (c .before .before .before .before .before .before .if1 .left)) in
-    let g = c .before .before .before .before .before .before .before .before .before .before .before .before .before .good in
+    let c6 = c .before .before .before .before .before .before in
+    let c7 = c6 .before in
+    let c8 = c7 .before in
+    let c13 = c8 .before .before .before .before .before in
+    let b = left-bounds (c8 .loop .inv .1) (c7 .loop-test .taken) (some-left _ (c6 .if1 .left)) in
+    let g = c13 .good in
     omega arith
 
 first-difference-shared-slice-read-c : (t : ℕ) → first-difference-lts.Need-shared-slice-read-c (claims t) (asked t) first-difference.Post Inv-loop μ-loop
 first-difference-shared-slice-read-c t c =
-    let b = left-bounds (c .before .before .before .before .before .before .before .before .before .loop .inv .1) (c .before .before .before .before .before .before .before .before .loop-test .taken) (some-left _ (c .before .before .before .before .before .before .before .if1 .left)) in
-    let g = c .before .before .before .before .before .before .before .before .before .before .before .before .before .before .good in
+    let c7 = c .before .before .before .before .before .before .before in
+    let c8 = c7 .before in
+    let c9 = c8 .before in
+    let c14 = c9 .before .before .before .before .before in
+    let b = left-bounds (c9 .loop .inv .1) (c8 .loop-test .taken) (some-left _ (c7 .if1 .left)) in
+    let g = c14 .good in
     omega arith
 
 first-difference-add-d : (t : ℕ) → first-difference-lts.Need-add-d (claims t) (asked t) first-difference.Post Inv-loop μ-loop
 first-difference-add-d t c =
-    let b = left-bounds (c .before .before .before .before .before .before .before .before .before .loop .inv .1) (c .before .before .before .before .before .before .before .before .loop-test .taken) (some-left _ (c .before .before .before .before .before .before .before .if1 .left)) in
-    let g = c .before .before .before .before .before .before .before .before .before .before .before .before .before .before .good in
+    let c7 = c .before .before .before .before .before .before .before in
+    let c8 = c7 .before in
+    let c9 = c8 .before in
+    let c14 = c9 .before .before .before .before .before in
+    let b = left-bounds (c9 .loop .inv .1) (c8 .loop-test .taken) (some-left _ (c7 .if1 .left)) in
+    let g = c14 .good in
     omega arith
 
 first-difference-mul-d : (t : ℕ) → first-difference-lts.Need-mul-d (claims t) (asked t) first-difference.Post Inv-loop μ-loop
 first-difference-mul-d t c =
-    let b = left-bounds (c .before .before .before .before .before .before .before .before .before .loop .inv .1) (c .before .before .before .before .before .before .before .before .loop-test .taken) (some-left _ (c .before .before .before .before .before .before .before .if1 .left)) in
-    let g = c .before .before .before .before .before .before .before .before .before .before .before .before .before .before .good in
+    let c7 = c .before .before .before .before .before .before .before in
+    let c8 = c7 .before in
+    let c9 = c8 .before in
+    let c14 = c9 .before .before .before .before .before in
+    let b = left-bounds (c9 .loop .inv .1) (c8 .loop-test .taken) (some-left _ (c7 .if1 .left)) in
+    let g = c14 .good in
     omega arith
 
 first-difference-shared-slice-read-d : (t : ℕ) → first-difference-lts.Need-shared-slice-read-d (claims t) (asked t) first-difference.Post Inv-loop μ-loop
 first-difference-shared-slice-read-d t c =
-    let b = left-bounds (c .before .before .before .before .before .before .before .before .before .before .loop .inv .1) (c .before .before .before .before .before .before .before .before .before .loop-test .taken) (some-left _ (c .before .before .before .before .before .before .before .before .if1 .left)) in
-    let g = c .before .before .before .before .before .before .before .before .before .before .before .before .before .before .before .good in
+    let c8 = c .before .before .before .before .before .before .before .before in
+    let c9 = c8 .before in
+    let c10 = c9 .before in
+    let c15 = c10 .before .before .before .before .before in
+    let b = left-bounds (c10 .loop .inv .1) (c9 .loop-test .taken) (some-left _ (c8 .if1 .left)) in
+    let g = c15 .good in
     omega arith
 
 first-difference-level-for-requires : (t : ℕ) → first-difference-lts.Need-level-for-requires (claims t) (asked t) first-difference.Post Inv-loop μ-loop
 first-difference-level-for-requires t c κs = search needs
 
-first-difference-compare-counts-requires : (t : ℕ) → first-difference-lts.Need-compare-counts-requires (claims t) (asked t) first-difference.Post Inv-loop μ-loop
-first-difference-compare-counts-requires t c κs = let h = left-here (c .before .before .before .before .before .before .before .before .before .before .before .loop .inv .1) (c .before .before .before .before .before .before .before .before .before .before .loop-test .taken) (some-left _ (c .before .before .before .before .before .before .before .before .before .if1 .left)) in (h .0 .0, h .0 .1, sym (c .before .before .before .before .is-container .ensures) ∙ c .before .before .before .if2 .taken)
+first-difference-compare-counts-requires : (t : ℕ) → first-difference-lts.Need-compare-counts-requires (claims t) (asked t) first-difference.Post Inv-loop
+    μ-loop
+first-difference-compare-counts-requires t c κs =
+    let c3 = c .before .before .before in
+    let c4 = c3 .before in
+    let c9 = c4 .before .before .before .before .before in
+    let c10 = c9 .before in
+    let c11 = c10 .before in
+    let h = left-here (c11 .loop .inv .1) (c10 .loop-test .taken) (some-left _ (c9 .if1 .left))
+    in (h .0 .0, h .0 .1, sym (c4 .is-container .ensures) ∙ c3 .if2 .taken)
 
 first-difference-enum-told-2 : (t : ℕ) → first-difference-lts.Need-enum-told-2 (claims t) (asked t) first-difference.Post Inv-loop μ-loop
 first-difference-enum-told-2 t c = search needs
@@ -157,163 +206,283 @@ first-difference-enum-told-3 : (t : ℕ) → first-difference-lts.Need-enum-told
 first-difference-enum-told-3 t c = search needs
 
 first-difference-returns-3 : (t : ℕ) → first-difference-lts.Need-returns-3 (claims t) (asked t) first-difference.Post Inv-loop μ-loop
-first-difference-returns-3 t c = left-count (c .before .before .before .before .before .before .before .before .before .before .before .before .before .before .loop .inv .1) (c .before .before .before .before .before .before .before .before .before .before .before .before .before .loop-test .taken) (some-left _ (c .before .before .before .before .before .before .before .before .before .before .before .before .if1 .left)) (rw (c .before .before .before .before .before .before .before .before .before .enum-told .given .1) at (c .before .before .before .before .before .before .before .before .before .before .before .own-difference .ensures)) (sym (c .before .before .before .before .before .before .before .is-container .ensures) ∙ c .before .before .before .before .before .before .if2 .taken) (c .before .before .before .level-for .ensures)
-    (rw (c .enum-told3 .given .1) at (c .before .before .compare-counts .ensures (c .before .before .before .before .before .before .before .before .before .before .before .before .before .before .before .before .before .before .before .args .an .now) (c .before .before .before .before .before .before .before .before .before .before .before .before .before .before .before .before .before .before .before .args .bn .now)))
+first-difference-returns-3 t c =
+    let c2 = c .before .before in
+    let c3 = c2 .before in
+    let c6 = c3 .before .before .before in
+    let c7 = c6 .before in
+    let c9 = c7 .before .before in
+    let c11 = c9 .before .before in
+    let c12 = c11 .before in
+    let c13 = c12 .before in
+    let c14 = c13 .before in
+    let c19 = c14 .before .before .before .before .before in
+    left-count (c14 .loop .inv .1) (c13 .loop-test .taken) (some-left _ (c12 .if1 .left)) (rw (c9 .enum-told .given .1) at (c11 .own-difference .ensures))
+    (sym (c7 .is-container .ensures) ∙ c6 .if2 .taken) (c3 .level-for .ensures)
+    (rw (c .enum-told3 .given .1) at (c2 .compare-counts .ensures (c19 .args .an .now) (c19 .args .bn .now)))
 
 first-difference-enum-told-4 : (t : ℕ) → first-difference-lts.Need-enum-told-4 (claims t) (asked t) first-difference.Post Inv-loop μ-loop
 first-difference-enum-told-4 t c = search needs
 
 first-difference-add-i : (t : ℕ) → first-difference-lts.Need-add-i (claims t) (asked t) first-difference.Post Inv-loop μ-loop
 first-difference-add-i t c =
-    let b = left-bounds (c .before .before .before .before .before .before .before .before .before .before .before .before .before .before .loop .inv .1) (c .before .before .before .before .before .before .before .before .before .before .before .before .before .loop-test .taken) (some-left _ (c .before .before .before .before .before .before .before .before .before .before .before .before .if1 .left)) in
-    let g = c .before .before .before .before .before .before .before .before .before .before .before .before .before .before .before .before .before .before .before .good in
+    let c12 = c .before .before .before .before .before .before .before .before .before .before .before .before in
+    let c13 = c12 .before in
+    let c14 = c13 .before in
+    let c19 = c14 .before .before .before .before .before in
+    let b = left-bounds (c14 .loop .inv .1) (c13 .loop-test .taken) (some-left _ (c12 .if1 .left)) in
+    let g = c19 .good in
     omega arith
 
 first-difference-sub-n : (t : ℕ) → first-difference-lts.Need-sub-n (claims t) (asked t) first-difference.Post Inv-loop μ-loop
 first-difference-sub-n t c =
-    let b = left-bounds (c .before .before .before .before .before .before .before .before .before .before .before .before .before .before .loop .inv .1) (c .before .before .before .before .before .before .before .before .before .before .before .before .before .loop-test .taken) (some-left _ (c .before .before .before .before .before .before .before .before .before .before .before .before .if1 .left)) in
-    let g = c .before .before .before .before .before .before .before .before .before .before .before .before .before .before .before .before .before .before .before .good in
+    let c12 = c .before .before .before .before .before .before .before .before .before .before .before .before in
+    let c13 = c12 .before in
+    let c14 = c13 .before in
+    let c19 = c14 .before .before .before .before .before in
+    let b = left-bounds (c14 .loop .inv .1) (c13 .loop-test .taken) (some-left _ (c12 .if1 .left)) in
+    let g = c19 .good in
     omega arith
 
 first-difference-add-j : (t : ℕ) → first-difference-lts.Need-add-j (claims t) (asked t) first-difference.Post Inv-loop μ-loop
 first-difference-add-j t c =
-    let b = left-bounds (c .before .before .before .before .before .before .before .before .before .before .before .before .before .before .loop .inv .1) (c .before .before .before .before .before .before .before .before .before .before .before .before .before .loop-test .taken) (some-left _ (c .before .before .before .before .before .before .before .before .before .before .before .before .if1 .left)) in
-    let g = c .before .before .before .before .before .before .before .before .before .before .before .before .before .before .before .before .before .before .before .good in
+    let c12 = c .before .before .before .before .before .before .before .before .before .before .before .before in
+    let c13 = c12 .before in
+    let c14 = c13 .before in
+    let c19 = c14 .before .before .before .before .before in
+    let b = left-bounds (c14 .loop .inv .1) (c13 .loop-test .taken) (some-left _ (c12 .if1 .left)) in
+    let g = c19 .good in
     omega arith
 
 first-difference-sub-m : (t : ℕ) → first-difference-lts.Need-sub-m (claims t) (asked t) first-difference.Post Inv-loop μ-loop
 first-difference-sub-m t c =
-    let b = left-bounds (c .before .before .before .before .before .before .before .before .before .before .before .before .before .before .loop .inv .1) (c .before .before .before .before .before .before .before .before .before .before .before .before .before .loop-test .taken) (some-left _ (c .before .before .before .before .before .before .before .before .before .before .before .before .if1 .left)) in
-    let g = c .before .before .before .before .before .before .before .before .before .before .before .before .before .before .before .before .before .before .before .good in
+    let c12 = c .before .before .before .before .before .before .before .before .before .before .before .before in
+    let c13 = c12 .before in
+    let c14 = c13 .before in
+    let c19 = c14 .before .before .before .before .before in
+    let b = left-bounds (c14 .loop .inv .1) (c13 .loop-test .taken) (some-left _ (c12 .if1 .left)) in
+    let g = c19 .good in
     omega arith
 
 first-difference-loop-less : (t : ℕ) → first-difference-lts.Need-loop-less (claims t) (asked t) first-difference.Post Inv-loop μ-loop
 first-difference-loop-less t c =
-    let b = left-bounds (c .before .before .before .before .before .before .before .before .before .before .before .before .before .before .before .loop .inv .1) (c .before .before .before .before .before .before .before .before .before .before .before .before .before .before .loop-test .taken) (some-left _ (c .before .before .before .before .before .before .before .before .before .before .before .before .before .if1 .left)) in
-    let g = c .before .before .before .before .before .before .before .before .before .before .before .before .before .before .before .before .before .before .before .before .good in
+    let c13 = c .before .before .before .before .before .before .before .before .before .before .before .before .before in
+    let c14 = c13 .before in
+    let c15 = c14 .before in
+    let c20 = c15 .before .before .before .before .before in
+    let b = left-bounds (c15 .loop .inv .1) (c14 .loop-test .taken) (some-left _ (c13 .if1 .left)) in
+    let g = c20 .good in
     omega arith
 
 first-difference-loop-again : (t : ℕ) → first-difference-lts.Need-loop-again (claims t) (asked t) first-difference.Post Inv-loop μ-loop
 first-difference-loop-again t c =
-    let b = left-bounds (c .before .before .before .before .before .before .before .before .before .before .before .before .before .before .before .loop .inv .1) (c .before .before .before .before .before .before .before .before .before .before .before .before .before .before .loop-test .taken) (some-left _ (c .before .before .before .before .before .before .before .before .before .before .before .before .before .if1 .left)) in
-    (omega arith, left-last (c .before .before .before .before .before .before .before .before .before .before .before .before .before .before .before .loop .inv .1) (c .before .before .before .before .before .before .before .before .before .before .before .before .before .before .loop-test .taken) (some-left _ (c .before .before .before .before .before .before .before .before .before .before .before .before .before .if1 .left)) (rw (c .before .before .before .before .before .before .before .before .before .before .enum-told .given .1) at (c .before .before .before .before .before .before .before .before .before .before .before .before .own-difference .ensures)) (sym (c .before .before .before .before .before .before .before .before .is-container .ensures) ∙ c .before .before .before .before .before .before .before .if2 .taken) (c .before .before .before .before .level-for .ensures) (rw (c .before .enum-told4 .given .1) at (c .before .before .before .compare-counts .ensures (c .before .before .before .before .before .before .before .before .before .before .before .before .before .before .before .before .before .before .before .before .args .an .now) (c .before .before .before .before .before .before .before .before .before .before .before .before .before .before .before .before .before .before .before .before .args .bn .now))) (c .if3 .taken))
+    let c3 = c .before .before .before in
+    let c4 = c3 .before in
+    let c7 = c4 .before .before .before in
+    let c8 = c7 .before in
+    let c10 = c8 .before .before in
+    let c12 = c10 .before .before in
+    let c13 = c12 .before in
+    let c14 = c13 .before in
+    let c15 = c14 .before in
+    let c20 = c15 .before .before .before .before .before in
+    let b = left-bounds (c15 .loop .inv .1) (c14 .loop-test .taken) (some-left _ (c13 .if1 .left)) in (
+      omega arith,
+      left-last (c15 .loop .inv .1) (c14 .loop-test .taken) (some-left _ (c13 .if1 .left))
+          (rw (c10 .enum-told .given .1) at (c12 .own-difference .ensures)) (sym (c8 .is-container .ensures) ∙ c7 .if2 .taken) (c4 .level-for .ensures)
+          (rw (c .before .enum-told4 .given .1) at (c3 .compare-counts .ensures (c20 .args .an .now) (c20 .args .bn .now))) (c .if3 .taken),
+    )
 
 first-difference-sub-first-difference : (t : ℕ) → first-difference-lts.Need-sub-first-difference (claims t) (asked t) first-difference.Post Inv-loop μ-loop
 first-difference-sub-first-difference t c = search needs
 
-first-difference-part-first-difference-start : (t : ℕ) → first-difference-lts.Need-part-first-difference-start (claims t) (asked t) first-difference.Post Inv-loop μ-loop
+first-difference-part-first-difference-start : (t : ℕ) → first-difference-lts.Need-part-first-difference-start (claims t) (asked t) first-difference.Post
+    Inv-loop μ-loop
 first-difference-part-first-difference-start t c = search needs
 
-first-difference-part-first-difference-end : (t : ℕ) → first-difference-lts.Need-part-first-difference-end (claims t) (asked t) first-difference.Post Inv-loop μ-loop
+first-difference-part-first-difference-end : (t : ℕ) → first-difference-lts.Need-part-first-difference-end (claims t) (asked t) first-difference.Post Inv-loop
+    μ-loop
 first-difference-part-first-difference-end t c = search needs
 
 first-difference-sub-first-difference-2 : (t : ℕ) → first-difference-lts.Need-sub-first-difference-2 (claims t) (asked t) first-difference.Post Inv-loop μ-loop
 first-difference-sub-first-difference-2 t c = search needs
 
-first-difference-part-first-difference-start-2 : (t : ℕ) → first-difference-lts.Need-part-first-difference-start-2 (claims t) (asked t) first-difference.Post Inv-loop μ-loop
+first-difference-part-first-difference-start-2 : (t : ℕ) → first-difference-lts.Need-part-first-difference-start-2 (claims t) (asked t) first-difference.Post
+    Inv-loop μ-loop
 first-difference-part-first-difference-start-2 t c = search needs
 
-first-difference-part-first-difference-end-2 : (t : ℕ) → first-difference-lts.Need-part-first-difference-end-2 (claims t) (asked t) first-difference.Post Inv-loop μ-loop
+first-difference-part-first-difference-end-2 : (t : ℕ) → first-difference-lts.Need-part-first-difference-end-2 (claims t) (asked t) first-difference.Post
+    Inv-loop μ-loop
 first-difference-part-first-difference-end-2 t c = search needs
 
 first-difference-sub-first-difference-3 : (t : ℕ) → first-difference-lts.Need-sub-first-difference-3 (claims t) (asked t) first-difference.Post Inv-loop μ-loop
 first-difference-sub-first-difference-3 t c = search needs
 
-first-difference-part-first-difference-start-3 : (t : ℕ) → first-difference-lts.Need-part-first-difference-start-3 (claims t) (asked t) first-difference.Post Inv-loop μ-loop
+first-difference-part-first-difference-start-3 : (t : ℕ) → first-difference-lts.Need-part-first-difference-start-3 (claims t) (asked t) first-difference.Post
+    Inv-loop μ-loop
 first-difference-part-first-difference-start-3 t c = search needs
 
-first-difference-part-first-difference-end-3 : (t : ℕ) → first-difference-lts.Need-part-first-difference-end-3 (claims t) (asked t) first-difference.Post Inv-loop μ-loop
+first-difference-part-first-difference-end-3 : (t : ℕ) → first-difference-lts.Need-part-first-difference-end-3 (claims t) (asked t) first-difference.Post
+    Inv-loop μ-loop
 first-difference-part-first-difference-end-3 t c = search needs
 
 first-difference-sub-first-difference-4 : (t : ℕ) → first-difference-lts.Need-sub-first-difference-4 (claims t) (asked t) first-difference.Post Inv-loop μ-loop
 first-difference-sub-first-difference-4 t c = search needs
 
-first-difference-part-first-difference-start-4 : (t : ℕ) → first-difference-lts.Need-part-first-difference-start-4 (claims t) (asked t) first-difference.Post Inv-loop μ-loop
+first-difference-part-first-difference-start-4 : (t : ℕ) → first-difference-lts.Need-part-first-difference-start-4 (claims t) (asked t) first-difference.Post
+    Inv-loop μ-loop
 first-difference-part-first-difference-start-4 t c = search needs
 
-first-difference-part-first-difference-end-4 : (t : ℕ) → first-difference-lts.Need-part-first-difference-end-4 (claims t) (asked t) first-difference.Post Inv-loop μ-loop
+first-difference-part-first-difference-end-4 : (t : ℕ) → first-difference-lts.Need-part-first-difference-end-4 (claims t) (asked t) first-difference.Post
+    Inv-loop μ-loop
 first-difference-part-first-difference-end-4 t c = search needs
 
-first-difference-first-difference-requires : (t : ℕ) → first-difference-lts.Need-first-difference-requires (claims t) (asked t) first-difference.Post Inv-loop μ-loop
+first-difference-first-difference-requires : (t : ℕ) → first-difference-lts.Need-first-difference-requires (claims t) (asked t) first-difference.Post Inv-loop
+    μ-loop
 first-difference-first-difference-requires t c κs =
-    let b = left-bounds (c .before .before .before .before .before .before .before .before .before .before .before .before .before .before .before .before .before .before .before .loop .inv .1) (c .before .before .before .before .before .before .before .before .before .before .before .before .before .before .before .before .before .before .loop-test .taken) (some-left _ (c .before .before .before .before .before .before .before .before .before .before .before .before .before .before .before .before .before .if1 .left)) in
-    let i = left-inner (c .before .before .before .before .before .before .before .before .before .before .before .before .before .before .before .before .before .before .before .loop .inv .1) (c .before .before .before .before .before .before .before .before .before .before .before .before .before .before .before .before .before .before .loop-test .taken) (some-left _ (c .before .before .before .before .before .before .before .before .before .before .before .before .before .before .before .before .before .if1 .left)) (rw (c .before .before .before .before .before .before .before .before .before .before .before .before .before .before .enum-told .given .1) at (c .before .before .before .before .before .before .before .before .before .before .before .before .before .before .before .before .own-difference .ensures)) (sym (c .before .before .before .before .before .before .before .before .before .before .before .before .is-container .ensures) ∙ c .before .before .before .before .before .before .before .before .before .before .before .if2 .taken) (c .before .before .before .before .before .before .before .before .level-for .ensures) (rw (c .before .before .before .before .before .enum-told4 .given .1) at (c .before .before .before .before .before .before .before .compare-counts .ensures (c .before .before .before .before .before .before .before .before .before .before .before .before .before .before .before .before .before .before .before .before .before .before .before .before .args .an .now) (c .before .before .before .before .before .before .before .before .before .before .before .before .before .before .before .before .before .before .before .before .before .before .before .before .args .bn .now))) in
+    let c5 = c .before .before .before .before .before in
+    let c7 = c5 .before .before in
+    let c8 = c7 .before in
+    let c11 = c8 .before .before .before in
+    let c12 = c11 .before in
+    let c14 = c12 .before .before in
+    let c16 = c14 .before .before in
+    let c17 = c16 .before in
+    let c18 = c17 .before in
+    let c19 = c18 .before in
+    let c24 = c19 .before .before .before .before .before in
+    let b = left-bounds (c19 .loop .inv .1) (c18 .loop-test .taken) (some-left _ (c17 .if1 .left)) in
+    let i = left-inner (c19 .loop .inv .1) (c18 .loop-test .taken) (some-left _ (c17 .if1 .left))
+    (rw (c14 .enum-told .given .1) at (c16 .own-difference .ensures)) (sym (c12 .is-container .ensures) ∙ c11 .if2 .taken) (c8 .level-for .ensures)
+    (rw (c5 .enum-told4 .given .1) at (c7 .compare-counts .ensures (c24 .args .an .now) (c24 .args .bn .now))) in
     rw (whole, whole, whole, whole) (omega arith, i)
 
 first-difference-enum-known-x-2 : (t : ℕ) → first-difference-lts.Need-enum-known-x-2 (claims t) (asked t) first-difference.Post Inv-loop μ-loop
 first-difference-enum-known-x-2 t c = search needs
 
 first-difference-returns-4 : (t : ℕ) → first-difference-lts.Need-returns-4 (claims t) (asked t) first-difference.Post Inv-loop μ-loop
-first-difference-returns-4 t c = left-fields (c .before .before .before .before .before .before .before .before .before .before .before .before .before .before .before .before .before .before .before .before .before .before .before .loop .inv .1) (c .before .before .before .before .before .before .before .before .before .before .before .before .before .before .before .before .before .before .before .before .before .before .loop-test .taken) (some-left _ (c .before .before .before .before .before .before .before .before .before .before .before .before .before .before .before .before .before .before .before .before .before .if1 .left)) (rw (c .before .before .before .before .before .before .before .before .before .before .before .before .before .before .before .before .before .before .enum-told .given .1) at (c .before .before .before .before .before .before .before .before .before .before .before .before .before .before .before .before .before .before .before .before .own-difference .ensures)) (sym (c .before .before .before .before .before .before .before .before .before .before .before .before .before .before .before .before .is-container .ensures) ∙ c .before .before .before .before .before .before .before .before .before .before .before .before .before .before .before .if2 .taken) (c .before .before .before .before .before .before .before .before .before .before .before .before .level-for .ensures) (rw (c .before .before .before .before .before .before .before .before .before .enum-told4 .given .1) at (c .before .before .before .before .before .before .before .before .before .before .before .compare-counts .ensures (c .before .before .before .before .before .before .before .before .before .before .before .before .before .before .before .before .before .before .before .before .before .before .before .before .before .before .before .before .args .an .now) (c .before .before .before .before .before .before .before .before .before .before .before .before .before .before .before .before .before .before .before .before .before .before .before .before .before .before .before .before .args .bn .now)))
-    (rw (c .before .x2 .given .1) at (rw (whole, whole, whole, whole) at (c .before .before .before .first-difference .ensures)))
+first-difference-returns-4 t c =
+    let c3 = c .before .before .before in
+    let c9 = c3 .before .before .before .before .before .before in
+    let c11 = c9 .before .before in
+    let c12 = c11 .before in
+    let c15 = c12 .before .before .before in
+    let c16 = c15 .before in
+    let c18 = c16 .before .before in
+    let c20 = c18 .before .before in
+    let c21 = c20 .before in
+    let c22 = c21 .before in
+    let c23 = c22 .before in
+    let c28 = c23 .before .before .before .before .before in
+    left-fields (c23 .loop .inv .1) (c22 .loop-test .taken) (some-left _ (c21 .if1 .left)) (rw (c18 .enum-told .given .1) at (c20 .own-difference .ensures))
+    (sym (c16 .is-container .ensures) ∙ c15 .if2 .taken) (c12 .level-for .ensures)
+    (rw (c9 .enum-told4 .given .1) at (c11 .compare-counts .ensures (c28 .args .an .now) (c28 .args .bn .now)))
+    (rw (c .before .x2 .given .1) at (rw (whole, whole, whole, whole) at (c3 .first-difference .ensures)))
 
 first-difference-enum-told-5 : (t : ℕ) → first-difference-lts.Need-enum-told-5 (claims t) (asked t) first-difference.Post Inv-loop μ-loop
 first-difference-enum-told-5 t c = search needs
 
 first-difference-mul-at : (t : ℕ) → first-difference-lts.Need-mul-at (claims t) (asked t) first-difference.Post Inv-loop μ-loop
 first-difference-mul-at t c =
-    let b = left-bounds (c .before .before .before .before .before .before .before .before .before .loop .inv .1) (c .before .before .before .before .before .before .before .before .loop-test .taken) (some-left _ (c .before .before .before .before .before .before .before .if1 .left)) in
-    let g = c .before .before .before .before .before .before .before .before .before .before .before .before .before .before .good in
+    let c7 = c .before .before .before .before .before .before .before in
+    let c8 = c7 .before in
+    let c9 = c8 .before in
+    let c14 = c9 .before .before .before .before .before in
+    let b = left-bounds (c9 .loop .inv .1) (c8 .loop-test .taken) (some-left _ (c7 .if1 .left)) in
+    let g = c14 .good in
     ⊎-elim (λ i. omega arith) (⊎-elim (λ i. omega arith) (λ i. omega arith)) (c .before .if2 .came)
 
 first-difference-add-at : (t : ℕ) → first-difference-lts.Need-add-at (claims t) (asked t) first-difference.Post Inv-loop μ-loop
 first-difference-add-at t c =
-    let b = left-bounds (c .before .before .before .before .before .before .before .before .before .loop .inv .1) (c .before .before .before .before .before .before .before .before .loop-test .taken) (some-left _ (c .before .before .before .before .before .before .before .if1 .left)) in
-    let g = c .before .before .before .before .before .before .before .before .before .before .before .before .before .before .good in
+    let c7 = c .before .before .before .before .before .before .before in
+    let c8 = c7 .before in
+    let c9 = c8 .before in
+    let c14 = c9 .before .before .before .before .before in
+    let b = left-bounds (c9 .loop .inv .1) (c8 .loop-test .taken) (some-left _ (c7 .if1 .left)) in
+    let g = c14 .good in
     ⊎-elim (λ i. omega arith) (⊎-elim (λ i. omega arith) (λ i. omega arith)) (c .before .if2 .came)
 
 first-difference-sub-left : (t : ℕ) → first-difference-lts.Need-sub-left (claims t) (asked t) first-difference.Post Inv-loop μ-loop
 first-difference-sub-left t c =
-    let b = left-bounds (c .before .before .before .before .before .before .before .before .before .loop .inv .1) (c .before .before .before .before .before .before .before .before .loop-test .taken) (some-left _ (c .before .before .before .before .before .before .before .if1 .left)) in
-    let g = c .before .before .before .before .before .before .before .before .before .before .before .before .before .before .good in
+    let c7 = c .before .before .before .before .before .before .before in
+    let c8 = c7 .before in
+    let c9 = c8 .before in
+    let c14 = c9 .before .before .before .before .before in
+    let b = left-bounds (c9 .loop .inv .1) (c8 .loop-test .taken) (some-left _ (c7 .if1 .left)) in
+    let g = c14 .good in
     ⊎-elim (λ i. omega arith) (⊎-elim (λ i. omega arith) (λ i. omega arith)) (c .before .if2 .came)
 
 first-difference-mul-bt : (t : ℕ) → first-difference-lts.Need-mul-bt (claims t) (asked t) first-difference.Post Inv-loop μ-loop
 first-difference-mul-bt t c =
-    let b = left-bounds (c .before .before .before .before .before .before .before .before .before .before .loop .inv .1) (c .before .before .before .before .before .before .before .before .before .loop-test .taken) (some-left _ (c .before .before .before .before .before .before .before .before .if1 .left)) in
+    let b = left-bounds (c .before .before .before .before .before .before .before .before .before .before .loop .inv .1)
+    (c .before .before .before .before .before .before .before .before .before .loop-test .taken)
+    (some-left _ (c .before .before .before .before .before .before .before .before .if1 .left)) in
     let g = c .before .before .before .before .before .before .before .before .before .before .before .before .before .before .before .good in
-    ⊎-elim (λ i. omega arith) (⊎-elim (λ i. omega arith) (λ i. omega arith)) (c .before .before .if2 .came)
+    ⊎-elim (λ i. omega arith) (⊎-elim (λ i. omega arith) (λ i. omega arith))
+    (c .before .before .if2 .came)
 
 first-difference-add-bt : (t : ℕ) → first-difference-lts.Need-add-bt (claims t) (asked t) first-difference.Post Inv-loop μ-loop
 first-difference-add-bt t c =
-    let b = left-bounds (c .before .before .before .before .before .before .before .before .before .before .loop .inv .1) (c .before .before .before .before .before .before .before .before .before .loop-test .taken) (some-left _ (c .before .before .before .before .before .before .before .before .if1 .left)) in
+    let b = left-bounds (c .before .before .before .before .before .before .before .before .before .before .loop .inv .1)
+    (c .before .before .before .before .before .before .before .before .before .loop-test .taken)
+    (some-left _ (c .before .before .before .before .before .before .before .before .if1 .left)) in
     let g = c .before .before .before .before .before .before .before .before .before .before .before .before .before .before .before .good in
-    ⊎-elim (λ i. omega arith) (⊎-elim (λ i. omega arith) (λ i. omega arith)) (c .before .before .if2 .came)
+    ⊎-elim (λ i. omega arith) (⊎-elim (λ i. omega arith) (λ i. omega arith))
+    (c .before .before .if2 .came)
 
 first-difference-sub-more : (t : ℕ) → first-difference-lts.Need-sub-more (claims t) (asked t) first-difference.Post Inv-loop μ-loop
 first-difference-sub-more t c =
-    let b = left-bounds (c .before .before .before .before .before .before .before .before .before .before .loop .inv .1) (c .before .before .before .before .before .before .before .before .before .loop-test .taken) (some-left _ (c .before .before .before .before .before .before .before .before .if1 .left)) in
-    let g = c .before .before .before .before .before .before .before .before .before .before .before .before .before .before .before .good in
-    ⊎-elim (λ i. omega arith) (⊎-elim (λ i. omega arith) (λ i. omega arith)) (c .before .before .if2 .came)
+    let c2 = c .before .before in
+    let c8 = c2 .before .before .before .before .before .before in
+    let c9 = c8 .before in
+    let c10 = c9 .before in
+    let c15 = c10 .before .before .before .before .before in
+    let b = left-bounds (c10 .loop .inv .1) (c9 .loop-test .taken) (some-left _ (c8 .if1 .left)) in
+    let g = c15 .good in
+    ⊎-elim (λ i. omega arith) (⊎-elim (λ i. omega arith) (λ i. omega arith)) (c2 .if2 .came)
 
 first-difference-level-after-requires : (t : ℕ) → first-difference-lts.Need-level-after-requires (claims t) (asked t) first-difference.Post Inv-loop μ-loop
 first-difference-level-after-requires t c κs = search needs
 
 first-difference-loop-less-2 : (t : ℕ) → first-difference-lts.Need-loop-less-2 (claims t) (asked t) first-difference.Post Inv-loop μ-loop
 first-difference-loop-less-2 t c =
-    let b = left-bounds (c .before .before .before .before .before .before .before .before .before .before .before .loop .inv .1) (c .before .before .before .before .before .before .before .before .before .before .loop-test .taken) (some-left _ (c .before .before .before .before .before .before .before .before .before .if1 .left)) in
-    let g = c .before .before .before .before .before .before .before .before .before .before .before .before .before .before .before .before .good in
-    ⊎-elim (λ i. omega arith) (⊎-elim (λ i. omega arith) (λ i. omega arith)) (c .before .before .before .if2 .came)
+    let c3 = c .before .before .before in
+    let c9 = c3 .before .before .before .before .before .before in
+    let c10 = c9 .before in
+    let c11 = c10 .before in
+    let c16 = c11 .before .before .before .before .before in
+    let b = left-bounds (c11 .loop .inv .1) (c10 .loop-test .taken) (some-left _ (c9 .if1 .left)) in
+    let g = c16 .good in
+    ⊎-elim (λ i. omega arith) (⊎-elim (λ i. omega arith) (λ i. omega arith)) (c3 .if2 .came)
 
 first-difference-loop-again-2 : (t : ℕ) → first-difference-lts.Need-loop-again-2 (claims t) (asked t) first-difference.Post Inv-loop μ-loop
 first-difference-loop-again-2 t c =
-    let b = left-bounds (c .before .before .before .before .before .before .before .before .before .before .before .loop .inv .1) (c .before .before .before .before .before .before .before .before .before .before .loop-test .taken) (some-left _ (c .before .before .before .before .before .before .before .before .before .if1 .left)) in
-    let e = (rw (c .before .before .before .before .before .before .enum-told .given .1) at (c .before .before .before .before .before .before .before .before .own-difference .ensures)) in
+    let c3 = c .before .before .before in
+    let c4 = c3 .before in
+    let c6 = c4 .before .before in
+    let c8 = c6 .before .before in
+    let c9 = c8 .before in
+    let c10 = c9 .before in
+    let c11 = c10 .before in
+    let c16 = c11 .before .before .before .before .before in
+    let b = left-bounds (c11 .loop .inv .1) (c10 .loop-test .taken) (some-left _ (c9 .if1 .left)) in
+    let e = (rw (c6 .enum-told .given .1) at (c8 .own-difference .ensures)) in
     ⊎-elim (λ i. (
       omega arith,
-      left-over (c .before .before .before .before .before .before .before .before .before .before .before .loop .inv .1) (c .before .before .before .before .before .before .before .before .before .before .loop-test .taken) (some-left _ (c .before .before .before .before .before .before .before .before .before .if1 .left)) e (sym (c .before .before .before .before .is-container .ensures) ∙ i .0 .taken) (i .3 .ensures)
-          (rw (i .6 .given .1) at (i .4 .ensures (c .before .before .before .before .before .before .before .before .before .before .before .before .before .before .before .before .args .an .now) (c .before .before .before .before .before .before .before .before .before .before .before .before .before .before .before .before .args .bn .now))) (i .7) (i .8) (c .level-after .ensures),
+      left-over (c11 .loop .inv .1) (c10 .loop-test .taken) (some-left _ (c9 .if1 .left)) e (sym (c4 .is-container .ensures) ∙ i .0 .taken) (i .3 .ensures)
+          (rw (i .6 .given .1) at (i .4 .ensures (c16 .args .an .now) (c16 .args .bn .now))) (i .7) (i .8) (c .level-after .ensures),
     ))
     (⊎-elim (λ i. (
       omega arith,
-      left-after (c .before .before .before .before .before .before .before .before .before .before .before .loop .inv .1) (c .before .before .before .before .before .before .before .before .before .before .loop-test .taken) (some-left _ (c .before .before .before .before .before .before .before .before .before .if1 .left)) e (sym (c .before .before .before .before .is-container .ensures) ∙ i .0 .taken) (i .3 .ensures)
-          (rw (i .6 .given .1) at (i .4 .ensures (c .before .before .before .before .before .before .before .before .before .before .before .before .before .before .before .before .args .an .now) (c .before .before .before .before .before .before .before .before .before .before .before .before .before .before .before .before .args .bn .now)))
+      left-after (c11 .loop .inv .1) (c10 .loop-test .taken) (some-left _ (c9 .if1 .left)) e (sym (c4 .is-container .ensures) ∙ i .0 .taken) (i .3 .ensures)
+          (rw (i .6 .given .1) at (i .4 .ensures (c16 .args .an .now) (c16 .args .bn .now)))
           (rw (i .14 .given .1) at (rw (whole, whole, whole, whole) at (i .12 .ensures))) (i .15) (i .16) (c .level-after .ensures),
     ))
     (λ i. (
       omega arith,
-      left-next (c .before .before .before .before .before .before .before .before .before .before .before .loop .inv .1) (c .before .before .before .before .before .before .before .before .before .before .loop-test .taken) (some-left _ (c .before .before .before .before .before .before .before .before .before .if1 .left)) e (sym (c .before .before .before .before .is-container .ensures) ∙ i .0 .left) (i .1) (i .2) (c .level-after .ensures),
-    ))) (c .before .before .before .if2 .came)
+      left-next (c11 .loop .inv .1) (c10 .loop-test .taken) (some-left _ (c9 .if1 .left)) e (sym (c4 .is-container .ensures) ∙ i .0 .left) (i .1) (i .2)
+          (c .level-after .ensures),
+    ))) (c3 .if2 .came)
 
 first-difference-returns-5 : (t : ℕ) → first-difference-lts.Need-returns-5 (claims t) (asked t) first-difference.Post Inv-loop μ-loop
 first-difference-returns-5 t c = left-end (c .before .loop .inv .1) (c .loop-test .left)
