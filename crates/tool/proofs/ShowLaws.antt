@@ -214,9 +214,9 @@ pub kind-compound : (k : ℕ) → 24 ≤ k → lineOf (k - 24) compoundNames ≡
 unfolding kindText
 kind-compound k h = sym (rw (le-ltb k 24 h))
 
-pub place-root : (path : List ℕ) → length path ≡ 0 → (116 ∷ 104 ∷ 101 ∷ 32 ∷ 114 ∷ 111 ∷ 111 ∷ 116 ∷ []) ≡ placeText path
+pub place-whole : (path : List ℕ) → length path ≡ 0 → (116 ∷ 104 ∷ 101 ∷ 32 ∷ 119 ∷ 104 ∷ 111 ∷ 108 ∷ 101 ∷ 32 ∷ 116 ∷ 121 ∷ 112 ∷ 101 ∷ []) ≡ placeText path
 unfolding placeText
-place-root path h = sym (rw (eq-eqb (length path) 0 h))
+place-whole path h = sym (rw (eq-eqb (length path) 0 h))
 
 pub place-item : (path : List ℕ) → (length path ≡ 0 → ⊥) → (105 ∷ 116 ∷ 101 ∷ 109 ∷ 32 ∷ []) ++ path ≡ placeText path
 unfolding placeText
@@ -242,7 +242,7 @@ pub value-itself : (b : ℕ) (v : List ℕ) → (b ≡ 107 → ⊥) → v ≡ va
 unfolding valueText
 value-itself b v e = sym (rw (ne-eqb b 107 e))
 
-pub difference-by : (path word v w : List ℕ) (b : ℕ) → b ≡ getD word 0 0 → (97 ∷ 116 ∷ 32 ∷ []) ++ (placeText path ++ ((58 ∷ 32 ∷ 116 ∷ 104 ∷ 101 ∷ 32 ∷ []) ++
+pub difference-by : (path word v w : List ℕ) (b : ℕ) → b ≡ getD word 0 0 → (105 ∷ 110 ∷ 32 ∷ []) ++ (placeText path ++ ((58 ∷ 32 ∷ 116 ∷ 104 ∷ 101 ∷ 32 ∷ []) ++
     (word ++ (unitText b ++ ((32 ∷ 105 ∷ 115 ∷ 32 ∷ []) ++ (valueText b v ++ ((32 ∷ 105 ∷ 110 ∷ 32 ∷ 116 ∷ 104 ∷ 101 ∷ 32 ∷ 102 ∷ 105 ∷ 114 ∷ 115 ∷ 116 ∷ 44 ∷ 32 ∷ []) ++
     (valueText b w ++ (32 ∷ 105 ∷ 110 ∷ 32 ∷ 116 ∷ 104 ∷ 101 ∷ 32 ∷ 115 ∷ 101 ∷ 99 ∷ 111 ∷ 110 ∷ 100 ∷ [])))))))))
     ≡ differenceBy path word v w

@@ -1,6 +1,6 @@
 -- `tool::show::put_place` meets its contract. Assumes nothing.
 use Rattle.lines.proofs.PutLaws.{put-same, put-append}
-use Rattle.tool.proofs.ShowLaws.{place-root, place-item}
+use Rattle.tool.proofs.ShowLaws.{place-whole, place-item}
 use borrow.Author.Needs.{needs}
 use Rattle.tool.proofs.show.put_place.Statement.{statement}
 use Rattle.tool.proofs.show.put_place.Tie as tie
@@ -10,7 +10,7 @@ returns c =
     let c2 = c .before .before in
     let c5 = c2 .before .before .before in
     let c8 = c5 .before .before .before in
-    put-same (place-root (c8 .args .path .now) (c5 .if1 .taken)) (c2 .put-bytes .ensures)
+    put-same (place-whole (c8 .args .path .now) (c5 .if1 .taken)) (c2 .put-bytes .ensures)
 
 returns-2 : tie.Need-returns-2
 returns-2 c =
