@@ -1,5 +1,5 @@
 -- Laws of values and of their text.
-use Prim.Native.Nat.{ℕ, _+_, _-_, _≤_}
+use Prim.Native.Nat.{ℕ, _+_, _-_, _/_, _%_, _≤_, _<_}
 use native.Mathlib.Omega.{arith}
 use mathlib.Core.Path.{_≡_, refl, ap, sym, _∙_, subst}
 use mathlib.Core.Logic.{⊎-elim}
@@ -9,6 +9,7 @@ use types.Run.{OneOf}
 use denote.Enum.Declared.{tagOf}
 use Rattle.kinds.specs.Print.{decimal}
 use Rattle.kinds.specs.Sheet.{firstAt, secondAt}
+use Rattle.kinds.proofs.DecimalLaws.{decimal-low, decimal-high}
 use Rattle.reason.specs.Reason.{pathText, valueText, valuesText, differenceText, reasonText}
 use Rattle.reason.specs.Spot.{nameAt, wordOf, numberAt, valueAt, differenceAt, NameWithin, pathFrom, reasonAt}
 use Rattle.reason.specs.declared.Aspect.{Aspect}
@@ -100,3 +101,23 @@ module _ (a : Aspect) (an v : List ℕ) (at : ℕ) (bn w : List ℕ) (bt : ℕ) 
       let z = length-append (pathText (pathFrom v 0 at)) ((58 ∷ []) ++ (wordOf a ++ (s ++ t))) in
       let q : p + 1 + d + (m + n) ≡ length (pathText (pathFrom v 0 at) ++ ((58 ∷ []) ++ (wordOf a ++ (s ++ t)))) = omega arith in
       q ∙ ap length reason-pieces
+
+-- ---- Numbers of one and of two digits.
+
+div-lt : (n : ℕ) → n < 100 → n / 10 < 10
+div-lt n h = omega arith
+
+pub value-one : (n : ℕ) → n < 10 → 32 ∷ 49 ∷ 58 ∷ (48 + n) ∷ [] ≡ valueText (decimal n)
+unfolding valueText
+value-one n h = sym (rw (decimal-low n h) (ap (λ s. 32 ∷ (s ++ (58 ∷ (48 + n) ∷ []))) (decimal-low 1 (omega arith))))
+
+pub value-two : (n : ℕ) → 10 ≤ n → n < 100 → 32 ∷ 50 ∷ 58 ∷ (48 + n / 10) ∷ (48 + n % 10) ∷ [] ≡ valueText (decimal n)
+unfolding valueText
+value-two n lo hi =
+    sym (rw (decimal-high n lo, decimal-low (n / 10) (div-lt n hi)) (ap (λ s. 32 ∷ (s ++ (58 ∷ (48 + n / 10) ∷ (48 + n % 10) ∷ []))) (decimal-low 2 (omega arith))))
+
+pub one-value-length : (n : ℕ) → n < 10 → 4 ≡ length (valueText (decimal n))
+one-value-length n h = ap length (value-one n h)
+
+pub two-value-length : (n : ℕ) → 10 ≤ n → n < 100 → 5 ≡ length (valueText (decimal n))
+two-value-length n lo hi = ap length (value-two n lo hi)

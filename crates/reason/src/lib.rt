@@ -29,7 +29,8 @@ use lines::put_bytes;
 use lines::put_marked;
 use lines::put_number;
 use sheet::CheckedBoth;
-use sheet::check_both;
+use sheet::both_of;
+use sheet::check;
 use static_str::static_int_str_len;
 
 // What of two nodes differs.
@@ -366,6 +367,13 @@ fn text_len(n: usize) -> usize
 fn number_len(n: u64) -> usize
     ensures { λ r. ⌜ (r ≡ length (valueText (decimal n))) × (r ≤ maxValueText) ⌝ }
 {
+    // kinds and most other numbers
+    if n < 10 {
+        return 4;
+    }
+    if n < 100 {
+        return 5;
+    }
     text_len(static_int_str_len(n))
 }
 
@@ -411,6 +419,14 @@ fn put_word(out: &mut [u8], to: usize, aspect: Aspect) -> usize
 fn put_number_value(out: &mut [u8], to: usize, n: u64) -> usize
     ensures { λ r. ⌜ Put (now (out .entry)) to (valueText (decimal n)) (now (out .exit)) r ⌝ }
 {
+    if n < 10 {
+        return put_bytes(out, to, &[b' ', b'1', b':', b'0' + n as u8]);
+    }
+    if n < 100 {
+        let tens = b'0' + (n / 10) as u8;
+        let ones = b'0' + (n % 10) as u8;
+        return put_bytes(out, to, &[b' ', b'2', b':', tens, ones]);
+    }
     let mark = put_marked(out, to, b' ', static_int_str_len(n) as u64);
     put_marked(out, mark, b':', n)
 }
@@ -547,7 +563,7 @@ fn write_codes(k: u64, j: u64, out: &mut [u8]) -> Reasoned
 pub fn reason_len(aw: &[u64], an: &[u8], bw: &[u64], bn: &[u8], all: bool) -> Reasoned
     ensures { λ r. ⌜ r ≡ reasonLen all (now (aw .entry)) (now (an .entry)) (now (bw .entry)) (now (bn .entry)) ⌝ }
 {
-    match check_both(aw, an, bw, bn) {
+    match both_of(check(aw, an), check(bw, bn)) {
         CheckedBoth::Refused(why) => Reasoned::Refused(why),
         CheckedBoth::Codes(k, j) => codes_len(k, j),
         CheckedBoth::Nodes(f, n, g, m) => nodes_len(
@@ -567,7 +583,7 @@ pub fn reason(aw: &[u64], an: &[u8], bw: &[u64], bn: &[u8], all: bool, out: &mut
     ensures answers { λ r. ⌜ r ≡ reasonAnswer all (now (aw .entry)) (now (an .entry)) (now (bw .entry)) (now (bn .entry)) (length (now (out .entry))) ⌝ }
     ensures writes { λ _. ⌜ now (out .exit) ≡ reasonOutput all (now (aw .entry)) (now (an .entry)) (now (bw .entry)) (now (bn .entry)) (now (out .entry)) ⌝ }
 {
-    match check_both(aw, an, bw, bn) {
+    match both_of(check(aw, an), check(bw, bn)) {
         CheckedBoth::Refused(why) => Reasoned::Refused(why),
         CheckedBoth::Codes(k, j) => write_codes(k, j, out),
         CheckedBoth::Nodes(f, n, g, m) => write_nodes(

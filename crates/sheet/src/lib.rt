@@ -373,7 +373,8 @@ fn sooner_of(a: Refusal, b: Refusal) -> Refusal
     b
 }
 
-fn both_of(a: Checked, b: Checked) -> CheckedBoth
+// What the checks of two sheets say together.
+pub fn both_of(a: Checked, b: Checked) -> CheckedBoth
     ensures { λ r. ⌜ r ≡ both a b ⌝ }
 {
     match a {
