@@ -238,16 +238,28 @@ pub fn put_bytes(out: &mut [u8], at: usize, s: &[u8]) -> usize
     to
 }
 
-// Writes a number in decimal; the next place.
+// Writes a number in decimal, four digits at a time; the next place.
 pub fn put_number(out: &mut [u8], at: usize, n: u64) -> usize
     ensures { λ r. ⌜ Put (now (out .entry)) at (decimal n) (now (out .exit)) r ⌝ }
 {
     if n < 10 {
         return put_byte(out, at, b'0' + (n as u8));
     }
-    let next = put_number(out, at, n / 10);
-    let digit = (n % 10) as u8;
-    put_byte(out, next, b'0' + digit)
+    let ones = b'0' + (n % 10) as u8;
+    let tens = b'0' + (n / 10 % 10) as u8;
+    if n < 100 {
+        return put_bytes(out, at, &[tens, ones]);
+    }
+    let hundreds = b'0' + (n / 100 % 10) as u8;
+    if n < 1000 {
+        return put_bytes(out, at, &[hundreds, tens, ones]);
+    }
+    let thousands = b'0' + (n / 1000 % 10) as u8;
+    if n < 10000 {
+        return put_bytes(out, at, &[thousands, hundreds, tens, ones]);
+    }
+    let next = put_number(out, at, n / 10000);
+    put_bytes(out, next, &[thousands, hundreds, tens, ones])
 }
 
 // Writes a byte and a number; the next place.

@@ -16,7 +16,7 @@ use Rattle.kinds.specs.Walk.{NodeAt}
 use Rattle.kinds.proofs.NodeLaws.{by-kind, kind-label, label-primitive, label-struct, label-union}
 use Rattle.helper.proofs.CompareLaws.{partner, low-partner}
 use Rattle.reason.specs.Reason.{kind, size, offset, length as len, name, orElse, unless, offsetOf, lengthOf, ownDifference}
-use Rattle.reason.specs.Spot.{spotted, nameAt, differenceAt, Named, ValueAt, Finds}
+use Rattle.reason.specs.Spot.{spotted, nameAt, numberAt, differenceAt, Named, ValueAt, Finds}
 use Rattle.reason.specs.declared.Aspect.{Aspect}
 use Rattle.reason.specs.declared.Aspect.the-variants as A
 use Rattle.reason.specs.declared.Found.{Found}
@@ -66,17 +66,18 @@ module _ (an a bn b : List ℕ) (at bt : ℕ) (ha : NodeAt a at) (hb : NodeAt b 
   abbrev pub OwnIs : Found → Type 0
   OwnIs r = Finds an a at 1 bn b bt 1 (spotted at (ownDifference (labelAt an a at) (labelAt bn b bt))) r
 
-  found : (aspect : Aspect) → Named aspect a at → Named aspect b bt → ownDifference (labelAt an a at) (labelAt bn b bt) ≡ some (differenceAt aspect an a at bn b bt) → OwnIs (F.At at bt aspect)
+  found : (aspect : Aspect) → Named aspect a at → Named aspect b bt → ownDifference (labelAt an a at) (labelAt bn b bt) ≡ some (differenceAt aspect an a at bn b bt)
+      → OwnIs (F.At at bt aspect (numberAt aspect a at) (numberAt aspect b bt))
   unfolding spotted
-  found aspect x y e = (ap (spotted at) e, (this-value aspect a at ha x, this-value aspect b bt hb y))
+  found aspect x y e = (ap (spotted at) e, (this-value aspect a at ha x, this-value aspect b bt hb y), (refl, refl))
 
   same : ownDifference (labelAt an a at) (labelAt bn b bt) ≡ none → OwnIs F.Same
   unfolding spotted
   same e = ap (spotted at) e
 
   -- kinds
-  pub own-kind : kindAt a at ≤ 31 → kindAt b bt ≤ 31 → equivalent (kindAt a at) (kindAt b bt) ≡ false → OwnIs (F.At at bt A.Kind)
-  unfolding ownDifference orElse unless differenceAt
+  pub own-kind : kindAt a at ≤ 31 → kindAt b bt ≤ 31 → equivalent (kindAt a at) (kindAt b bt) ≡ false → OwnIs (F.At at bt A.Kind (kindAt a at) (kindAt b bt))
+  unfolding ownDifference orElse unless differenceAt numberAt
   own-kind p q h = found A.Kind tt tt (rw (kind-label an (firstAt a at) (secondAt a at) (kindAt a at) p, kind-label bn (firstAt b bt) (secondAt b bt) (kindAt b bt) q, h))
 
   module _ (h : equivalent (kindAt a at) (kindAt b bt) ≡ true) where
@@ -109,11 +110,11 @@ module _ (an a bn b : List ℕ) (at bt : ℕ) (ha : NodeAt a at) (hb : NodeAt b 
       unfolding unless
       own-same-name e = same (named p ∙ ap (λ x. unless x (name (nameAt an a at) (nameAt bn b bt))) e)
 
-      pub other-named : 24 ≤ kindAt a at → isContainerKind (kindAt b bt) ≡ true
+      other-named : 24 ≤ kindAt a at → isContainerKind (kindAt b bt) ≡ true
       other-named lo = ap isContainerKind (partner (kindAt a at) (kindAt b bt) h (omega arith)) ∙ p
 
-      pub own-name : 24 ≤ kindAt a at → sameBytes (nameAt an a at) (nameAt bn b bt) ≡ false → OwnIs (F.At at bt A.Name)
-      unfolding unless differenceAt
+      pub own-name : 24 ≤ kindAt a at → sameBytes (nameAt an a at) (nameAt bn b bt) ≡ false → OwnIs (F.At at bt A.Name (secondAt a at) (secondAt b bt))
+      unfolding unless differenceAt numberAt
       own-name lo e = found A.Name p (other-named lo) (named p ∙ ap (λ x. unless x (name (nameAt an a at) (nameAt bn b bt))) e)
 
   -- numbers
@@ -134,8 +135,8 @@ module _ (an a bn b : List ℕ) (at bt : ℕ) (ha : NodeAt a at) (hb : NodeAt b 
     either : 24 ≤ kindAt a at → kindAt a at ≤ 25 → (kindAt a at ≡ 24 → ⊥) → kindAt a at ≡ 25
     either lo hi h = omega arith
 
-    pub own-size : 24 ≤ kindAt a at → kindAt a at ≤ 25 → (secondAt a at ≡ secondAt b bt → ⊥) → OwnIs (F.At at bt A.Size)
-    unfolding orElse unless differenceAt
+    pub own-size : 24 ≤ kindAt a at → kindAt a at ≤ 25 → (secondAt a at ≡ secondAt b bt → ⊥) → OwnIs (F.At at bt A.Size (secondAt a at) (secondAt b bt))
+    unfolding orElse unless differenceAt numberAt
     own-size lo hi h = found A.Size tt tt (go (eqb (kindAt a at) 24) refl)
       where
         go : (t : Bool) → eqb (kindAt a at) 24 ≡ t → ownDifference (labelAt an a at) (labelAt bn b bt) ≡ some (differenceAt A.Size an a at bn b bt)
@@ -147,8 +148,8 @@ module _ (an a bn b : List ℕ) (at bt : ℕ) (ha : NodeAt a at) (hb : NodeAt b 
     own-same-bits k e = same (bits-are k ∙ rw (eq-eqb (secondAt a at) (secondAt b bt) e))
 
     module _ (lo : 24 ≤ kindAt a at) (hi : kindAt a at ≤ 25) (no : kindAt a at ≡ 24 → ⊥) (e : secondAt a at ≡ secondAt b bt) where
-      pub own-offset : (firstAt a at ≡ firstAt b bt → ⊥) → OwnIs (F.At at bt A.Offset)
-      unfolding orElse unless differenceAt
+      pub own-offset : (firstAt a at ≡ firstAt b bt → ⊥) → OwnIs (F.At at bt A.Offset (firstAt a at) (firstAt b bt))
+      unfolding orElse unless differenceAt numberAt
       own-offset h = found A.Offset tt tt (typed-is (either lo hi no) ∙ rw (eq-eqb (secondAt a at) (secondAt b bt) e, ne-eqb (firstAt a at) (firstAt b bt) h))
 
       pub own-same-typed : firstAt a at ≡ firstAt b bt → OwnIs F.Same
@@ -158,8 +159,8 @@ module _ (an a bn b : List ℕ) (at bt : ℕ) (ha : NodeAt a at) (hb : NodeAt b 
     pub own-other : 25 < kindAt a at → kindAt a at ≤ 31 → isContainerKind (kindAt a at) ≡ false → (kindAt a at ≡ 28 → ⊥) → OwnIs F.Same
     own-other lo hi c n = same (one-kind ∙ own-plain an bn (kindAt a at) (firstAt a at) (secondAt a at) (firstAt b bt) (secondAt b bt) (omega arith) hi c (λ e. omega arith) (λ e. omega arith) n)
 
-    pub own-length : kindAt a at ≡ 28 → (firstAt a at ≡ firstAt b bt → ⊥) → OwnIs (F.At at bt A.Length)
-    unfolding unless differenceAt
+    pub own-length : kindAt a at ≡ 28 → (firstAt a at ≡ firstAt b bt → ⊥) → OwnIs (F.At at bt A.Length (firstAt a at) (firstAt b bt))
+    unfolding unless differenceAt numberAt
     own-length k h = found A.Length tt tt (array-is k ∙ rw (ne-eqb (firstAt a at) (firstAt b bt) h))
 
     pub own-same-array : kindAt a at ≡ 28 → firstAt a at ≡ firstAt b bt → OwnIs F.Same

@@ -1,34 +1,42 @@
 -- Laws of items and of the path to a node.
-use Prim.Native.Nat.{ℕ, suc, _+_, _-_, _*_, _≤_, _<_}
+use Prim.Native.Nat.{ℕ, suc, _+_, _-_, _*_, _/_, _≤_, _<_}
 use native.Mathlib.Numerals.{add-one}
 use native.Mathlib.Omega.{arith}
 use mathlib.Core.Path.{_≡_, refl, ap, sym, _∙_, subst}
 use mathlib.Core.List.{List, [], _∷_, _++_}
 use mathlib.Core.Bool.{Bool, true, false, cond}
-use borrow.Author.Tests.{lt-ltb, le-ltb, ne-eqb, eq-eqb}
+use borrow.Author.Tests.{ltb-true, ltb-false, lt-ltb, le-ltb, eqb-true, eqb-false, ne-eqb, eq-eqb}
 use lib.ListN.{length, length-append}
-use lib.Dec.{eqb}
+use lib.Dec.{ltb, eqb}
 use Rattle.kinds.specs.Print.{decimal}
 use Rattle.kinds.specs.Sheet.{countAt, labelAt, trees}
 use Rattle.kinds.specs.Tree as T
-use Rattle.kinds.specs.Tree.{node}
+use Rattle.kinds.specs.Tree.{Trees, end, node}
 use Rattle.kinds.specs.Walk.{NodeAt, TreesAt}
 use Rattle.kinds.proofs.SheetLaws.{trees-step}
 use Rattle.kinds.proofs.NodeLaws.{node-inner, first-some, first-within, first-node, other-trees, no-trees}
-use Rattle.static_str.proofs.NumberLaws.{decimal-fits}
+use Rattle.kinds.proofs.DecimalLaws.{decimal-low}
+use Rattle.static_str.proofs.NumberLaws.{decimal-few, decimal-fits}
 use Rattle.reason.specs.Reason.{items, pathText, dotted}
 use Rattle.reason.specs.Spot.{NodeOf, below, pathTo, pathFrom, Inside, Towards, itemText}
 use Rattle.reason.proofs.SpotLaws.{trees-count}
 
 -- ---- The count of items.
 
-pub items-none : (s w : List ℕ) (n at : ℕ) → n ≤ 0 → items (trees s w n at) ≡ 0
+items-none : (s w : List ℕ) (n at : ℕ) → n ≤ 0 → items (trees s w n at) ≡ 0
 unfolding items
 items-none s w n at p = ap items (no-trees s w n at p)
 
-pub items-step : (s w : List ℕ) (n at : ℕ) → TreesAt w at n → 0 < n → items (trees s w n at) ≡ suc (items (trees s w (n - countAt w at) (at + 4 * countAt w at)))
+items-step : (s w : List ℕ) (n at : ℕ) → TreesAt w at n → 0 < n → items (trees s w n at) ≡ suc (items (trees s w (n - countAt w at) (at + 4 * countAt w at)))
 unfolding items
 items-step s w n at h p = ap items (trees-step s w n at (first-some w at n h p) (first-within w at n h p))
+
+-- `k` is the count that the code has read
+pub items-next : (s w : List ℕ) (n at k : ℕ) → k ≡ countAt w at → TreesAt w at n → 0 < n
+    → TreesAt w (at + 4 * k) (n - k) × (items (trees s w n at) ≡ suc (items (trees s w (n - k) (at + 4 * k))))
+items-next s w n at k e h p =
+    subst (λ (j : ℕ). TreesAt w (at + 4 * j) (n - j) × (items (trees s w n at) ≡ suc (items (trees s w (n - j) (at + 4 * j))))) (sym e)
+    (other-trees w at n h p, items-step s w n at h p)
 
 pub items-all : (s w : List ℕ) (n at : ℕ) {k all : ℕ} → k + items (trees s w n at) ≡ all → n ≤ 0 → k ≡ all
 items-all s w n at e p = let i = items-none s w n at p in omega arith
@@ -45,7 +53,7 @@ pub record Among (w : List ℕ) (parent x at i : ℕ) : Type 0 where
   pub path : pathFrom w parent x ≡ pathTo (trees [] w left at) at i x
 
 -- the node at `x`, past the first
-pub node-past : {at n x : ℕ} (k : ℕ) → NodeOf at n x → at + 4 * k ≤ x → NodeOf (at + 4 * k) (n - k) x
+node-past : {at n x : ℕ} (k : ℕ) → NodeOf at n x → at + 4 * k ≤ x → NodeOf (at + 4 * k) (n - k) x
 node-past {at} {n} {x} k h p =
     let e = h .is in
     let f = h .few in
@@ -53,6 +61,9 @@ node-past {at} {n} {x} k h p =
 
 pub node-within : {at n x : ℕ} (k : ℕ) → NodeOf at n x → x < at + 4 * k → NodeOf at k x
 node-within k h p = let e = h .is in record { number = h .number; is = e; few = omega arith }
+
+node-as : {at n m x : ℕ} → NodeOf at n x → n ≡ m → NodeOf at m x
+node-as {at} {n} {m} {x} h e = subst (λ (k : ℕ). NodeOf at k x) e h
 
 -- below the node at `at`
 pub node-below : {at n x : ℕ} → NodeOf at n x → at < x → NodeOf (at + 4) (n - 1) x
@@ -64,15 +75,22 @@ node-first h = let e = h .is in omega arith
 pub node-last : {at n x : ℕ} → NodeOf at n x → x ≤ at → at ≡ x
 node-last h p = let e = h .is in omega arith
 
+node-after : {at n x : ℕ} → NodeOf at n x → (x ≡ at → ⊥) → at < x
+node-after {at} {n} {x} h d = go (ltb at x) refl
+  where
+    go : (t : Bool) → ltb at x ≡ t → at < x
+    go true e = ltb-true at x e
+    go false e = absurd (d (sym (node-last h (ltb-false at x e))))
+
 -- the place of a node of a sheet
 pub inside-place : {w : List ℕ} {x : ℕ} → Inside w x → x ≤ 8000
 inside-place h = let e = h .node .is in let f = h .node .few in let n = h .few in omega arith
 
-pub path-here : (w : List ℕ) (at : ℕ) → pathFrom w at at ≡ []
+path-here : (w : List ℕ) (at : ℕ) → pathFrom w at at ≡ []
 unfolding pathFrom
 path-here w at = rw (eq-eqb at at refl)
 
-pub path-below : (w : List ℕ) (at x : ℕ) → at < x → pathFrom w at x ≡ pathTo (below [] w at) (at + 4) 0 x
+path-below : (w : List ℕ) (at x : ℕ) → at < x → pathFrom w at x ≡ pathTo (below [] w at) (at + 4) 0 x
 unfolding pathFrom
 path-below w at x p = rw (ne-eqb x at (λ e. omega arith))
 
@@ -200,3 +218,60 @@ item-first i e = sym (ap (λ t. itemText t i) e)
 pub item-later : (i : ℕ) {first : Bool} → first ≡ false → 46 ∷ decimal i ≡ itemText first i
 unfolding itemText
 item-later i e = sym (ap (λ t. itemText t i) e)
+
+pub item-digit : (i : ℕ) {first : Bool} → first ≡ false → i < 10 → 46 ∷ (48 + i) ∷ [] ≡ itemText first i
+item-digit i e h = ap (λ s. 46 ∷ s) (sym (decimal-low i h)) ∙ item-later i e
+
+-- ---- How long the text of a path can be.
+
+pub dotted-length : (i : ℕ) (p : List ℕ) → length (dotted (i ∷ p)) ≡ 1 + length (decimal i) + length (dotted p)
+unfolding dotted
+dotted-length i p = omega (arith, length-append (decimal i) (dotted p))
+
+dotted-none : length (dotted []) ≡ 0
+unfolding dotted
+dotted-none = refl
+
+text-dotted : (p : List ℕ) → length (pathText p) ≤ length (dotted p)
+unfolding pathText dotted
+text-dotted [] = omega arith
+text-dotted (i ∷ p) = omega arith
+
+-- two bytes for each node before it, and for the node itself
+to-half : (t : Trees) (at i x : ℕ) → NodeOf at (T.count t) x → 2 * length (dotted (pathTo t at i x)) ≤ 4 * suc i + (x - at)
+unfolding pathTo T.count
+to-half end at i x h = let f = h .few in absurd (omega arith)
+to-half (node l cs ts) at i x h =
+    go (eqb x at) refl (ltb x (at + 4 * suc (T.count cs))) refl (λ k. to-half cs (at + 4) 0 x k) (λ k. to-half ts (at + 4 * suc (T.count cs)) (suc i) x k)
+  where
+    n : ℕ
+    n = suc (T.count cs)
+
+    go : (s : Bool) → eqb x at ≡ s → (t : Bool) → ltb x (at + 4 * n) ≡ t
+        → (NodeOf (at + 4) (T.count cs) x → 2 * length (dotted (pathTo cs (at + 4) 0 x)) ≤ 4 + (x - (at + 4)))
+        → (NodeOf (at + 4 * n) (T.count ts) x → 2 * length (dotted (pathTo ts (at + 4 * n) (suc i) x)) ≤ 4 * suc (suc i) + (x - (at + 4 * n)))
+        → 2 * length (dotted (cond s (i ∷ []) (cond t (i ∷ pathTo cs (at + 4) 0 x) (pathTo ts (at + 4 * n) (suc i) x)))) ≤ 4 * suc i + (x - at)
+    go true e t f inner later = omega (arith, dotted-length i [], decimal-few i, dotted-none)
+    go false e true f inner later =
+        let k = node-below (node-within n h (ltb-true x (at + 4 * n) f)) (node-after h (eqb-false x at e)) in
+        let s = node-first k in
+        omega (arith, inner (node-as k (omega arith)), dotted-length i (pathTo cs (at + 4) 0 x), decimal-few i)
+    go false e false f inner later =
+        let k = node-past n h (ltb-false x (at + 4 * n) f) in
+        let s = node-first k in
+        omega (arith, later (node-as k (omega arith)))
+
+pub path-half : {w : List ℕ} {x : ℕ} → Inside w x → length (pathText (pathFrom w 0 x)) ≤ x / 2
+path-half {w} {x} h = go (eqb x 0) refl
+  where
+    size : T.count (below [] w 0) ≡ countAt w 0 - 1
+    size = trees-count [] w (countAt w 0 - 1) (0 + 4)
+
+    go : (t : Bool) → eqb x 0 ≡ t → length (pathText (pathFrom w 0 x)) ≤ x / 2
+    go true e = let p = ap (λ y. length (pathText (pathFrom w 0 y))) (eqb-true x 0 e) ∙ ap (λ y. length (pathText y)) (path-here w 0) in omega (arith, text-dotted [], dotted-none)
+    go false e =
+        let b = node-after (h .node) (eqb-false x 0 e) in
+        let k = node-as (node-below (h .node) b) (sym size) in
+        let s = node-first k in
+        let p = ap (λ y. length (pathText y)) (path-below w 0 x b) in
+        omega (arith, to-half (below [] w 0) (0 + 4) 0 x k, text-dotted (pathTo (below [] w 0) (0 + 4) 0 x))

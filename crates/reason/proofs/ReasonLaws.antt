@@ -32,13 +32,14 @@ use Rattle.lines.specs.Answer.{Put}
 use Rattle.reason.specs.Reason.{Difference, kind, Reason, orElse, unless, offsetOf, lengthOf, ownDifference, items, itemsCompared, countDifference, here, under, nodeDifference, itemsDifference, firstDifference}
 use Rattle.reason.specs.Reason.{pathText, valueText, valuesText, differenceText, reasonText}
 use Rattle.reason.specs.Answer.{measured, fittedReason, placedReason, reasonLen, reasonAnswer, reasonOutput}
-use Rattle.reason.specs.Spot.{Spot, spotted, nodeSpot, itemsSpot, NodeOf, below, Named, NameWithin, ValueAt, Finds, pathTo, pathFrom, Inside, reasonAt, Rooted, codesDifference}
+use Rattle.reason.specs.Spot.{Spot, spotted, nodeSpot, itemsSpot, NodeOf, below, Named, numberAt, differenceLength, NameWithin, NameShort, ValueAt, Finds, pathTo, pathFrom, Inside, reasonAt, Rooted, codesDifference}
 use Rattle.reason.specs.declared.Aspect.{Aspect}
 use Rattle.reason.specs.declared.Aspect.the-variants as A
 use Rattle.reason.specs.declared.Found.{Found}
 use Rattle.reason.specs.declared.Found.the-variants as F
 use Rattle.reason.specs.declared.Reasoned.{Reasoned}
 use Rattle.reason.specs.declared.Reasoned.the-variants.{Refused, Yes, Bytes}
+use Rattle.reason.proofs.ValueLaws.{short-name, reason-length}
 
 -- ---- The answers, by the first difference; `n` is the length that the code has counted.
 
@@ -81,6 +82,9 @@ module _ {d : Option Reason} (r : Reason) (e : d ≡ some r) {n : ℕ} (l : n �
         ∙ ap (λ (k : ℕ). reasonText r ++ drop k out) z
         ∙ sym (ap (placedReason out) e ∙ rw (le-leb (length (reasonText r)) (length out) (omega arith)))
 
+    pub put-fitted : {after : List ℕ} {next : ℕ} → n ≤ length out → Put out 0 (reasonText r) after next → Bytes next ≡ fittedReason (length out) d
+    put-fitted {after} {next} h p = let q = p .place in let e : next ≡ n = omega arith in ap Bytes e ∙ bytes-fitted h
+
 -- ---- Two codes.
 
 module _ (all : Bool) (k j : ℕ) where
@@ -118,7 +122,7 @@ module _ (k j : ℕ) where
 -- ---- The walk's spot makes the first difference.
 
 -- A spot as a reason, with the path to its place.
-unfoldable pub withPath : (ℕ → List ℕ) → Option Spot → Option Reason
+unfoldable withPath : (ℕ → List ℕ) → Option Spot → Option Reason
 withPath f none = none
 withPath f (some s) = some (record { path = f (s .place); differs = s .differs })
 
@@ -258,7 +262,7 @@ module _ (s t w : List ℕ) where
       ∙ ap₂ (λ (p q : List ℕ). cond (eqb x b) (i ∷ []) (cond (ltb x (b + 4 * suc e)) (i ∷ p) q))
       (read-path f k (at + 4) (b + 4) 0 x) (read-path f (n - k) (at + 4 + 4 * k) (b + 4 * suc e) (suc i) x)
 
-  pub path-names : (n at b i x : ℕ) → pathTo (trees s w n at) b i x ≡ pathTo (trees t w n at) b i x
+  path-names : (n at b i x : ℕ) → pathTo (trees s w n at) b i x ≡ pathTo (trees t w n at) b i x
   unfolding trees
   path-names n at b i x = read-path n n at b i x
 
@@ -323,12 +327,13 @@ module _ {names w : List ℕ} {n : ℕ} (g : Rooted names w n) {aspect : Aspect}
   value-short : NameWithin aspect maxNames w x
   value-short = named-within aspect maxNames w x (v .named) (subst (KindAndName w maxNames) (sym (v .node .is)) (g .short-names (v .node .number) (v .node .few)))
 
--- The trees differ first in an aspect of the nodes at `x` and `y`, which can be counted and written.
-pub record Differs (all : Bool) (an a : List ℕ) (n : ℕ) (bn b : List ℕ) (m x y : ℕ) (aspect : Aspect) : Type 0 where
+-- The trees differ first in an aspect of the nodes at `x` and `y`, with the numbers `k` and `j`, which can be counted and written.
+pub record Differs (all : Bool) (an a : List ℕ) (n : ℕ) (bn b : List ℕ) (m x y : ℕ) (aspect : Aspect) (k j : ℕ) : Type 0 where
   pub reason : firstDifference all Top (trees an a n 0) (trees bn b m 0) ≡ some (reasonAt aspect an a x bn b y)
   pub places : Inside a x × NodeAt a x × NodeAt b y
   pub short : NameWithin aspect maxNames a x × NameWithin aspect maxNames b y
   pub lent : NameWithin aspect (length an) a x × NameWithin aspect (length bn) b y
+  pub numbers : (k ≡ numberAt aspect a x) × (j ≡ numberAt aspect b y)
 
 module _ (all : Bool) (v : NestingLevel) (top : v ≡ Top) (an a : List ℕ) (n : ℕ) (bn b : List ℕ) (m : ℕ) (g : Rooted an a n) (h : Rooted bn b m) {r : Found}
     (f : Finds an a 0 n bn b 0 m (itemsSpot all v 0 (trees an a n 0) (trees bn b m 0)) r) where
@@ -336,17 +341,28 @@ module _ (all : Bool) (v : NestingLevel) (top : v ≡ Top) (an a : List ℕ) (n 
   unfolding withPath
   found-same e = top-spot all v an a n bn b m g h top ∙ ap (withPath (pathFrom a 0)) (subst (Finds an a 0 n bn b 0 m (itemsSpot all v 0 (trees an a n 0) (trees bn b m 0))) e f)
 
-  pub found-at : {x y : ℕ} {aspect : Aspect} → r ≡ F.At x y aspect → Differs all an a n bn b m x y aspect
+  pub found-at : {x y k j : ℕ} {aspect : Aspect} → r ≡ F.At x y aspect k j → Differs all an a n bn b m x y aspect k j
   unfolding withPath reasonAt
-  found-at {x} {y} {aspect} e =
-      let at : Finds an a 0 n bn b 0 m (itemsSpot all v 0 (trees an a n 0) (trees bn b m 0)) (F.At x y aspect) =
+  found-at {x} {y} {k} {j} {aspect} e =
+      let at : Finds an a 0 n bn b 0 m (itemsSpot all v 0 (trees an a n 0) (trees bn b m 0)) (F.At x y aspect k j) =
       subst (Finds an a 0 n bn b 0 m (itemsSpot all v 0 (trees an a n 0) (trees bn b m 0))) e f in
       record {
         reason = top-spot all v an a n bn b m g h top ∙ ap (withPath (pathFrom a 0)) (at .0);
         places = (value-inside g (at .1 .0), at .1 .0 .whole, at .1 .1 .whole);
         short = (value-short g (at .1 .0), value-short h (at .1 .1));
         lent = (value-lent g (at .1 .0), value-lent h (at .1 .1));
+        numbers = at .2;
       }
+
+module _ {all : Bool} {an a : List ℕ} {n : ℕ} {bn b : List ℕ} {m x y : ℕ} {aspect : Aspect} {k j : ℕ} (d : Differs all an a n bn b m x y aspect k j) where
+  pub numbers-short : NameShort aspect k × NameShort aspect j
+  numbers-short = (short-name aspect a x (d .numbers .0) (d .short .0), short-name aspect b y (d .numbers .1) (d .short .1))
+
+  -- what the code counts: the path, and what follows it
+  pub counted : {rest : ℕ} → rest ≡ differenceLength aspect k j → length (pathText (pathFrom a 0 x)) + rest ≡ length (reasonText (reasonAt aspect an a x bn b y))
+  counted g =
+      ap (λ (r : ℕ). length (pathText (pathFrom a 0 x)) + r) g
+      ∙ reason-length aspect an a x bn b y (d .lent .0) (d .lent .1) (d .numbers .0) (d .numbers .1)
 
 -- ---- The answers of the calls, from what the check of two sheets gives.
 

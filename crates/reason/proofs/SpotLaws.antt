@@ -61,13 +61,13 @@ some≢none {A} {x} e = false≢true (ap isNone e)
     isNone none = true
     isNone (some y) = false
 
-pub spotted-none : (at : ℕ) (d : Option Difference) → spotted at d ≡ none → d ≡ none
+spotted-none : (at : ℕ) (d : Option Difference) → spotted at d ≡ none → d ≡ none
 unfolding spotted
 spotted-none at none e = refl
 spotted-none at (some d) e = absurd (some≢none e)
 
 -- nodes that do not differ by themselves have kinds that match
-pub own-kinds : (l m : Label) → ownDifference l m ≡ none → equivalent (kind l) (kind m) ≡ true
+own-kinds : (l m : Label) → ownDifference l m ≡ none → equivalent (kind l) (kind m) ≡ true
 unfolding ownDifference orElse unless
 own-kinds l m e = go (equivalent (kind l) (kind m)) refl
   where

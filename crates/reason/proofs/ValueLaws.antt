@@ -8,10 +8,10 @@ use lib.ListN.{length, take, drop, length-append, length-take, length-drop}
 use types.Run.{OneOf}
 use denote.Enum.Declared.{tagOf}
 use Rattle.kinds.specs.Print.{decimal}
-use Rattle.kinds.specs.Sheet.{firstAt, secondAt}
+use Rattle.kinds.specs.Sheet.{firstAt, secondAt, maxNames}
 use Rattle.kinds.proofs.DecimalLaws.{decimal-low, decimal-high}
 use Rattle.reason.specs.Reason.{pathText, valueText, valuesText, differenceText, reasonText}
-use Rattle.reason.specs.Spot.{nameAt, wordOf, numberAt, valueAt, differenceAt, NameWithin, pathFrom, reasonAt}
+use Rattle.reason.specs.Spot.{nameAt, wordOf, numberAt, valueAt, valueLength, differenceLength, differenceAt, NameWithin, NameShort, pathFrom, reasonAt}
 use Rattle.reason.specs.declared.Aspect.{Aspect}
 use Rattle.reason.specs.declared.Aspect.the-variants as A
 use Rattle.reason.proofs.Aspect.{the-type}
@@ -25,20 +25,31 @@ pub number-value : (n d : ℕ) → d ≡ length (decimal n) → (32 ∷ decimal 
 unfolding valueText
 number-value n d e = rw e
 
+-- of at most nine digits
+pub few-digits-value : (n d : ℕ) → d ≡ length (decimal n) → d < 10 → (32 ∷ (48 + d) ∷ 58 ∷ []) ++ decimal n ≡ valueText (decimal n)
+few-digits-value n d e h = ap (λ s. (32 ∷ s) ++ (58 ∷ decimal n)) (sym (decimal-low d h)) ∙ number-value n d e
+
 pub bytes-value : (s : List ℕ) → (32 ∷ decimal (length s)) ++ ((58 ∷ []) ++ s) ≡ valueText s
 unfolding valueText
 bytes-value s = refl
 
 -- ---- A name.
 
-pub name-within : (m : ℕ) (w : List ℕ) (at : ℕ) {a : Aspect} → a ≡ A.Name → NameWithin a m w at → firstAt w at + secondAt w at ≤ m
+name-within : (m : ℕ) (w : List ℕ) (at : ℕ) {a : Aspect} → a ≡ A.Name → NameWithin a m w at → firstAt w at + secondAt w at ≤ m
 name-within m w at e h = subst (λ b. NameWithin b m w at) e h
 
-pub value-name : (names w : List ℕ) (at : ℕ) {a : Aspect} → a ≡ A.Name → valueAt a names w at ≡ nameAt names w at
+value-name : (names w : List ℕ) (at : ℕ) {a : Aspect} → a ≡ A.Name → valueAt a names w at ≡ nameAt names w at
 unfolding valueAt
 value-name names w at e = rw e
 
-pub name-length : (names w : List ℕ) (at : ℕ) → firstAt w at + secondAt w at ≤ length names → length (nameAt names w at) ≡ secondAt w at
+name-number : (w : List ℕ) (at : ℕ) {a : Aspect} → a ≡ A.Name → numberAt a w at ≡ secondAt w at
+unfolding numberAt
+name-number w at e = rw e
+
+pub name-end : (m : ℕ) (w : List ℕ) (at : ℕ) {a : Aspect} {n : ℕ} → a ≡ A.Name → NameWithin a m w at → n ≡ numberAt a w at → firstAt w at + n ≤ m
+name-end m w at e h q = let i = name-within m w at e h in let j = name-number w at e in omega arith
+
+name-length : (names w : List ℕ) (at : ℕ) → firstAt w at + secondAt w at ≤ length names → length (nameAt names w at) ≡ secondAt w at
 unfolding nameAt
 name-length names w at h =
     let d = length-drop (firstAt w at) names in
@@ -53,11 +64,12 @@ name-value-length names w at e h =
     ∙ ap (λ s. length (valueText s)) (sym (value-name names w at e))
 
 -- the part of the name bytes that the code takes
-pub name-part : (names w : List ℕ) (at : ℕ) {a : Aspect} → a ≡ A.Name → take (firstAt w at + secondAt w at - firstAt w at) (drop (firstAt w at) names) ≡ valueAt a names w at
+pub name-part : (names w : List ℕ) (at : ℕ) {a : Aspect} {n : ℕ} → a ≡ A.Name → n ≡ numberAt a w at → take (firstAt w at + n - firstAt w at) (drop (firstAt w at) names) ≡ valueAt a names w at
 unfolding nameAt
-name-part names w at e =
-    let n : firstAt w at + secondAt w at - firstAt w at ≡ secondAt w at = omega arith in
-    ap (λ (k : ℕ). take k (drop (firstAt w at) names)) n ∙ sym (value-name names w at e)
+name-part names w at {a} {n} e h =
+    let q = name-number w at e in
+    let k : firstAt w at + n - firstAt w at ≡ secondAt w at = omega arith in
+    ap (λ (k : ℕ). take k (drop (firstAt w at) names)) k ∙ sym (value-name names w at e)
 
 -- ---- A number: any other aspect, by its tag.
 
@@ -76,6 +88,42 @@ value-number names w at A.Length h = refl
 value-number names w at A.Name h = absurd (name-tag h)
 value-number names w at A.Count h = refl
 
+-- ---- The length of a value.
+
+pub name-short : (n : ℕ) {a : Aspect} → a ≡ A.Name → NameShort a n → n ≤ maxNames
+name-short n e h = subst (λ b. NameShort b n) e h
+
+pub short-name : (a : Aspect) (w : List ℕ) (at : ℕ) {n : ℕ} → n ≡ numberAt a w at → NameWithin a maxNames w at → NameShort a n
+unfolding numberAt
+short-name A.Kind w at e h = tt
+short-name A.Size w at e h = tt
+short-name A.Offset w at e h = tt
+short-name A.Length w at e h = tt
+short-name A.Name w at e h = omega arith
+short-name A.Count w at e h = tt
+
+pub length-of-name : (n : ℕ) {a : Aspect} → a ≡ A.Name → 2 + length (decimal n) + n ≡ valueLength a n
+unfolding valueLength
+length-of-name n e = sym (rw e)
+
+pub length-of-number : (n : ℕ) (a : Aspect) → OtherTag a → length (valueText (decimal n)) ≡ valueLength a n
+unfolding valueLength
+length-of-number n A.Kind h = refl
+length-of-number n A.Size h = refl
+length-of-number n A.Offset h = refl
+length-of-number n A.Length h = refl
+length-of-number n A.Name h = absurd (name-tag h)
+length-of-number n A.Count h = refl
+
+length-of-value : (names w : List ℕ) (at : ℕ) (a : Aspect) → NameWithin a (length names) w at → valueLength a (numberAt a w at) ≡ length (valueText (valueAt a names w at))
+unfolding valueLength numberAt valueAt
+length-of-value names w at A.Kind h = refl
+length-of-value names w at A.Size h = refl
+length-of-value names w at A.Offset h = refl
+length-of-value names w at A.Length h = refl
+length-of-value names w at A.Name h = name-value-length names w at refl h
+length-of-value names w at A.Count h = refl
+
 -- ---- The reason that two nodes differ in an aspect, in the pieces that are written.
 
 module _ (a : Aspect) (an v : List ℕ) (at : ℕ) (bn w : List ℕ) (bt : ℕ) where
@@ -91,15 +139,18 @@ module _ (a : Aspect) (an v : List ℕ) (at : ℕ) (bn w : List ℕ) (bt : ℕ) 
       go A.Name = refl
       go A.Count = refl
 
-  pub reason-length : {p d m n : ℕ} → p ≡ length (pathText (pathFrom v 0 at)) → d ≡ length (wordOf a) → m ≡ length (valueText (valueAt a an v at))
-      → n ≡ length (valueText (valueAt a bn w bt)) → p + 1 + d + (m + n) ≡ length (reasonText (reasonAt a an v at bn w bt))
-  reason-length {p} {d} {m} {n} e f g h =
+  pub reason-length : {k j : ℕ} → NameWithin a (length an) v at → NameWithin a (length bn) w bt → k ≡ numberAt a v at → j ≡ numberAt a w bt
+      → length (pathText (pathFrom v 0 at)) + differenceLength a k j ≡ length (reasonText (reasonAt a an v at bn w bt))
+  unfolding differenceLength
+  reason-length {k} {j} g h e f =
       let s = valueText (valueAt a an v at) in
       let t = valueText (valueAt a bn w bt) in
+      let m : valueLength a k ≡ length s = ap (valueLength a) e ∙ length-of-value an v at a g in
+      let n : valueLength a j ≡ length t = ap (valueLength a) f ∙ length-of-value bn w bt a h in
       let x = length-append s t in
       let y = length-append (wordOf a) (s ++ t) in
       let z = length-append (pathText (pathFrom v 0 at)) ((58 ∷ []) ++ (wordOf a ++ (s ++ t))) in
-      let q : p + 1 + d + (m + n) ≡ length (pathText (pathFrom v 0 at) ++ ((58 ∷ []) ++ (wordOf a ++ (s ++ t)))) = omega arith in
+      let q : length (pathText (pathFrom v 0 at)) + (1 + length (wordOf a) + valueLength a k + valueLength a j) ≡ length (pathText (pathFrom v 0 at) ++ ((58 ∷ []) ++ (wordOf a ++ (s ++ t)))) = omega arith in
       q ∙ ap length reason-pieces
 
 -- ---- Numbers of one and of two digits.

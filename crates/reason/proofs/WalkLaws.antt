@@ -18,7 +18,7 @@ use Rattle.kinds.proofs.NodeLaws.{node-inner, first-some, first-within, first-n
 use Rattle.helper.specs.Measure.{levelAfter}
 use Rattle.helper.proofs.CompareLaws.{Bounds, plain-partner, level-container, after-trees}
 use Rattle.reason.specs.Reason.{orElse, ownDifference}
-use Rattle.reason.specs.Spot.{Spot, spotted, itemsSpot, NodeOf, below, differenceAt, ValueAt, Finds, CountsAre}
+use Rattle.reason.specs.Spot.{Spot, spotted, itemsSpot, NodeOf, below, numberAt, differenceAt, ValueAt, Finds, CountsAre}
 use Rattle.reason.specs.declared.Aspect.{Aspect}
 use Rattle.reason.specs.declared.Aspect.the-variants as A
 use Rattle.reason.specs.declared.Counts.the-variants as C
@@ -49,7 +49,7 @@ module _ {at₀ n₀ at n : ℕ} (p : Part at₀ n₀ at n) where
   pub part-inner : (k : ℕ) → k < n → Part at₀ n₀ (at + 4) k
   part-inner k h = let s = p .starts in let e = p .ends in record { over = p .over + 1; starts = omega arith; ends = omega arith }
 
-  pub part-node : {x : ℕ} → NodeOf at n x → NodeOf at₀ n₀ x
+  part-node : {x : ℕ} → NodeOf at n x → NodeOf at₀ n₀ x
   part-node h =
       let s = p .starts in
       let e = p .ends in
@@ -57,7 +57,7 @@ module _ {at₀ n₀ at n : ℕ} (p : Part at₀ n₀ at n) where
       let f = h .few in
       record { number = p .over + h .number; is = omega arith; few = omega arith }
 
-  pub part-value : {aspect : Aspect} {w : List ℕ} {x : ℕ} → ValueAt aspect w at n x → ValueAt aspect w at₀ n₀ x
+  part-value : {aspect : Aspect} {w : List ℕ} {x : ℕ} → ValueAt aspect w at n x → ValueAt aspect w at₀ n₀ x
   part-value v = record { node = part-node (v .node); whole = v .whole; named = v .named }
 
 -- ---- What is left.
@@ -123,11 +123,12 @@ module _ {all : Bool} {v : NestingLevel} {an a bn b : List ℕ} {at n bt m : ℕ
     widened : {aspect : Aspect} {w : List ℕ} {i k x : ℕ} → 0 < k → ValueAt aspect w i 1 x → ValueAt aspect w i k x
     widened h o = record { node = one-of h (o .node); whole = o .whole; named = o .named }
 
-    pub left-own : {x y : ℕ} {aspect : Aspect} → Finds an a at 1 bn b bt 1 (spotted at (ownDifference (labelAt an a at) (labelAt bn b bt))) (F.At x y aspect)
-        → Finds an a at₀ n₀ bn b bt₀ m₀ s (F.At x y aspect)
+    pub left-own : {x y k j : ℕ} {aspect : Aspect} → Finds an a at 1 bn b bt 1 (spotted at (ownDifference (labelAt an a at) (labelAt bn b bt))) (F.At x y aspect k j)
+        → Finds an a at₀ n₀ bn b bt₀ m₀ s (F.At x y aspect k j)
     left-own f = (
       sym (l .rest) ∙ resume-own all here v an a bn b n m at bt (l .first) (l .second) p q (f .0),
       (part-value (l .first-part) (widened p (f .1 .0)), part-value (l .second-part) (widened q (f .1 .1))),
+      f .2,
     )
 
     module _ (e : spotted at (ownDifference (labelAt an a at) (labelAt bn b bt)) ≡ none) where
@@ -175,14 +176,15 @@ module _ {all : Bool} {v : NestingLevel} {an a bn b : List ℕ} {at n bt m : ℕ
             → Left all v an a bn b (at + 4 * i) (n - i) (bt + 4 * j) (m - j) x at₀ n₀ bt₀ m₀ s
         left-over f = later (resume-over all here v an a bn b n m at bt (l .first) (l .second) p q e (rw lu at f))
 
-        pub left-count : CountsAre an a at bn b bt u C.Unequal → Finds an a at₀ n₀ bn b bt₀ m₀ s (F.At at bt A.Count)
-        unfolding differenceAt
+        pub left-count : {k j : ℕ} → CountsAre an a at bn b bt u (C.Unequal k j) → Finds an a at₀ n₀ bn b bt₀ m₀ s (F.At at bt A.Count k j)
+        unfolding differenceAt numberAt
         left-count f = (
           sym (l .rest) ∙ resume-count all here v an a bn b n m at bt (l .first) (l .second) p q e (rw lu at (f .0)) (f .1),
           (
             record { node = part-node (l .first-part) this; whole = first-node a at n (l .first) p; named = tt },
             record { node = part-node (l .second-part) that; whole = first-node b bt m (l .second) q; named = tt },
           ),
+          f .2,
         )
 
         module _ (f : CountsAre an a at bn b bt u C.Equal) where
@@ -212,14 +214,15 @@ module _ {all : Bool} {v : NestingLevel} {an a bn b : List ℕ} {at n bt m : ℕ
                 (walk-inner a (length an) at n (l .first-walk) (countAt a at - 1) (omega arith), walk-inner b (length bn) bt m (l .second-walk) (countAt b bt - 1) (omega arith)),
               )
 
-          pub left-fields : {x y : ℕ} {aspect : Aspect}
-              → Finds an a (at + 4) (countAt a at - 1) bn b (bt + 4) (countAt b bt - 1) (itemsSpot all Within (at + 4) (below an a at) (below bn b bt)) (F.At x y aspect)
-              → Finds an a at₀ n₀ bn b bt₀ m₀ s (F.At x y aspect)
+          pub left-fields : {x y k j : ℕ} {aspect : Aspect}
+              → Finds an a (at + 4) (countAt a at - 1) bn b (bt + 4) (countAt b bt - 1) (itemsSpot all Within (at + 4) (below an a at) (below bn b bt)) (F.At x y aspect k j)
+              → Finds an a at₀ n₀ bn b bt₀ m₀ s (F.At x y aspect k j)
           unfolding orElse
           left-fields g = (
             sym (l .rest) ∙ items-then
                 ∙ ap (λ y. orElse y (itemsSpot all v (at + 4 * countAt a at) (trees an a (n - countAt a at) (at + 4 * countAt a at)) (trees bn b (m - countAt b bt) (bt + 4 * countAt b bt)))) (g .0),
             (part-value inner-part (g .1 .0), part-value inner-part' (g .1 .1)),
+            g .2,
           )
 
           pub left-after : itemsSpot all Within (at + 4) (below an a at) (below bn b bt) ≡ none

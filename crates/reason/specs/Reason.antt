@@ -1,12 +1,14 @@
 -- The reason for a no (02, N4): the first difference of two trees, in the order of helper.rs, `compare_encodings`, and its words.
-use Prim.Native.Nat.{ℕ, suc}
+use Prim.Native.Nat.{ℕ, suc, _≤_}
 use mathlib.Core.Bool.{Bool, true, false, cond, not, _&&_}
 use mathlib.Core.List.{List, [], _∷_, _++_}
 use mathlib.Core.Option.{Option, some, none}
+use mathlib.Core.Path.{_≡_}
 use lib.Dec.{eqb}
 use lib.ListN as N
 use Rattle.kinds.specs.Byte.{byte, bytes, sameBytes}
 use Rattle.kinds.specs.Compare.{bits, levelFor}
+use Rattle.kinds.specs.Name.{verifyName}
 use Rattle.kinds.specs.Primitive.{equivalent}
 use Rattle.kinds.specs.Print.{decimal}
 use Rattle.kinds.specs.Tree as T
@@ -26,6 +28,15 @@ pub data Difference : Type 0 where
 pub record Reason : Type 0 where
   pub path : List ℕ
   pub differs : Difference
+
+-- What the values of a reason of two sheets are: kinds of the sheet's list, and names without a bad byte.
+abbrev pub GoodValues : Difference → Type 0
+GoodValues (kind a b) = (a ≤ 31) × (b ≤ 31)
+GoodValues (size a b) = Unit {0}
+GoodValues (offset a b) = Unit {0}
+GoodValues (length a b) = Unit {0}
+GoodValues (name s t) = (verifyName s ≡ true) × (verifyName t ≡ true)
+GoodValues (count a b) = Unit {0}
 
 -- ---- The first difference.
 

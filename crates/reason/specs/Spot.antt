@@ -15,7 +15,7 @@ use Rattle.kinds.specs.Tree.{Label, Trees, end, node, primitive, inside}
 use Rattle.kinds.specs.Walk.{NodeAt, TreesAt, KindsAndNames}
 use Rattle.kinds.specs.declared.NestingLevel.{NestingLevel}
 use Rattle.kinds.specs.declared.NestingLevel.the-variants.{Top}
-use Rattle.reason.specs.Reason.{Difference, kind, size, offset, length, name, count, Reason, orElse, ownDifference, items, itemsCompared, countDifference, firstDifference}
+use Rattle.reason.specs.Reason.{Difference, kind, size, offset, length, name, count, Reason, orElse, ownDifference, items, itemsCompared, countDifference, firstDifference, valueText}
 use Rattle.reason.specs.declared.Aspect.{Aspect}
 use Rattle.reason.specs.declared.Aspect.the-variants as A
 use Rattle.reason.specs.declared.Counts.{Counts}
@@ -75,13 +75,13 @@ below names w at = trees names w (countAt w at - 1) (at + 4)
 unfoldable pub itemsAt : List ℕ → ℕ → ℕ
 itemsAt w at = items (below [] w at)
 
--- The number of an aspect that is no name.
+-- The number of an aspect; a name has its length.
 unfoldable pub numberAt : Aspect → List ℕ → ℕ → ℕ
 numberAt A.Kind w at = kindAt w at
 numberAt A.Size w at = secondAt w at
 numberAt A.Offset w at = firstAt w at
 numberAt A.Length w at = firstAt w at
-numberAt A.Name w at = 0
+numberAt A.Name w at = secondAt w at
 numberAt A.Count w at = itemsAt w at
 
 -- The value's bytes.
@@ -92,6 +92,19 @@ valueAt A.Offset names w at = decimal (firstAt w at)
 valueAt A.Length names w at = decimal (firstAt w at)
 valueAt A.Name names w at = nameAt names w at
 valueAt A.Count names w at = decimal (itemsAt w at)
+
+-- The length of the text of a value, by its number.
+unfoldable pub valueLength : Aspect → ℕ → ℕ
+valueLength A.Kind n = N.length (valueText (decimal n))
+valueLength A.Size n = N.length (valueText (decimal n))
+valueLength A.Offset n = N.length (valueText (decimal n))
+valueLength A.Length n = N.length (valueText (decimal n))
+valueLength A.Name n = 2 + N.length (decimal n) + n
+valueLength A.Count n = N.length (valueText (decimal n))
+
+-- The length of what follows the path: a colon, the word and both values.
+unfoldable pub differenceLength : Aspect → ℕ → ℕ → ℕ
+differenceLength aspect k j = 1 + N.length (wordOf aspect) + valueLength aspect k + valueLength aspect j
 
 -- The difference of the nodes at `at` and `bt` in an aspect.
 unfoldable pub differenceAt : Aspect → List ℕ → List ℕ → ℕ → List ℕ → List ℕ → ℕ → Difference
@@ -120,6 +133,15 @@ NameWithin A.Length m w at = Unit {0}
 NameWithin A.Name m w at = firstAt w at + secondAt w at ≤ m
 NameWithin A.Count m w at = Unit {0}
 
+-- It is no longer than a sheet's name bytes.
+abbrev pub NameShort : Aspect → ℕ → Type 0
+NameShort A.Kind n = Unit {0}
+NameShort A.Size n = Unit {0}
+NameShort A.Offset n = Unit {0}
+NameShort A.Length n = Unit {0}
+NameShort A.Name n = n ≤ maxNames
+NameShort A.Count n = Unit {0}
+
 -- One of the `n` nodes from `at` on stands at `x` with all of its subtree, and has the aspect.
 pub record ValueAt (aspect : Aspect) (w : List ℕ) (at n x : ℕ) : Type 0 where
   pub node : NodeOf at n x
@@ -129,13 +151,15 @@ pub record ValueAt (aspect : Aspect) (w : List ℕ) (at n x : ℕ) : Type 0 wher
 -- What a walk over the `n` nodes from `at` on and the `m` nodes from `bt` on hands out for the spot that there is to find.
 abbrev pub Finds : List ℕ → List ℕ → ℕ → ℕ → List ℕ → List ℕ → ℕ → ℕ → Option Spot → Found → Type 0
 Finds an a at n bn b bt m s F.Same = s ≡ none
-Finds an a at n bn b bt m s (F.At x y aspect) =
+Finds an a at n bn b bt m s (F.At x y aspect k j) =
     (s ≡ some (record { place = x; differs = differenceAt aspect an a x bn b y })) × (ValueAt aspect a at n x × ValueAt aspect b bt m y)
+    × ((k ≡ numberAt aspect a x) × (j ≡ numberAt aspect b y))
 
 -- What `compare_counts` finds of the containers at `at` and `bt`.
 abbrev pub CountsAre : List ℕ → List ℕ → ℕ → List ℕ → List ℕ → ℕ → NestingLevel → Counts → Type 0
 CountsAre s a at t b bt v C.NotCompared = itemsCompared (labelAt s a at) v (below s a at) (below t b bt) ≡ false
-CountsAre s a at t b bt v C.Unequal = (itemsCompared (labelAt s a at) v (below s a at) (below t b bt) ≡ true) × (eqb (items (below s a at)) (items (below t b bt)) ≡ false)
+CountsAre s a at t b bt v (C.Unequal k j) = (itemsCompared (labelAt s a at) v (below s a at) (below t b bt) ≡ true) × (eqb (items (below s a at)) (items (below t b bt)) ≡ false)
+    × ((k ≡ itemsAt a at) × (j ≡ itemsAt b bt))
 CountsAre s a at t b bt v C.Equal = (itemsCompared (labelAt s a at) v (below s a at) (below t b bt) ≡ true) × (eqb (items (below s a at)) (items (below t b bt)) ≡ true)
 
 -- ---- Paths.

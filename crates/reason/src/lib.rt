@@ -3,7 +3,7 @@ ghost use Prim.Native.Nat.{ℕ, _+_, _-_, _*_, _≤_, _<_};
 ghost use mathlib.Core.Path.{_≡_};
 ghost use mathlib.Core.Bool.{Bool, true, false};
 ghost use mathlib.Core.List.{List, []};
-ghost use lib.Dec.{eqb};
+ghost use lib.Dec.{leb};
 ghost use lib.ListN.{length};
 ghost use Rattle.kinds.specs.Byte.{sameBytes};
 ghost use Rattle.kinds.specs.Print.{decimal};
@@ -12,7 +12,8 @@ ghost use Rattle.kinds.specs.Walk.{NodeAt, TreesAt, KindAndName, KindsAndNames}
 ghost use Rattle.lines.specs.Answer.{Put};
 ghost use Rattle.reason.specs.Reason.{items, ownDifference, firstDifference, pathText, valueText, reasonText};
 ghost use Rattle.reason.specs.Answer.{measured, fittedReason, placedReason, reasonLen, reasonAnswer, reasonOutput};
-ghost use Rattle.reason.specs.Spot.{spotted, itemsSpot, nameAt, NodeOf, wordOf, numberAt, valueAt, NameWithin, Finds, CountsAre, pathFrom, Inside, Towards, itemText, maxPathText, maxValueText, reasonAt, Rooted, codesDifference};
+ghost use Rattle.reason.specs.Spot.{spotted, itemsSpot, nameAt, NodeOf, wordOf, numberAt, valueAt, valueLength, differenceLength, NameWithin, NameShort, Finds, CountsAre};
+ghost use Rattle.reason.specs.Spot.{pathFrom, Inside, Towards, itemText, maxPathText, maxValueText, reasonAt, Rooted, codesDifference};
 use helper::level_after;
 use helper::level_for;
 use helper::same_bytes;
@@ -43,10 +44,11 @@ enum Aspect {
     Count,
 }
 
-// What the walk finds: nothing, or the words at which the nodes that differ begin in the first tree and in the second, and what of them differs.
+// What the walk finds: nothing, or the words at which the nodes that differ begin in the first tree and in the second, what of them differs, and the
+// number of each side; a name has its length.
 enum Found {
     Same,
-    At(usize, usize, Aspect),
+    At(usize, usize, Aspect, u64, u64),
 }
 
 // A yes, or the count of bytes of the reason for a no; or why there is neither.
@@ -59,7 +61,7 @@ pub enum Reasoned {
 // How the counts of two containers' fields compare, where the fields are compared at all.
 enum Counts {
     NotCompared,
-    Unequal,
+    Unequal(u64, u64),
     Equal,
 }
 
@@ -88,23 +90,27 @@ fn number_difference(a: &[u64], at: usize, b: &[u64], bt: usize) -> Found
     ensures { λ r. ⌜ ((an bn : List ℕ) → Finds an (now (a .entry)) at 1 bn (now (b .entry)) bt 1 (spotted at (ownDifference (labelAt an (now (a .entry)) at) (labelAt bn (now (b .entry)) bt))) r) ⌝ }
 {
     let kind = a[at];
+    let k = a[at + 1];
+    let j = b[bt + 1];
     if kind <= TYPED_BIT_FIELD {
-        if a[at + 2] != b[bt + 2] {
-            return Found::At(at, bt, Aspect::Size);
+        let n = a[at + 2];
+        let m = b[bt + 2];
+        if n != m {
+            return Found::At(at, bt, Aspect::Size, n, m);
         }
         if kind == BIT_FIELD {
             return Found::Same;
         }
-        if a[at + 1] != b[bt + 1] {
-            return Found::At(at, bt, Aspect::Offset);
+        if k != j {
+            return Found::At(at, bt, Aspect::Offset, k, j);
         }
         return Found::Same;
     }
     if kind != ARRAY {
         return Found::Same;
     }
-    if a[at + 1] != b[bt + 1] {
-        return Found::At(at, bt, Aspect::Length);
+    if k != j {
+        return Found::At(at, bt, Aspect::Length, k, j);
     }
     Found::Same
 }
@@ -116,8 +122,9 @@ fn own_difference(a: &[u64], an: &[u8], at: usize, b: &[u64], bn: &[u8], bt: usi
     ensures { λ r. ⌜ Finds (now (an .entry)) (now (a .entry)) at 1 (now (bn .entry)) (now (b .entry)) bt 1 (spotted at (ownDifference (labelAt (now (an .entry)) (now (a .entry)) at) (labelAt (now (bn .entry)) (now (b .entry)) bt))) r ⌝ }
 {
     let kind = a[at];
-    if !equivalent_kinds(kind, b[bt]) {
-        return Found::At(at, bt, Aspect::Kind);
+    let other = b[bt];
+    if !equivalent_kinds(kind, other) {
+        return Found::At(at, bt, Aspect::Kind, kind, other);
     }
     if kind < PRIMITIVES {
         return Found::Same;
@@ -128,7 +135,7 @@ fn own_difference(a: &[u64], an: &[u8], at: usize, b: &[u64], bn: &[u8], bt: usi
     if same_name(a, an, at, b, bn, bt) {
         return Found::Same;
     }
-    Found::At(at, bt, Aspect::Name)
+    Found::At(at, bt, Aspect::Name, a[at + 2], b[bt + 2])
 }
 
 // How many nodes the subtree at `at` has. Most nodes are codes, and asking for the kind first does not wait for the count.
@@ -142,30 +149,21 @@ fn subtree(nodes: &[u64], at: usize) -> usize
     nodes[at + 3] as usize
 }
 
-// Whether the trees of the `left` nodes from `at` on are as many as those of the `more` nodes from `bt` on.
-fn same_count(
-    a: &[u64],
-    mut at: usize,
-    mut left: usize,
-    b: &[u64],
-    mut bt: usize,
-    mut more: usize,
-) -> bool
-    requires { ⌜ TreesAt (now a) at left × TreesAt (now b) bt more ⌝ }
-    ensures { λ r. ⌜ ((s t : List ℕ) → r ≡ eqb (items (trees s (now (a .entry)) left at)) (items (trees t (now (b .entry)) more bt))) ⌝ }
+// How many trees the `n` nodes from `from` on are.
+fn count_items(nodes: &[u64], from: usize, n: usize) -> u64
+    requires { ⌜ TreesAt (now nodes) from n ⌝ }
+    ensures { λ r. ⌜ r ≡ items (trees [] (now (nodes .entry)) n from) ⌝ }
 {
+    let mut at = from;
+    let mut left = n;
+    let mut count = 0;
     while 0 < left {
-        if more == 0 {
-            return false;
-        }
-        let c = subtree(a, at);
-        let d = subtree(b, bt);
+        let c = subtree(nodes, at);
         at += 4 * c;
         left -= c;
-        bt += 4 * d;
-        more -= d;
+        count += 1;
     }
-    more == 0
+    count
 }
 
 // How the counts of the fields of two containers at a level compare.
@@ -181,10 +179,12 @@ fn compare_counts(a: &[u64], at: usize, b: &[u64], bt: usize, level: NestingLeve
     if m == 0 {
         return Counts::NotCompared;
     }
-    if same_count(a, at + 4, n, b, bt + 4, m) {
+    let k = count_items(a, at + 4, n);
+    let j = count_items(b, bt + 4, m);
+    if k == j {
         return Counts::Equal;
     }
-    Counts::Unequal
+    Counts::Unequal(k, j)
 }
 
 // The first difference of the trees of the `left` nodes from `at` on and those of the `more` nodes from `bt` on, up to where either ends. A node with
@@ -211,8 +211,8 @@ fn first_difference(
         if more == 0 {
             return Found::Same;
         }
-        if let Found::At(x, y, aspect) = own_difference(a, an, at, b, bn, bt) {
-            return Found::At(x, y, aspect);
+        if let Found::At(x, y, aspect, k, j) = own_difference(a, an, at, b, bn, bt) {
+            return Found::At(x, y, aspect, k, j);
         }
         let kind = a[at];
         let mut c = 1;
@@ -222,7 +222,7 @@ fn first_difference(
             d = b[bt + 3] as usize;
             match compare_counts(a, at, b, bt, level_for(all, here)) {
                 Counts::NotCompared => {}
-                Counts::Unequal => return Found::At(at, bt, Aspect::Count),
+                Counts::Unequal(k, j) => return Found::At(at, bt, Aspect::Count, k, j),
                 Counts::Equal => {
                     let i = at + 4;
                     let n = c - 1;
@@ -238,7 +238,7 @@ fn first_difference(
                         here = inner;
                         continue;
                     }
-                    if let Found::At(x, y, aspect) = first_difference(
+                    if let Found::At(x, y, aspect, k, l) = first_difference(
                         &a[0..],
                         &an[0..],
                         i,
@@ -250,7 +250,7 @@ fn first_difference(
                         inner,
                         all,
                     ) {
-                        return Found::At(x, y, aspect);
+                        return Found::At(x, y, aspect, k, l);
                     }
                 }
             }
@@ -262,23 +262,6 @@ fn first_difference(
         here = level_after(all, kind, level, here);
     }
     Found::Same
-}
-
-// How many trees the `n` nodes from `from` on are.
-fn count_items(nodes: &[u64], from: usize, n: usize) -> u64
-    requires { ⌜ TreesAt (now nodes) from n ⌝ }
-    ensures { λ r. ⌜ r ≡ items (trees [] (now (nodes .entry)) n from) ⌝ }
-{
-    let mut at = from;
-    let mut left = n;
-    let mut count = 0;
-    while 0 < left {
-        let c = nodes[at + 3] as usize;
-        at += 4 * c;
-        left -= c;
-        count += 1;
-    }
-    count
 }
 
 // The item of the node at `parent` that holds the node at `x`.
@@ -322,6 +305,10 @@ fn put_item(out: &mut [u8], to: usize, first: bool, number: u64) -> usize
     if first {
         return put_number(out, to, number);
     }
+    // most items
+    if number < 10 {
+        return put_bytes(out, to, &[b'.', b'0' + number as u8]);
+    }
     put_marked(out, to, b'.', number)
 }
 
@@ -338,21 +325,6 @@ fn put_path(out: &mut [u8], nodes: &[u64], x: usize) -> usize
         at = item.at;
     }
     to
-}
-
-// The number of an aspect that is no name.
-fn number_at(nodes: &[u64], at: usize, aspect: Aspect) -> u64
-    requires { ⌜ NodeAt (now nodes) at ⌝ }
-    ensures { λ r. ⌜ r ≡ numberAt aspect (now (nodes .entry)) at ⌝ }
-{
-    match aspect {
-        Aspect::Kind => nodes[at],
-        Aspect::Size => nodes[at + 2],
-        Aspect::Offset => nodes[at + 1],
-        Aspect::Length => nodes[at + 1],
-        Aspect::Name => 0,
-        Aspect::Count => count_items(nodes, at + 4, nodes[at + 3] as usize - 1),
-    }
 }
 
 // The length of the text of a value of `n` bytes.
@@ -377,15 +349,15 @@ fn number_len(n: u64) -> usize
     text_len(static_int_str_len(n))
 }
 
-// The length of the text of a value.
-fn value_len(nodes: &[u64], at: usize, aspect: Aspect) -> usize
-    requires { ⌜ NodeAt (now nodes) at × NameWithin aspect maxNames (now nodes) at ⌝ }
-    ensures { λ r. ⌜ ((names : List ℕ) → NameWithin aspect (length names) (now (nodes .entry)) at → r ≡ length (valueText (valueAt aspect names (now (nodes .entry)) at))) × (r ≤ maxValueText) ⌝ }
+// The length of the text of a value with the number `n`.
+fn value_len(aspect: Aspect, n: u64) -> usize
+    requires { ⌜ NameShort aspect n ⌝ }
+    ensures { λ r. ⌜ (r ≡ valueLength aspect n) × (r ≤ maxValueText) ⌝ }
 {
     if let Aspect::Name = aspect {
-        return text_len(nodes[at + 2] as usize);
+        return text_len(n as usize);
     }
-    number_len(number_at(nodes, at, aspect))
+    number_len(n)
 }
 
 fn word_len(aspect: Aspect) -> usize
@@ -427,7 +399,12 @@ fn put_number_value(out: &mut [u8], to: usize, n: u64) -> usize
         let ones = b'0' + (n % 10) as u8;
         return put_bytes(out, to, &[b' ', b'2', b':', tens, ones]);
     }
-    let mark = put_marked(out, to, b' ', static_int_str_len(n) as u64);
+    let digits = static_int_str_len(n);
+    if digits < 10 {
+        let from = put_bytes(out, to, &[b' ', b'0' + digits as u8, b':']);
+        return put_number(out, from, n);
+    }
+    let mark = put_marked(out, to, b' ', digits as u64);
     put_marked(out, mark, b':', n)
 }
 
@@ -440,7 +417,7 @@ fn put_bytes_value(out: &mut [u8], to: usize, s: &[u8]) -> usize
     put_bytes(out, from, s)
 }
 
-// Writes a value; the next place.
+// Writes a value with the number `n`; the next place.
 fn put_value(
     out: &mut [u8],
     to: usize,
@@ -448,29 +425,40 @@ fn put_value(
     names: &[u8],
     at: usize,
     aspect: Aspect,
+    n: u64,
 ) -> usize
-    requires { ⌜ NodeAt (now nodes) at × NameWithin aspect (length (now names)) (now nodes) at ⌝ }
+    requires { ⌜ NodeAt (now nodes) at × NameWithin aspect (length (now names)) (now nodes) at × (n ≡ numberAt aspect (now nodes) at) ⌝ }
     ensures { λ r. ⌜ Put (now (out .entry)) to (valueText (valueAt aspect (now (names .entry)) (now (nodes .entry)) at)) (now (out .exit)) r ⌝ }
 {
     if let Aspect::Name = aspect {
         let from = nodes[at + 1] as usize;
-        let end = from + nodes[at + 2] as usize;
+        let end = from + n as usize;
         return put_bytes_value(out, to, &names[from..end]);
     }
-    put_number_value(out, to, number_at(nodes, at, aspect))
+    put_number_value(out, to, n)
 }
 
-// The length of the reason that two nodes differ in an aspect.
-fn reason_text_len(a: &[u64], at: usize, b: &[u64], bt: usize, aspect: Aspect) -> usize
-    requires { ⌜ Inside (now a) at × NodeAt (now a) at × NodeAt (now b) bt ⌝ }
-    requires { ⌜ NameWithin aspect maxNames (now a) at × NameWithin aspect maxNames (now b) bt ⌝ }
-    ensures { λ r. ⌜ ((an bn : List ℕ) → NameWithin aspect (length an) (now (a .entry)) at → NameWithin aspect (length bn) (now (b .entry)) bt → r ≡ length (reasonText (reasonAt aspect an (now (a .entry)) at bn (now (b .entry)) bt))) ⌝ }
+// The length of what follows the path in the reason that two nodes with the numbers `k` and `j` differ in an aspect.
+fn difference_len(aspect: Aspect, k: u64, j: u64) -> usize
+    requires { ⌜ NameShort aspect k × NameShort aspect j ⌝ }
+    ensures { λ r. ⌜ (r ≡ differenceLength aspect k j) × (r ≤ 7 + 2 * maxValueText) ⌝ }
 {
-    let values = value_len(a, at, aspect) + value_len(b, bt, aspect);
-    path_len(a, at) + 1 + word_len(aspect) + values
+    1 + word_len(aspect) + value_len(aspect, k) + value_len(aspect, j)
 }
 
-// Writes the reason that two nodes differ in an aspect; the next place.
+// Whether the path to the node at `at` and `rest` bytes more fit into `room` bytes.
+fn path_fits(nodes: &[u64], at: usize, rest: usize, room: usize) -> bool
+    requires { ⌜ Inside (now nodes) at × (rest ≤ 7 + 2 * maxValueText) ⌝ }
+    ensures { λ r. ⌜ r ≡ leb (length (pathText (pathFrom (now (nodes .entry)) 0 at)) + rest) room ⌝ }
+{
+    // a path has at most two bytes for each node before its last: only a short output is held against the path itself
+    if at / 2 + rest <= room {
+        return true;
+    }
+    path_len(nodes, at) + rest <= room
+}
+
+// Writes the reason that two nodes with the numbers `k` and `j` differ in an aspect; the next place.
 fn put_reason(
     out: &mut [u8],
     a: &[u64],
@@ -480,16 +468,19 @@ fn put_reason(
     bn: &[u8],
     bt: usize,
     aspect: Aspect,
+    k: u64,
+    j: u64,
 ) -> usize
     requires { ⌜ Inside (now a) at × NodeAt (now a) at × NodeAt (now b) bt ⌝ }
     requires { ⌜ NameWithin aspect (length (now an)) (now a) at × NameWithin aspect (length (now bn)) (now b) bt ⌝ }
+    requires { ⌜ (k ≡ numberAt aspect (now a) at) × (j ≡ numberAt aspect (now b) bt) ⌝ }
     ensures { λ r. ⌜ Put (now (out .entry)) 0 (reasonText (reasonAt aspect (now (an .entry)) (now (a .entry)) at (now (bn .entry)) (now (b .entry)) bt)) (now (out .exit)) r ⌝ }
 {
     let path = put_path(out, a, at);
     let mark = put_bytes(out, path, b":");
     let word = put_word(out, mark, aspect);
-    let first = put_value(out, word, a, an, at, aspect);
-    put_value(out, first, b, bn, bt, aspect)
+    let first = put_value(out, word, a, an, at, aspect, k);
+    put_value(out, first, b, bn, bt, aspect, j)
 }
 
 // The length of the reason of two trees of `n` and `m` nodes.
@@ -499,7 +490,9 @@ fn nodes_len(a: &[u64], an: &[u8], n: usize, b: &[u64], bn: &[u8], m: usize, all
 {
     match first_difference(a, an, 0, n, b, bn, 0, m, NestingLevel::new(), all) {
         Found::Same => Reasoned::Yes,
-        Found::At(x, y, aspect) => Reasoned::Bytes(reason_text_len(a, x, b, y, aspect)),
+        Found::At(x, _, aspect, k, j) => Reasoned::Bytes(
+            path_len(a, x) + difference_len(aspect, k, j),
+        ),
     }
 }
 
@@ -520,13 +513,11 @@ fn write_nodes(
 {
     match first_difference(a, an, 0, n, b, bn, 0, m, NestingLevel::new(), all) {
         Found::Same => Reasoned::Yes,
-        Found::At(x, y, aspect) => {
-            let len = reason_text_len(a, x, b, y, aspect);
-            if out.len() < len {
+        Found::At(x, y, aspect, k, j) => {
+            if !path_fits(a, x, difference_len(aspect, k, j), out.len()) {
                 return Reasoned::Refused(Refusal::OutputTooShort);
             }
-            put_reason(out, a, an, x, b, bn, y, aspect);
-            Reasoned::Bytes(len)
+            Reasoned::Bytes(put_reason(out, a, an, x, b, bn, y, aspect, k, j))
         }
     }
 }
@@ -563,7 +554,7 @@ fn write_codes(k: u64, j: u64, out: &mut [u8]) -> Reasoned
 pub fn reason_len(aw: &[u64], an: &[u8], bw: &[u64], bn: &[u8], all: bool) -> Reasoned
     ensures { λ r. ⌜ r ≡ reasonLen all (now (aw .entry)) (now (an .entry)) (now (bw .entry)) (now (bn .entry)) ⌝ }
 {
-    match both_of(check(aw, an), check(bw, bn)) {
+    match both_of(check(&aw[0..], &an[0..]), check(&bw[0..], &bn[0..])) {
         CheckedBoth::Refused(why) => Reasoned::Refused(why),
         CheckedBoth::Codes(k, j) => codes_len(k, j),
         CheckedBoth::Nodes(f, n, g, m) => nodes_len(
@@ -583,7 +574,7 @@ pub fn reason(aw: &[u64], an: &[u8], bw: &[u64], bn: &[u8], all: bool, out: &mut
     ensures answers { λ r. ⌜ r ≡ reasonAnswer all (now (aw .entry)) (now (an .entry)) (now (bw .entry)) (now (bn .entry)) (length (now (out .entry))) ⌝ }
     ensures writes { λ _. ⌜ now (out .exit) ≡ reasonOutput all (now (aw .entry)) (now (an .entry)) (now (bw .entry)) (now (bn .entry)) (now (out .entry)) ⌝ }
 {
-    match both_of(check(aw, an), check(bw, bn)) {
+    match both_of(check(&aw[0..], &an[0..]), check(&bw[0..], &bn[0..])) {
         CheckedBoth::Refused(why) => Reasoned::Refused(why),
         CheckedBoth::Codes(k, j) => write_codes(k, j, out),
         CheckedBoth::Nodes(f, n, g, m) => write_nodes(

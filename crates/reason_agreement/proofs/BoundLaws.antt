@@ -16,7 +16,7 @@ use Rattle.kinds.specs.Parse.{maxU64, maxU8}
 use Rattle.kinds.specs.Print.{decimal}
 use Rattle.kinds.specs.Refusal.{number}
 use Rattle.kinds.specs.Sheet.{Holds, namesOf, maxNodes, maxNames}
-use Rattle.kinds.specs.Sound.{validLabel, valid}
+use Rattle.kinds.specs.Sound.{validLabel}
 use Rattle.kinds.specs.Tree as T
 use Rattle.kinds.specs.Tree.{Label, Trees, end, node, primitive, bitField, typedBitField, pointer, atomic, array, struct, union, isEnd}
 use Rattle.kinds.specs.declared.NestingLevel.{NestingLevel}
@@ -25,28 +25,20 @@ use Rattle.kinds.specs.declared.Refusal.{Refusal}
 use Rattle.kinds.specs.declared.Refusal.the-variants as R
 use Rattle.kinds.proofs.TableLaws.{both}
 use Rattle.sheet.specs.Answer.{Held, refused, holding, held, paired, heldBoth, ofHeldBoth, ofSheets}
-use Rattle.static_str.proofs.NumberLaws.{decimal-one, decimal-more, decimal-fits}
+use Rattle.static_str.proofs.NumberLaws.{decimal-one, decimal-more, decimal-few, decimal-fits}
 use Rattle.reason.specs.Answer.{measured, reasonLen, reasonAnswer}
 use Rattle.reason.specs.Reason.{Difference, kind, size, offset, length, name, count, Reason, offsetOf, lengthOf, items, firstDifference, dotted, pathText, valueText, valuesText, differenceText, reasonText}
 use Rattle.reason.specs.declared.Reasoned.{Reasoned}
 use Rattle.reason.specs.declared.Reasoned.the-variants.{Refused, Yes, Bytes}
+use Rattle.reason.proofs.PathLaws.{dotted-length}
 use Rattle.bounds.proofs.HeldLaws.{held-refused, held-holds}
 use Rattle.reason_agreement.specs.Along.{itemAt, follow, NodesDiffer, Differ}
 use Rattle.reason_agreement.specs.Limits.{maxReason}
 use Rattle.reason_agreement.proofs.CallLaws.{length-says, whole, nothing}
 use Rattle.reason_agreement.proofs.KindLaws.{valid-parts}
-use Rattle.reason_agreement.proofs.RightLaws.{valid-item, found-right}
+use Rattle.reason_agreement.proofs.RightLaws.{follow-valid, found-right}
 
 -- ---- Numbers.
-
--- A number has at most as many digits as it counts, or one.
-digits-few : (f n : ℕ) → n < f → N.length (decimal n) ≤ n + 1
-digits-few zero n h = absurd (omega arith)
-digits-few (suc f) n h = go (ltb n 10) refl (λ k. digits-few f (n / 10) k)
-  where
-    go : (t : Bool) → ltb n 10 ≡ t → (n / 10 < f → N.length (decimal (n / 10)) ≤ n / 10 + 1) → N.length (decimal n) ≤ n + 1
-    go true e ih = omega (arith, decimal-one n (ltb-true n 10 e))
-    go false e ih = let l = ltb-false n 10 e in omega (arith, decimal-more n l, ih (omega arith))
 
 -- One digit more for ten times as many.
 one-more : (k c n : ℕ) → ((m : ℕ) → m < k → N.length (decimal m) ≤ c) → 1 ≤ c → n < k * 10 → N.length (decimal n) ≤ c + 1
@@ -181,10 +173,6 @@ item-names i end = omega arith
 item-names zero (node l cs ts) = omega arith
 item-names (suc i) (node l cs ts) = omega (arith, item-names i ts, length-append (T.name l) (namesOf cs ++ namesOf ts), length-append (namesOf cs) (namesOf ts))
 
-dotted-length : (i : ℕ) (p : List ℕ) → N.length (dotted (i ∷ p)) ≡ 1 + N.length (decimal i) + N.length (dotted p)
-unfolding dotted
-dotted-length i p = omega (arith, length-append (decimal i) (dotted p))
-
 -- Two bytes for each node that the path passes, at most.
 follow-count : (p : List ℕ) (t : Trees) → isEnd (follow p t) ≡ false → N.length (dotted p) + 2 * T.count (follow p t) ≤ 2 * T.count t
 unfolding follow T.count isEnd dotted
@@ -199,7 +187,7 @@ follow-count (i ∷ p) (node l cs ts) h = go (isEnd (itemAt i cs)) refl (follow-
     go : (y : Bool) → isEnd (itemAt i cs) ≡ y → N.length (dotted p) + 2 * T.count (follow p (itemAt i cs)) ≤ 2 * T.count (itemAt i cs)
         → N.length (dotted (i ∷ p)) + 2 * T.count (follow p (itemAt i cs)) ≤ 2 * suc (T.count cs + T.count ts)
     go true e k = absurd (true≢false (sym (ends (itemAt i cs) e) ∙ h))
-    go false e k = omega (arith, dotted-length i p, digits-few (suc i) i (omega arith), item-count i cs e)
+    go false e k = omega (arith, dotted-length i p, decimal-few i, item-count i cs e)
 
 follow-names : (p : List ℕ) (t : Trees) → N.length (namesOf (follow p t)) ≤ N.length (namesOf t)
 unfolding follow namesOf
@@ -207,12 +195,6 @@ follow-names [] t = omega arith
 follow-names (i ∷ p) end = omega arith
 follow-names (i ∷ p) (node l cs ts) =
     omega (arith, follow-names p (itemAt i cs), item-names i cs, length-append (T.name l) (namesOf cs ++ namesOf ts), length-append (namesOf cs) (namesOf ts))
-
-follow-valid : (p : List ℕ) (t : Trees) → valid t ≡ true → valid (follow p t) ≡ true
-unfolding follow
-follow-valid [] t h = h
-follow-valid (i ∷ p) end h = h
-follow-valid (i ∷ p) (node l cs ts) h = follow-valid p (itemAt i cs) (valid-item i cs (valid-parts l cs ts h .children))
 
 path-length : (p : List ℕ) (k : ℕ) → N.length (dotted p) ≤ suc k → N.length (pathText p) ≤ k
 unfolding dotted pathText

@@ -8,11 +8,13 @@ use mathlib.Core.Option.{Option, some, none}
 use lib.ListN.{length}
 use borrow.Author.Tests.{le-leb, lt-leb}
 use Rattle.kinds.specs.Compare.{compareEncodings}
+use Rattle.kinds.specs.Sound.{goodNames}
 use Rattle.kinds.specs.Tree.{Trees}
 use Rattle.kinds.specs.declared.Compared.the-variants as C
 use Rattle.kinds.specs.declared.NestingLevel.the-variants.{Top}
 use Rattle.kinds.specs.declared.Refusal.the-variants as R
 use Rattle.sheet.specs.Answer.{Held, refused, holding, held, HeldBoth, refusedBoth, holdingBoth, paired, heldBoth, ofHeldBoth, ofSheets}
+use Rattle.sheet.proofs.GivenLaws.{held-says}
 use Rattle.static_str.specs.Answer.{placed}
 use Rattle.helper.specs.Answer.{compareAnswer}
 use Rattle.bounds.proofs.HeldLaws.{held-holds}
@@ -21,8 +23,12 @@ use Rattle.reason.specs.Reason.{Reason, firstDifference, reasonText}
 use Rattle.reason.specs.declared.Reasoned.the-variants.{Refused, Bytes}
 use Rattle.reason_agreement.specs.Along.{isNone}
 use Rattle.reason_agreement.specs.Calls.{decidedBy, Written}
+use Rattle.reason_agreement.proofs.GoodLaws.{found-good}
 use Rattle.reason_agreement.proofs.RightLaws.{found-right}
 use Rattle.reason_agreement.proofs.YesLaws.{yes-exactly}
+
+held-good : (words names : List ℕ) (t : Trees) → held words names ≡ holding t → goodNames t ≡ true
+held-good words names t e = let h = held-says words names e in rw (h .tree) at (h .good)
 
 decided : (o : Option Reason) → C.Decided (isNone o) ≡ decidedBy (measured o)
 unfolding isNone measured
@@ -102,6 +108,7 @@ module _ (all : Bool) (aw an bw bn : List ℕ) where
           second-valid = b;
           found = m .found;
           right = found-right all Top (m .reason .path) (m .reason .differs) (m .first) (m .second) a b (m .found);
+          good = found-good all Top (m .first) (m .second) a b (held-good aw an (m .first) (m .first-held)) (held-good bw bn (m .second) (m .second-held)) (m .reason) (m .found);
           long = m .long;
           answer = rw (m .both, m .found, fits, q);
           output = rw (m .both, m .found, fits, q);

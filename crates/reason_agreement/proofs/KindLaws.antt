@@ -22,7 +22,7 @@ use Rattle.reason.specs.Reason.{offsetOf, lengthOf, items}
 -- ---- Equivalent kinds.
 
 -- What does not tell Object, Block and Class apart does not tell equivalent kinds apart.
-pub kinds-alike : {A : Type 0} (f : ℕ → A) (x : A) → f 19 ≡ x → f 20 ≡ x → f 21 ≡ x → (k j : ℕ) → equivalent k j ≡ true → f k ≡ f j
+kinds-alike : {A : Type 0} (f : ℕ → A) (x : A) → f 19 ≡ x → f 20 ≡ x → f 21 ≡ x → (k j : ℕ) → equivalent k j ≡ true → f k ≡ f j
 unfolding equivalent isObject
 kinds-alike {A} f x a b c k j h = go (eqb k j) refl h
   where
@@ -122,14 +122,14 @@ with-name none = inr refl
 -- ---- What the kind of a valid node says.
 
 -- How many items a node of kind `k` that is no container has.
-pub arityOf : ℕ → ℕ
+arityOf : ℕ → ℕ
 arityOf k = cond (hasOneChild k) 1 0
 
 -- Whether children are shown, by kind.
-pub showsKind : ℕ → NestingLevel → Bool
+showsKind : ℕ → NestingLevel → Bool
 showsKind k v = cond (isContainerKind k) (showsFields v) true
 
-pub record KindSays (l : Label) : Type 0 where
+record KindSays (l : Label) : Type 0 where
   pub container : isContainer l ≡ isContainerKind (kind l)
   pub level : (v : NestingLevel) → inside l v ≡ insideKind (kind l) v
   pub shown : (v : NestingLevel) → shows l v ≡ showsKind (kind l) v
@@ -137,7 +137,7 @@ pub record KindSays (l : Label) : Type 0 where
 no-container : (p : ℕ) → p < 24 → isContainerKind p ≡ false
 no-container p h = rw (ne-eqb p 29 (λ e. omega arith), ne-eqb p 30 (λ e. omega arith))
 
-pub kind-says : (l : Label) → validLabel l ≡ true → KindSays l
+kind-says : (l : Label) → validLabel l ≡ true → KindSays l
 unfolding validLabel isContainer kind insideKind showsKind
 kind-says (primitive p) h =
     let b = ltb-true p 24 h in
@@ -181,7 +181,7 @@ unfolding isOne items
 one-items end h = absurd (false≢true h)
 one-items (node l cs ts) h = ap suc (end-items ts h)
 
-pub arity-items : (l : Label) (cs : Trees) → validLabel l ≡ true → validCount l cs ≡ true → isContainer l ≡ false → items cs ≡ arityOf (kind l)
+arity-items : (l : Label) (cs : Trees) → validLabel l ≡ true → validCount l cs ≡ true → isContainer l ≡ false → items cs ≡ arityOf (kind l)
 unfolding validLabel validCount isContainer kind arityOf
 arity-items (primitive p) cs a h n = end-items cs h ∙ rw (lt-leb 25 p (omega (arith, ltb-true p 24 a)))
 arity-items (bitField k) cs a h n = end-items cs h

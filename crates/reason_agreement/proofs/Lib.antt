@@ -12,3 +12,4 @@ pub mod TextLaws
 pub mod SwapLaws
 pub mod ShownLaws
 pub mod RightLaws
+pub mod GoodLaws

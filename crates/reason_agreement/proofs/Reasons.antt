@@ -7,13 +7,13 @@ use mathlib.Core.List.{List}
 use mathlib.Core.Option.{some, none}
 use lib.ListN.{length}
 use Rattle.kinds.specs.Compare.{compareEncodings}
-use Rattle.kinds.specs.Sound.{valid}
+use Rattle.kinds.specs.Sound.{valid, goodNames}
 use Rattle.kinds.specs.Tree.{Trees, isOne, shown}
 use Rattle.kinds.specs.declared.NestingLevel.{NestingLevel}
 use Rattle.kinds.specs.declared.Refusal.the-variants as R
 use Rattle.helper.specs.Answer.{compareAnswer}
 use Rattle.reason.specs.Answer.{reasonLen, reasonAnswer, reasonOutput}
-use Rattle.reason.specs.Reason.{Reason, firstDifference, reasonText}
+use Rattle.reason.specs.Reason.{Reason, GoodValues, firstDifference, reasonText}
 use Rattle.reason.specs.declared.Reasoned.the-variants.{Refused, Bytes}
 use Rattle.reason_agreement.specs.Along.{follow, before, differenceAlong, Differ, swapped, isNone}
 use Rattle.reason_agreement.specs.Cases.{AllHold, cases}
@@ -21,6 +21,7 @@ use Rattle.reason_agreement.specs.Calls.{decidedBy, Written}
 use Rattle.reason_agreement.proofs.AlongLaws.{found-along, found-first, none-along}
 use Rattle.reason_agreement.proofs.CallLaws.{compared, whole, short, nothing}
 use Rattle.reason_agreement.proofs.CasesHold.{all-hold}
+use Rattle.reason_agreement.proofs.GoodLaws.{found-good}
 use Rattle.reason_agreement.proofs.RightLaws.{found-right}
 use Rattle.reason_agreement.proofs.ShownLaws.{found-shown}
 use Rattle.reason_agreement.proofs.SwapLaws.{found-turned}
@@ -49,6 +50,10 @@ module _ (all : Bool) (v : NestingLevel) (t u : Trees) where
   -- The values are those of the two nodes to which the path leads in each tree by itself, and they differ.
   pub reason-right : valid t ≡ true → valid u ≡ true → {r : Reason} → firstDifference all v t u ≡ some r → Differ (r .differs) (follow (r .path) t) (follow (r .path) u)
   reason-right a b {r} = found-right all v (r .path) (r .differs) t u a b
+
+  -- Kinds are the sheet's, and names are good where both trees' names are.
+  pub reason-good : valid t ≡ true → valid u ≡ true → goodNames t ≡ true → goodNames u ≡ true → {r : Reason} → firstDifference all v t u ≡ some r → GoodValues (r .differs)
+  reason-good a b f g {r} = found-good all v t u a b f g r
 
   -- With the sides exchanged the reason has its two values exchanged, and nothing else.
   pub swapping : valid t ≡ true → valid u ≡ true → firstDifference all v u t ≡ swapped (firstDifference all v t u)

@@ -20,12 +20,12 @@ use Rattle.reason_agreement.specs.Along.{itemAt, follow, NodesDiffer, Di
 use Rattle.reason_agreement.proofs.AlongLaws.{reason, else-some, else-none, nodesOwn, at-root, below-root}
 use Rattle.reason_agreement.proofs.KindLaws.{kind-alone, equivalent-turned, with-offset, with-length, with-bits, with-name, labels-alike, ValidParts, valid-parts, same-items}
 
-pub unless-some : (b : Bool) (d : Difference) {e : Difference} → unless b d ≡ some e → (b ≡ false) × (d ≡ e)
+unless-some : (b : Bool) (d : Difference) {e : Difference} → unless b d ≡ some e → (b ≡ false) × (d ≡ e)
 unfolding unless
 unless-some true d h = let z : true ≡ false = cc in absurd (true≢false z)
 unless-some false d {e} h = let z : d ≡ e = cc in (refl, z)
 
-pub unless-none : (b : Bool) (d : Difference) → unless b d ≡ none → b ≡ true
+unless-none : (b : Bool) (d : Difference) → unless b d ≡ none → b ≡ true
 unfolding unless
 unless-none true d h = refl
 unless-none false d h = let z : true ≡ false = cc in absurd (true≢false z)
@@ -218,11 +218,17 @@ module _ (l m : Label) (cs ds : Trees) (a : validLabel l ≡ true) (b : validLab
 
 -- ---- Along the path.
 
-pub valid-item : (i : ℕ) (t : Trees) → valid t ≡ true → valid (itemAt i t) ≡ true
+valid-item : (i : ℕ) (t : Trees) → valid t ≡ true → valid (itemAt i t) ≡ true
 unfolding itemAt
 valid-item i end h = h
 valid-item zero (node l cs ts) h = h
 valid-item (suc i) (node l cs ts) h = valid-item i ts (valid-parts l cs ts h .others)
+
+pub follow-valid : (p : List ℕ) (t : Trees) → valid t ≡ true → valid (follow p t) ≡ true
+unfolding follow
+follow-valid [] t h = h
+follow-valid (i ∷ p) end h = h
+follow-valid (i ∷ p) (node l cs ts) h = follow-valid p (itemAt i cs) (valid-item i cs (valid-parts l cs ts h .children))
 
 root-right : (v : NestingLevel) (l m : Label) (cs ts ds us : Trees) {d : Difference} → valid (node l cs ts) ≡ true → valid (node m ds us) ≡ true
     → nodesOwn l m v cs ds ≡ some d → NodesDiffer d l cs m ds

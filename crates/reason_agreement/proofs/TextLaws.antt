@@ -22,7 +22,7 @@ unfolding bounded
 within limit n r h = rw (le-leb n limit h, bounded)
 
 -- Two decimal numbers, after which no digit stands.
-pub decimals-same : (n m : ℕ) (r s : List ℕ) → startsDigit r ≡ false → startsDigit s ≡ false → decimal n ++ r ≡ decimal m ++ s → (n ≡ m) × (r ≡ s)
+decimals-same : (n m : ℕ) (r s : List ℕ) → startsDigit r ≡ false → startsDigit s ≡ false → decimal n ++ r ≡ decimal m ++ s → (n ≡ m) × (r ≡ s)
 decimals-same n m r s a b h =
     let x = read-decimal (n + m) n r a ∙ within (n + m) n r (omega arith) in
     let y = read-decimal (n + m) m s b ∙ within (n + m) m s (omega arith) in

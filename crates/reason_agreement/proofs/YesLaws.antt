@@ -117,7 +117,7 @@ none-node l m v cs ds x =
     go false = refl
 
 -- Of trees side by side: they match exactly if there are as many and no item differs.
-pub items-yes : (all : Bool) (v : NestingLevel) (i : ℕ) (t u : Trees) → compareEncodings all v t u ≡ (eqb (items t) (items u) && isNone (itemsDifference all v i t u))
+items-yes : (all : Bool) (v : NestingLevel) (i : ℕ) (t u : Trees) → compareEncodings all v t u ≡ (eqb (items t) (items u) && isNone (itemsDifference all v i t u))
 unfolding compareEncodings itemsDifference items itemsCompared isNone
 items-yes all v i end end = refl
 items-yes all v i end (node m ds us) = rw (eqb·zero-suc (items us))

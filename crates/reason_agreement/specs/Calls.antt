@@ -12,7 +12,7 @@ use Rattle.kinds.specs.declared.Compared.the-variants as C
 use Rattle.kinds.specs.declared.NestingLevel.the-variants.{Top}
 use Rattle.sheet.specs.Answer.{held, holding}
 use Rattle.reason.specs.Answer.{reasonAnswer, reasonOutput}
-use Rattle.reason.specs.Reason.{Reason, firstDifference, reasonText}
+use Rattle.reason.specs.Reason.{Reason, GoodValues, firstDifference, reasonText}
 use Rattle.reason.specs.declared.Reasoned.{Reasoned}
 use Rattle.reason.specs.declared.Reasoned.the-variants.{Refused, Yes, Bytes}
 use Rattle.reason_agreement.specs.Along.{follow, Differ}
@@ -34,6 +34,7 @@ pub record Written (all : Bool) (aw an bw bn out : List ℕ) (n : ℕ) : Type 0 
   pub second-valid : valid second ≡ true
   pub found : firstDifference all Top first second ≡ some reason
   pub right : Differ (reason .differs) (follow (reason .path) first) (follow (reason .path) second)
+  pub good : GoodValues (reason .differs)
   pub long : length (reasonText reason) ≡ n
   pub answer : reasonAnswer all aw an bw bn (length out) ≡ Bytes n
   pub output : reasonOutput all aw an bw bn out ≡ reasonText reason ++ drop n out

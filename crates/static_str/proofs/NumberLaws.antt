@@ -1,8 +1,8 @@
 -- Laws of decimal text.
 use Prim.Native.Nat.{ℕ, zero, suc, _+_, _*_, _/_, _%_, _^_, _≤_, _<_}
 use native.Mathlib.Omega.{arith}
-use mathlib.Core.Path.{_≡_, refl, ap, _∙_, subst}
-use mathlib.Core.List.{[], _∷_}
+use mathlib.Core.Path.{_≡_, refl, ap, ap₂, sym, _∙_, subst}
+use mathlib.Core.List.{[], _∷_, _++_, append-assoc}
 use mathlib.Core.Bool.{Bool, true, false}
 use borrow.Author.Tests.{ltb-true, ltb-false}
 use lib.Dec.{ltb}
@@ -17,6 +17,41 @@ decimal-one n h = ap length (decimal-low n h)
 pub decimal-more : (n : ℕ) → 10 ≤ n → length (decimal n) ≡ length (decimal (n / 10)) + 1
 decimal-more n h = ap length (decimal-high n h) ∙ length-append (decimal (n / 10)) ((48 + n % 10) ∷ [])
 
+-- two digits
+pub decimal-two : (n : ℕ) → 10 ≤ n → n < 100 → decimal n ≡ (48 + n / 10 % 10) ∷ (48 + n % 10) ∷ []
+decimal-two n lo hi =
+    let e : n / 10 % 10 ≡ n / 10 = omega arith in
+    decimal-high n lo ∙ ap (λ s. s ++ ((48 + n % 10) ∷ [])) (decimal-low (n / 10) (omega arith)) ∙ ap (λ (d : ℕ). (48 + d) ∷ (48 + n % 10) ∷ []) (sym e)
+
+-- and two digits behind others
+decimal-last-two : (n : ℕ) → 100 ≤ n → decimal n ≡ decimal (n / 100) ++ ((48 + n / 10 % 10) ∷ (48 + n % 10) ∷ [])
+decimal-last-two n h =
+    let e : n / 10 / 10 ≡ n / 100 = omega arith in
+    decimal-high n (omega arith) ∙ ap (λ s. s ++ ((48 + n % 10) ∷ [])) (decimal-high (n / 10) (omega arith))
+    ∙ append-assoc (decimal (n / 10 / 10)) ((48 + n / 10 % 10) ∷ []) ((48 + n % 10) ∷ [])
+    ∙ ap (λ (m : ℕ). decimal m ++ ((48 + n / 10 % 10) ∷ (48 + n % 10) ∷ [])) e
+
+pub decimal-three : (n : ℕ) → 100 ≤ n → n < 1000 → decimal n ≡ (48 + n / 100 % 10) ∷ (48 + n / 10 % 10) ∷ (48 + n % 10) ∷ []
+decimal-three n lo hi =
+    let e : n / 100 % 10 ≡ n / 100 = omega arith in
+    decimal-last-two n lo ∙ ap (λ s. s ++ ((48 + n / 10 % 10) ∷ (48 + n % 10) ∷ [])) (decimal-low (n / 100) (omega arith))
+    ∙ ap (λ (d : ℕ). (48 + d) ∷ (48 + n / 10 % 10) ∷ (48 + n % 10) ∷ []) (sym e)
+
+pub decimal-four : (n : ℕ) → 1000 ≤ n → n < 10000 → decimal n ≡ (48 + n / 1000 % 10) ∷ (48 + n / 100 % 10) ∷ (48 + n / 10 % 10) ∷ (48 + n % 10) ∷ []
+decimal-four n lo hi =
+    let e : n / 100 / 10 ≡ n / 1000 = omega arith in
+    decimal-last-two n (omega arith) ∙ ap (λ s. s ++ ((48 + n / 10 % 10) ∷ (48 + n % 10) ∷ [])) (decimal-two (n / 100) (omega arith) (omega arith))
+    ∙ ap (λ (d : ℕ). (48 + d % 10) ∷ (48 + n / 100 % 10) ∷ (48 + n / 10 % 10) ∷ (48 + n % 10) ∷ []) e
+
+-- four digits behind others
+pub decimal-last-four : (n : ℕ) → 10000 ≤ n → decimal n ≡ decimal (n / 10000) ++ ((48 + n / 1000 % 10) ∷ (48 + n / 100 % 10) ∷ (48 + n / 10 % 10) ∷ (48 + n % 10) ∷ [])
+decimal-last-four n h =
+    let e : n / 100 / 10 ≡ n / 1000 = omega arith in
+    let f : n / 100 / 100 ≡ n / 10000 = omega arith in
+    decimal-last-two n (omega arith) ∙ ap (λ s. s ++ ((48 + n / 10 % 10) ∷ (48 + n % 10) ∷ [])) (decimal-last-two (n / 100) (omega arith))
+    ∙ append-assoc (decimal (n / 100 / 100)) ((48 + n / 100 / 10 % 10) ∷ (48 + n / 100 % 10) ∷ []) ((48 + n / 10 % 10) ∷ (48 + n % 10) ∷ [])
+    ∙ ap₂ (λ (m d : ℕ). decimal m ++ ((48 + d % 10) ∷ (48 + n / 100 % 10) ∷ (48 + n / 10 % 10) ∷ (48 + n % 10) ∷ [])) f e
+
 digits-below : (k n : ℕ) → n < 10 ^ suc k → length (decimal n) ≤ suc k
 digits-below zero n h = let e = decimal-one n h in omega arith
 digits-below (suc k) n h = go (ltb n 10) refl (λ p. digits-below k (n / 10) p)
@@ -30,6 +65,18 @@ digits-below (suc k) n h = go (ltb n 10) refl (λ p. digits-below k (n / 10) p)
         let l = decimal-more n (ltb-false n 10 e) in
         let r = rec (less (10 ^ suc k) (subst (λ (m : ℕ). n < m) (pow-suc 10 (suc k)) h)) in
         omega arith
+
+-- at most as many digits as it counts, or one
+pub decimal-few : (n : ℕ) → length (decimal n) ≤ n + 1
+decimal-few n = below (suc n) n (omega arith)
+  where
+    below : (f n : ℕ) → n < f → length (decimal n) ≤ n + 1
+    below zero n h = absurd (omega arith)
+    below (suc f) n h = go (ltb n 10) refl (λ k. below f (n / 10) k)
+      where
+        go : (t : Bool) → ltb n 10 ≡ t → (n / 10 < f → length (decimal (n / 10)) ≤ n / 10 + 1) → length (decimal n) ≤ n + 1
+        go true e rec = omega (arith, decimal-one n (ltb-true n 10 e))
+        go false e rec = let l = ltb-false n 10 e in omega (arith, decimal-more n l, rec (omega arith))
 
 -- a number of 64 bits
 pub decimal-fits : (n : ℕ) → n < 2 ^ 64 → length (decimal n) ≤ 20

@@ -7,6 +7,7 @@ use lib.ListN.{length, take, drop, getD}
 use Rattle.kinds.specs.Byte.{byte, bytes}
 use Rattle.kinds.specs.Print.{decimal}
 use Rattle.lines.specs.Answer.{until, each, decimals}
+use Rattle.reason.specs.Reason as R
 
 -- How often a byte stands in a text.
 unfoldable pub countOf : ℕ → List ℕ → ℕ
@@ -99,8 +100,8 @@ shownOrCut text = cond (leb (length text) 2000) (shownText text) (shownText (tak
 
 -- Why an input was turned away, a line for each number of a refusal. A line says first what the refusal carries (`-` nothing, `^` a place, `b` a
 -- place and a byte, `c` a place and a container) and then the reason, up to the byte or container that it names. A refusal more is a line here.
-unfoldable pub reasons : List ℕ
-reasons =
+unfoldable pub refusals : List ℕ
+refusals =
     bytes "-\n- the text has more than 2,000 bytes\n- the lists are too short for the tree\n- the lists hold no tree\n"
     ++ (bytes "- a name is neither ? nor letters, digits and underscores\n- the output is too short for the text\n- the size is above 2^64 - 1 bytes\n"
     ++ (bytes "^ the text ends where another byte must stand\nb no type starts with \nb f, d or D must follow j, not \n^ a digit must stand here\n"
@@ -116,7 +117,7 @@ markText carried place = cond (eqb carried (byte "-")) [] (bytes "\n" ++ (times 
 unfoldable pub namedText : ℕ → ℕ → ℕ → List ℕ
 namedText carried b container = cond (eqb carried (byte "b")) (byteText b) (cond (eqb carried (byte "c")) (containerText container) [])
 
--- A refusal by its line of `reasons`: the text, a mark under the place if there is one, and the reason.
+-- A refusal by its line of `refusals`: the text, a mark under the place if there is one, and the reason.
 unfoldable pub refusedBy : List ℕ → List ℕ → List ℕ → List ℕ
 refusedBy line text why =
     shownOrCut text
@@ -128,7 +129,7 @@ refusedBy line text why =
     ++ namedText (getD line 0 0) (getD why 2 0) (getD why 3 0))))))
 
 unfoldable pub refusedText : List ℕ → List ℕ → List ℕ
-refusedText text why = refusedBy (lineOf (getD why 0 0) reasons) text why
+refusedText text why = refusedBy (lineOf (getD why 0 0) refusals) text why
 
 -- ---- The reason for a no, in a sentence.
 
@@ -179,3 +180,15 @@ differenceText reason =
     differenceBy (before (byte ":") reason) (before (byte " ") (after (byte ":") reason))
     (after (byte ":") (before (byte " ") (after (byte " ") (after (byte ":") reason))))
     (after (byte ":") (after (byte " ") (after (byte " ") (after (byte ":") reason))))
+
+-- The sentence that a reason is to make: the place, what differs, and the values of both sides, kinds in words.
+unfoldable pub said : List ℕ → List ℕ → List ℕ → List ℕ → List ℕ
+said place what v w = bytes "in " ++ (place ++ (bytes ": the " ++ (what ++ (bytes " is " ++ (v ++ (bytes " in the first, " ++ (w ++ bytes " in the second")))))))
+
+unfoldable pub sentence : List ℕ → R.Difference → List ℕ
+sentence place (R.kind a b) = said place (bytes "kind") (kindText a) (kindText b)
+sentence place (R.size a b) = said place (bytes "size in bits") (decimal a) (decimal b)
+sentence place (R.offset a b) = said place (bytes "offset") (decimal a) (decimal b)
+sentence place (R.length a b) = said place (bytes "length") (decimal a) (decimal b)
+sentence place (R.name s t) = said place (bytes "name") s t
+sentence place (R.count a b) = said place (bytes "count of fields") (decimal a) (decimal b)

@@ -267,8 +267,8 @@ fn put_named(out: &mut [u8], at: usize, carried: u8, byte: u64, container: u64) 
     at
 }
 
-// What `put_refused` puts, by the refusal's line of its reasons.
-fn put_reason(out: &mut [u8], text: &[u8], why: &[u64; 4], line: &[u8]) -> usize
+// What `put_refused` puts, by the line of its refusal.
+fn put_refused_by(out: &mut [u8], text: &[u8], why: &[u64; 4], line: &[u8]) -> usize
     ensures { λ r. ⌜ Put (now (out .entry)) 0 (refusedBy (now (line .entry)) (now (text .entry)) (now (why .entry))) (now (out .exit)) r ⌝ }
 {
     let carried = first_byte(line);
@@ -276,8 +276,8 @@ fn put_reason(out: &mut [u8], text: &[u8], why: &[u64; 4], line: &[u8]) -> usize
     let mark = put_mark(out, shown, carried, why[1]);
     let to = lines::put_bytes(out, mark, b"\nrefused (");
     let number = lines::put_number(out, to, why[0]);
-    let reason = lines::put_bytes(out, number, b"): ");
-    let named = lines::put_bytes(out, reason, lines::rest(line, b' '));
+    let words = lines::put_bytes(out, number, b"): ");
+    let named = lines::put_bytes(out, words, lines::rest(line, b' '));
     put_named(out, named, carried, why[2], why[3])
 }
 
@@ -287,7 +287,7 @@ pub fn put_refused(out: &mut [u8], text: &[u8], why: &[u64; 4]) -> usize
 {
     // A line for each number of a refusal: what the refusal carries (`-` nothing, `^` a place, `b` a place and a byte, `c` a place and a
     // container), and the reason, up to the byte or container that it names. A refusal more is a line here.
-    let reasons = b"-\n\
+    let refusals = b"-\n\
         - the text has more than 2,000 bytes\n\
         - the lists are too short for the tree\n\
         - the lists hold no tree\n\
@@ -307,7 +307,7 @@ pub fn put_refused(out: &mut [u8], text: &[u8], why: &[u64; 4]) -> usize
         ^ the number is above 4294967295\n\
         - the signature is empty\n\
         ^ the number starts with a surplus zero";
-    put_reason(out, text, why, line_of(reasons, why[0]))
+    put_refused_by(out, text, why, line_of(refusals, why[0]))
 }
 
 // The number at the front of a text; 0 where there is none.

@@ -202,12 +202,13 @@ first-difference-compare-counts-requires t c κs =
 first-difference-enum-told-2 : (t : ℕ) → first-difference-lts.Need-enum-told-2 (claims t) (asked t) first-difference.Post Inv-loop μ-loop
 first-difference-enum-told-2 t c = search needs
 
-first-difference-enum-told-3 : (t : ℕ) → first-difference-lts.Need-enum-told-3 (claims t) (asked t) first-difference.Post Inv-loop μ-loop
-first-difference-enum-told-3 t c = search needs
+first-difference-enum-known-k : (t : ℕ) → first-difference-lts.Need-enum-known-k (claims t) (asked t) first-difference.Post Inv-loop μ-loop
+first-difference-enum-known-k t c = search needs
 
 first-difference-returns-3 : (t : ℕ) → first-difference-lts.Need-returns-3 (claims t) (asked t) first-difference.Post Inv-loop μ-loop
 first-difference-returns-3 t c =
-    let c2 = c .before .before in
+    let c1 = c .before in
+    let c2 = c1 .before .before in
     let c3 = c2 .before in
     let c6 = c3 .before .before .before in
     let c7 = c6 .before in
@@ -219,10 +220,10 @@ first-difference-returns-3 t c =
     let c19 = c14 .before .before .before .before .before in
     left-count (c14 .loop .inv .1) (c13 .loop-test .taken) (some-left _ (c12 .if1 .left)) (rw (c9 .enum-told .given .1) at (c11 .own-difference .ensures))
     (sym (c7 .is-container .ensures) ∙ c6 .if2 .taken) (c3 .level-for .ensures)
-    (rw (c .enum-told3 .given .1) at (c2 .compare-counts .ensures (c19 .args .an .now) (c19 .args .bn .now)))
+    (rw (c1 .k .given .1) at (c2 .compare-counts .ensures (c19 .args .an .now) (c19 .args .bn .now)))
 
-first-difference-enum-told-4 : (t : ℕ) → first-difference-lts.Need-enum-told-4 (claims t) (asked t) first-difference.Post Inv-loop μ-loop
-first-difference-enum-told-4 t c = search needs
+first-difference-enum-told-3 : (t : ℕ) → first-difference-lts.Need-enum-told-3 (claims t) (asked t) first-difference.Post Inv-loop μ-loop
+first-difference-enum-told-3 t c = search needs
 
 first-difference-add-i : (t : ℕ) → first-difference-lts.Need-add-i (claims t) (asked t) first-difference.Post Inv-loop μ-loop
 first-difference-add-i t c =
@@ -290,7 +291,7 @@ first-difference-loop-again t c =
       omega arith,
       left-last (c15 .loop .inv .1) (c14 .loop-test .taken) (some-left _ (c13 .if1 .left))
           (rw (c10 .enum-told .given .1) at (c12 .own-difference .ensures)) (sym (c8 .is-container .ensures) ∙ c7 .if2 .taken) (c4 .level-for .ensures)
-          (rw (c .before .enum-told4 .given .1) at (c3 .compare-counts .ensures (c20 .args .an .now) (c20 .args .bn .now))) (c .if3 .taken),
+          (rw (c .before .enum-told3 .given .1) at (c3 .compare-counts .ensures (c20 .args .an .now) (c20 .args .bn .now))) (c .if3 .taken),
     )
 
 first-difference-sub-first-difference : (t : ℕ) → first-difference-lts.Need-sub-first-difference (claims t) (asked t) first-difference.Post Inv-loop μ-loop
@@ -354,7 +355,7 @@ first-difference-first-difference-requires t c κs =
     let b = left-bounds (c19 .loop .inv .1) (c18 .loop-test .taken) (some-left _ (c17 .if1 .left)) in
     let i = left-inner (c19 .loop .inv .1) (c18 .loop-test .taken) (some-left _ (c17 .if1 .left))
     (rw (c14 .enum-told .given .1) at (c16 .own-difference .ensures)) (sym (c12 .is-container .ensures) ∙ c11 .if2 .taken) (c8 .level-for .ensures)
-    (rw (c5 .enum-told4 .given .1) at (c7 .compare-counts .ensures (c24 .args .an .now) (c24 .args .bn .now))) in
+    (rw (c5 .enum-told3 .given .1) at (c7 .compare-counts .ensures (c24 .args .an .now) (c24 .args .bn .now))) in
     rw (whole, whole, whole, whole) (omega arith, i)
 
 first-difference-enum-known-x-2 : (t : ℕ) → first-difference-lts.Need-enum-known-x-2 (claims t) (asked t) first-difference.Post Inv-loop μ-loop
@@ -376,11 +377,11 @@ first-difference-returns-4 t c =
     let c28 = c23 .before .before .before .before .before in
     left-fields (c23 .loop .inv .1) (c22 .loop-test .taken) (some-left _ (c21 .if1 .left)) (rw (c18 .enum-told .given .1) at (c20 .own-difference .ensures))
     (sym (c16 .is-container .ensures) ∙ c15 .if2 .taken) (c12 .level-for .ensures)
-    (rw (c9 .enum-told4 .given .1) at (c11 .compare-counts .ensures (c28 .args .an .now) (c28 .args .bn .now)))
+    (rw (c9 .enum-told3 .given .1) at (c11 .compare-counts .ensures (c28 .args .an .now) (c28 .args .bn .now)))
     (rw (c .before .x2 .given .1) at (rw (whole, whole, whole, whole) at (c3 .first-difference .ensures)))
 
-first-difference-enum-told-5 : (t : ℕ) → first-difference-lts.Need-enum-told-5 (claims t) (asked t) first-difference.Post Inv-loop μ-loop
-first-difference-enum-told-5 t c = search needs
+first-difference-enum-told-4 : (t : ℕ) → first-difference-lts.Need-enum-told-4 (claims t) (asked t) first-difference.Post Inv-loop μ-loop
+first-difference-enum-told-4 t c = search needs
 
 first-difference-mul-at : (t : ℕ) → first-difference-lts.Need-mul-at (claims t) (asked t) first-difference.Post Inv-loop μ-loop
 first-difference-mul-at t c =
@@ -511,9 +512,9 @@ pub +first-difference-spec : {M : Type 1} → statement M
     (first-difference-level-for-requires t)
     (first-difference-compare-counts-requires t)
     (first-difference-enum-told-2 t)
-    (first-difference-enum-told-3 t)
+    (first-difference-enum-known-k t)
     (first-difference-returns-3 t)
-    (first-difference-enum-told-4 t)
+    (first-difference-enum-told-3 t)
     (first-difference-add-i t)
     (first-difference-sub-n t)
     (first-difference-add-j t)
@@ -535,7 +536,7 @@ pub +first-difference-spec : {M : Type 1} → statement M
     (first-difference-first-difference-requires t)
     (first-difference-enum-known-x-2 t)
     (first-difference-returns-4 t)
-    (first-difference-enum-told-5 t)
+    (first-difference-enum-told-4 t)
     (first-difference-mul-at t)
     (first-difference-add-at t)
     (first-difference-sub-left t)

@@ -1,12 +1,12 @@
 use Prim.Native.Nat.{_+_, _≤_}
+use native.Mathlib.Omega.{arith}
 use mathlib.Core.Path.{_≡_}
 use mathlib.Core.List.{[]}
-use native.Mathlib.Omega.{arith}
 use Rattle.kinds.specs.Sheet.{trees}
 use Rattle.kinds.specs.Walk.{TreesAt}
-use Rattle.kinds.proofs.NodeLaws.{first-some, first-within, other-trees}
+use Rattle.kinds.proofs.NodeLaws.{first-some, first-within, first-node}
 use Rattle.reason.specs.Reason.{items}
-use Rattle.reason.proofs.PathLaws.{items-step, items-all}
+use Rattle.reason.proofs.PathLaws.{items-next, items-all}
 use Rattle.reason.proofs.count_items.Statement.{statement}
 use Rattle.reason.proofs.count_items.Tie as tie
 
@@ -18,35 +18,33 @@ abbrev μ-loop : tie.MeasureT-loop
 μ-loop nodes from n at₀ left₀ count₀ at left count = left
 
 loop-holds : tie.Need-loop-holds Inv-loop μ-loop
-loop-holds c = (c .pre, omega arith, omega arith)
+loop-holds c = (c .before .pre, omega arith, omega arith)
 
-add-c : tie.Need-add-c Inv-loop μ-loop
-add-c c = let r = c .before .loop .inv .0 .room in omega arith
-
-mul-c : tie.Need-mul-c Inv-loop μ-loop
-mul-c c = let r = c .before .loop .inv .0 .room in omega arith
-
-shared-slice-read-c : tie.Need-shared-slice-read-c Inv-loop μ-loop
-shared-slice-read-c c = let r = c .before .before .loop .inv .0 .room in omega arith
+subtree-requires : tie.Need-subtree-requires Inv-loop μ-loop
+subtree-requires c κs =
+    first-node _ (c .before .loop .at) (c .before .loop .left) (c .before .loop .inv .0) (c .loop-test .taken)
 
 mul-at : tie.Need-mul-at Inv-loop μ-loop
 mul-at c =
-    let l = c .before .before .loop in
-    let r = l .inv .0 .room in
-    let f = first-within _ (l .at) (l .left) (l .inv .0) (c .before .loop-test .taken) in
+    let c2 = c .before .before in
+    let r = c2 .loop .inv .0 .room in
+    let f = first-within _ (c2 .loop .at) (c2 .loop .left) (c2 .loop .inv .0) (c .before .loop-test .taken) in
+    let e = c .subtree .ensures in
     omega arith
 
 add-at : tie.Need-add-at Inv-loop μ-loop
 add-at c =
-    let l = c .before .before .loop in
-    let r = l .inv .0 .room in
-    let f = first-within _ (l .at) (l .left) (l .inv .0) (c .before .loop-test .taken) in
+    let c2 = c .before .before in
+    let r = c2 .loop .inv .0 .room in
+    let f = first-within _ (c2 .loop .at) (c2 .loop .left) (c2 .loop .inv .0) (c .before .loop-test .taken) in
+    let e = c .subtree .ensures in
     omega arith
 
 sub-left : tie.Need-sub-left Inv-loop μ-loop
 sub-left c =
-    let l = c .before .before .loop in
-    let f = first-within _ (l .at) (l .left) (l .inv .0) (c .before .loop-test .taken) in
+    let c2 = c .before .before in
+    let f = first-within _ (c2 .loop .at) (c2 .loop .left) (c2 .loop .inv .0) (c .before .loop-test .taken) in
+    let e = c .subtree .ensures in
     omega arith
 
 add-count : tie.Need-add-count Inv-loop μ-loop
@@ -54,24 +52,26 @@ add-count c = omega arith
 
 loop-less : tie.Need-loop-less Inv-loop μ-loop
 loop-less c =
-    let l = c .before .before .loop in
-    let f = first-within _ (l .at) (l .left) (l .inv .0) (c .before .loop-test .taken) in
-    let s = first-some _ (l .at) (l .left) (l .inv .0) (c .before .loop-test .taken) in
+    let c2 = c .before .before in
+    let s = first-some _ (c2 .loop .at) (c2 .loop .left) (c2 .loop .inv .0) (c .before .loop-test .taken) in
+    let f = first-within _ (c2 .loop .at) (c2 .loop .left) (c2 .loop .inv .0) (c .before .loop-test .taken) in
+    let e = c .subtree .ensures in
     omega arith
 
 loop-again : tie.Need-loop-again Inv-loop μ-loop
 loop-again c =
-    let l = c .before .before .loop in
-    let f = first-within _ (l .at) (l .left) (l .inv .0) (c .before .loop-test .taken) in
-    let s = first-some _ (l .at) (l .left) (l .inv .0) (c .before .loop-test .taken) in
-    let i = items-step [] _ (l .left) (l .at) (l .inv .0) (c .before .loop-test .taken) in
-    let e = l .inv .1 in
-    (other-trees _ (l .at) (l .left) (l .inv .0) (c .before .loop-test .taken), omega arith, omega arith)
+    let c2 = c .before .before in
+    let s = first-some _ (c2 .loop .at) (c2 .loop .left) (c2 .loop .inv .0) (c .before .loop-test .taken) in
+    let f = first-within _ (c2 .loop .at) (c2 .loop .left) (c2 .loop .inv .0) (c .before .loop-test .taken) in
+    let e = c .subtree .ensures in
+    let i = items-next [] _ (c2 .loop .left) (c2 .loop .at) _ e (c2 .loop .inv .0) (c .before .loop-test .taken) in
+    let j = i .1 in
+    let q = c2 .loop .inv .1 in
+    (i .0, omega arith, omega arith)
 
 returns : tie.Need-returns Inv-loop μ-loop
 returns c =
-    let l = c .before .loop in
-    items-all [] _ (l .left) (l .at) (l .inv .1) (c .loop-test .left)
+    items-all [] _ (c .before .loop .left) (c .before .loop .at) (c .before .loop .inv .1) (c .loop-test .left)
 
 pub count-items-spec : {M : Type 1} → statement M
 count-items-spec =
@@ -80,9 +80,7 @@ count-items-spec =
     Inv-loop
     μ-loop
     loop-holds
-    add-c
-    mul-c
-    shared-slice-read-c
+    subtree-requires
     mul-at
     add-at
     sub-left

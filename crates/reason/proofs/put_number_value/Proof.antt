@@ -1,17 +1,38 @@
-use borrow.Author.Needs.{needs}
 use Rattle.lines.proofs.PutLaws.{put-same, put-append}
-use Rattle.reason.proofs.ValueLaws.{number-value, value-one, value-two}
+use Rattle.reason.proofs.ValueLaws.{number-value, few-digits-value, value-one, value-two}
+use borrow.Author.Needs.{needs}
 use Rattle.reason.proofs.put_number_value.Statement.{statement}
 use Rattle.reason.proofs.put_number_value.Tie as tie
 
 returns : tie.Need-returns
-returns c = put-same (value-one (c .before .before .before .before .before .before .before .args .n) (c .before .before .before .before .before .if1 .taken)) (c .before .before .put-bytes .ensures)
+returns c =
+    let c2 = c .before .before in
+    let c5 = c2 .before .before .before in
+    let c7 = c5 .before .before in
+    put-same (value-one (c7 .args .n) (c5 .if1 .taken)) (c2 .put-bytes .ensures)
 
 returns-2 : tie.Need-returns-2
-returns-2 c = put-same (value-two (c .before .before .before .before .before .before .before .before .args .n) (c .before .before .before .before .before .before .if1 .left) (c .before .before .before .before .before .if2 .taken)) (c .before .before .put-bytes2 .ensures)
+returns-2 c =
+    let c2 = c .before .before in
+    let c5 = c2 .before .before .before in
+    let c6 = c5 .before in
+    let c8 = c6 .before .before in
+    put-same (value-two (c8 .args .n) (c6 .if1 .left) (c5 .if2 .taken)) (c2 .put-bytes2 .ensures)
 
 returns-3 : tie.Need-returns-3
-returns-3 c = put-same (number-value _ _ (c .before .before .before .before .before .before .before .static-int-str-len .ensures)) (put-append _ _ (c .before .before .before .before .before .before .put-marked .ensures) (c .before .before .put-marked2 .ensures))
+returns-3 c =
+    let c2 = c .before .before in
+    let c6 = c2 .before .before .before .before in
+    let c9 = c6 .before .before .before in
+    let c10 = c9 .before in
+    put-same (few-digits-value _ _ (c10 .static-int-str-len .ensures) (c9 .if3 .taken)) (put-append _ _ (c6 .put-bytes3 .ensures) (c2 .put-number .ensures))
+
+returns-4 : tie.Need-returns-4
+returns-4 c =
+    let c2 = c .before .before in
+    let c6 = c2 .before .before .before .before in
+    let c9 = c6 .before .before .before in
+    put-same (number-value _ _ (c9 .static-int-str-len .ensures)) (put-append _ _ (c6 .put-marked .ensures) (c2 .put-marked2 .ensures))
 
 pub put-number-value-spec : {M : Type 1} → statement M
 put-number-value-spec =
@@ -32,7 +53,14 @@ put-number-value-spec =
     (λ c. search needs)
     returns-2
     (λ c κs. search needs)
+    (λ c. search needs)
+    (λ c. search needs)
+    (λ c. search needs)
     (λ c κs. search needs)
     (λ c κs. search needs)
     (λ c. search needs)
-    returns-3)
+    returns-3
+    (λ c κs. search needs)
+    (λ c κs. search needs)
+    (λ c. search needs)
+    returns-4)

@@ -1,49 +1,55 @@
+use mathlib.Core.Path.{sym, _∙_}
+use borrow.Author.Tests.{leb-true, leb-false, not-true, not-false}
 use borrow.Author.Needs.{needs}
-use Rattle.reason.proofs.ReasonLaws.{yes-fitted, yes-placed, short-fitted, short-placed, bytes-fitted, bytes-placed}
-use Rattle.reason.proofs.ReasonLaws.{found-same, found-at}
+use Rattle.reason.proofs.ReasonLaws.{yes-fitted, yes-placed, short-fitted, short-placed, bytes-placed, put-fitted}
+use Rattle.reason.proofs.ReasonLaws.{found-same, found-at, numbers-short, counted}
 use Rattle.reason.proofs.write_nodes.Statement.{statement}
 use Rattle.reason.proofs.write_nodes.Tie as tie
 
-reason-text-len-requires : tie.Need-reason-text-len-requires
-reason-text-len-requires c κs =
+difference-len-requires : tie.Need-difference-len-requires
+difference-len-requires c κs =
     let c3 = c .before .before .before in
     let c4 = c3 .before in
     let c10 = c4 .before .before .before .before .before .before in
-    let a = c10 .args in
-    let t = c .before .x .given .1 in
-    let d = found-at (a .all) _ (c4 .new .ensures) _ _ _ _ _ _ (c10 .pre .0) (c10 .pre .1) (c3 .first-difference .ensures) t in
-    (d .places, d .short)
+    let d = found-at (c10 .args .all) _ (c4 .new .ensures) _ _ _ _ _ _ (c10 .pre .0) (c10 .pre .1) (c3 .first-difference .ensures) (c .before .x .given .1) in
+    numbers-short d
+
+path-fits-requires : tie.Need-path-fits-requires
+path-fits-requires c κs =
+    let c2 = c .before .before in
+    let c4 = c2 .before .before in
+    let c5 = c4 .before in
+    let c11 = c5 .before .before .before .before .before .before in
+    let d = found-at (c11 .args .all) _ (c5 .new .ensures) _ _ _ _ _ _ (c11 .pre .0) (c11 .pre .1) (c4 .first-difference .ensures) (c2 .x .given .1) in
+    (d .places .0, c .difference-len .ensures .1)
 
 returns : tie.Need-returns
 returns c =
-    let c3 = c .before .before .before in
-    let c5 = c3 .before .before in
-    let c6 = c5 .before in
-    let c12 = c6 .before .before .before .before .before .before in
-    let a = c12 .args in
-    let t = c3 .x .given .1 in
-    let d = found-at (a .all) _ (c6 .new .ensures) _ _ _ _ _ _ (c12 .pre .0) (c12 .pre .1) (c5 .first-difference .ensures) t in
-    let l = c .before .reason-text-len .ensures (a .an .now) (a .bn .now) (d .lent .0) (d .lent .1) in
-    (short-fitted _ (d .reason) l (a .out .now) (c .if1 .taken), short-placed _ (d .reason) l (a .out .now) (c .if1 .taken))
-
-put-reason-requires : tie.Need-put-reason-requires
-put-reason-requires c κs =
-    let c4 = c .before .before .before .before in
+    let c2 = c .before .before in
+    let c4 = c2 .before .before in
     let c6 = c4 .before .before in
     let c7 = c6 .before in
     let c13 = c7 .before .before .before .before .before .before in
-    let a = c13 .args in
-    let t = c4 .x .given .1 in
-    let d = found-at (a .all) _ (c7 .new .ensures) _ _ _ _ _ _ (c13 .pre .0) (c13 .pre .1) (c6 .first-difference .ensures) t in
-    (d .places, d .lent)
+    let d = found-at (c13 .args .all) _ (c7 .new .ensures) _ _ _ _ _ _ (c13 .pre .0) (c13 .pre .1) (c6 .first-difference .ensures) (c4 .x .given .1) in
+    let l = counted d (c2 .difference-len .ensures .0) in
+    let w = leb-false _ _ (sym (c .before .path-fits .ensures) ∙ not-true _ (c .if1 .taken)) in
+    (short-fitted _ (d .reason) l (c13 .args .out .now) w, short-placed _ (d .reason) l (c13 .args .out .now) w)
+
+put-reason-requires : tie.Need-put-reason-requires
+put-reason-requires c κs =
+    let c5 = c .before .before .before .before .before in
+    let c7 = c5 .before .before in
+    let c8 = c7 .before in
+    let c14 = c8 .before .before .before .before .before .before in
+    let d = found-at (c14 .args .all) _ (c8 .new .ensures) _ _ _ _ _ _ (c14 .pre .0) (c14 .pre .1) (c7 .first-difference .ensures) (c5 .x .given .1) in
+    (d .places, (d .lent, d .numbers))
 
 returns-2 : tie.Need-returns-2
 returns-2 c =
     let c2 = c .before .before in
     let c3 = c2 .before in
     let c9 = c3 .before .before .before .before .before .before in
-    let a = c9 .args in
-    let e = found-same (a .all) _ (c3 .new .ensures) _ _ _ _ _ _ (c9 .pre .0) (c9 .pre .1) (c2 .first-difference .ensures) (c .enum-told .given .1) in
+    let e = found-same (c9 .args .all) _ (c3 .new .ensures) _ _ _ _ _ _ (c9 .pre .0) (c9 .pre .1) (c2 .first-difference .ensures) (c .enum-told .given .1) in
     (yes-fitted e _, yes-placed e _)
 
 returns-3 : tie.Need-returns-3
@@ -51,16 +57,16 @@ returns-3 c =
     let c2 = c .before .before in
     let c4 = c2 .before .before in
     let c5 = c4 .before in
-    let c7 = c5 .before .before in
-    let c9 = c7 .before .before in
-    let c10 = c9 .before in
-    let c16 = c10 .before .before .before .before .before .before in
-    let a = c16 .args in
-    let t = c7 .x .given .1 in
-    let d = found-at (a .all) _ (c10 .new .ensures) _ _ _ _ _ _ (c16 .pre .0) (c16 .pre .1) (c9 .first-difference .ensures) t in
-    let l = c5 .reason-text-len .ensures (a .an .now) (a .bn .now) (d .lent .0) (d .lent .1) in
-    let w = c4 .if1 .left in
-    (bytes-fitted _ (d .reason) l (a .out .now) w, bytes-placed _ (d .reason) l (a .out .now) w (c2 .put-reason .ensures))
+    let c6 = c5 .before in
+    let c8 = c6 .before .before in
+    let c10 = c8 .before .before in
+    let c11 = c10 .before in
+    let c17 = c11 .before .before .before .before .before .before in
+    let d = found-at (c17 .args .all) _ (c11 .new .ensures) _ _ _ _ _ _ (c17 .pre .0) (c17 .pre .1) (c10 .first-difference .ensures) (c8 .x .given .1) in
+    let l = counted d (c6 .difference-len .ensures .0) in
+    let w = leb-true _ _ (sym (c5 .path-fits .ensures) ∙ not-false _ (c4 .if1 .left)) in
+    let p = c2 .put-reason .ensures in
+    (put-fitted _ (d .reason) l (c17 .args .out .now) w p, bytes-placed _ (d .reason) l (c17 .args .out .now) w p)
 
 pub write-nodes-spec : {M : Type 1} → statement M
 write-nodes-spec =
@@ -70,7 +76,8 @@ write-nodes-spec =
     (λ c κs. search needs)
     (λ c. search needs)
     (λ c. search needs)
-    reason-text-len-requires
+    difference-len-requires
+    path-fits-requires
     returns
     put-reason-requires
     returns-2

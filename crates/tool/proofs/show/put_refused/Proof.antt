@@ -3,18 +3,18 @@ use Prim.Native.Nat.{ℕ}
 use mathlib.Core.Path.{ap}
 use mathlib.Core.List.{List}
 use Rattle.lines.proofs.PutLaws.{put-same}
-use Rattle.tool.specs.Answer.{reasons, refusedBy, refusedText}
+use Rattle.tool.specs.Answer.{refusals, refusedBy, refusedText}
 use borrow.Author.Needs.{needs}
 use Rattle.tool.proofs.show.put_refused.Statement.{statement}
 use Rattle.tool.proofs.show.put_refused.Tie as tie
 
 returns : tie.Need-returns
-unfolding reasons refusedText
+unfolding refusals refusedText
 returns c =
     let c2 = c .before .before in
     let c3 = c2 .before in
     let c10 = c3 .before .before .before .before .before .before .before in
-    put-same (ap (λ (l : List ℕ). refusedBy l (c10 .args .text .now) (c10 .args .why .now)) (c3 .line-of .ensures)) (c2 .put-reason .ensures)
+    put-same (ap (λ (l : List ℕ). refusedBy l (c10 .args .text .now) (c10 .args .why .now)) (c3 .line-of .ensures)) (c2 .put-refused-by .ensures)
 
 pub put-refused-spec : {M : Type 1} → statement M
 put-refused-spec =

@@ -1,11 +1,11 @@
--- `tool::show::put_reason` meets its contract. Assumes nothing.
+-- `tool::show::put_refused_by` meets its contract. Assumes nothing.
 use mathlib.Core.Path.{_∙_}
 use Rattle.parser.proofs.PlaceLaws.{remains-bytes}
 use Rattle.lines.proofs.PutLaws.{put-same, put-append}
 use Rattle.tool.proofs.ShowLaws.{refused-is}
 use borrow.Author.Needs.{needs}
-use Rattle.tool.proofs.show.put_reason.Statement.{statement}
-use Rattle.tool.proofs.show.put_reason.Tie as tie
+use Rattle.tool.proofs.show.put_refused_by.Statement.{statement}
+use Rattle.tool.proofs.show.put_refused_by.Tie as tie
 
 same-length : tie.Need-same-length
 same-length c =
@@ -35,8 +35,8 @@ returns c =
     (put-append _ _ (c23 .put-bytes .ensures) (put-append _ _ (c18 .put-number .ensures)
     (put-append _ _ (c13 .put-bytes2 .ensures) (put-append _ _ (c8 .put-bytes3 .ensures) (c2 .put-named .ensures)))))))
 
-pub put-reason-spec : {M : Type 1} → statement M
-put-reason-spec =
+pub put-refused-by-spec : {M : Type 1} → statement M
+put-refused-by-spec =
     tie.close
     (tie.spec
     (λ c κs. search needs)
