@@ -124,11 +124,13 @@ static void row(const char *shape, const Build *builds, int each, int rounds, in
     printf("%-14s %-22s %9.1f %9.1f  %5.2f %5.2f\n", shape, whats[what], mean[0], mean[1], mean[1] / mean[0], least[1] / least[0]);
 }
 
+enum { SHAPES = 7 };
+
 static void repeat(const char *part, int times) {
     for (int i = 0; i < times; i++) text_len += (size_t)sprintf((char *)text + text_len, "%s", part);
 }
 
-// The benchmark's shapes (oracle/bench.rs), and wide bitfields.
+// The benchmark's shapes (oracle/bench.rs) and wide bitfields; then some for reasons alone.
 static const char *shape(int which) {
     static const char *const fields[] = {"i", "^v", "[4c]", "@", "b3", "{P=dd}", "*", "^{B}", "(U=if)", "b0i7", ":"};
     text_len = 0;
@@ -144,6 +146,12 @@ static const char *shape(int which) {
     case 4: return repeat("^", 1000), repeat("i", 1), "1,001 pointers";
     case 5: return repeat("{R=", 499), repeat("i", 1), repeat("}", 499), "nested records";
     case 6: return repeat("{R=", 1), repeat("b200", 400), repeat("}", 1), "wide bitfields";
+    case SHAPES: return repeat("{R=", 1), repeat("i", 1000), repeat("}", 1), "1,000 fields";
+    case SHAPES + 1: return repeat("^", 2000), "2,000 pointers";
+    case SHAPES + 2: return repeat("{R=", 332), repeat("i", 1), repeat("}i", 331), repeat("}", 1), "not the last"; // each record has a field behind it
+    case SHAPES + 3: return repeat("{R=", 1), repeat("{P=dd}", 300), repeat("}", 1), "300 records";
+    case SHAPES + 4: return repeat("{R=", 1), repeat("{P=}", 498), repeat("}", 1), "empty records";
+    case SHAPES + 5: return repeat("{", 1), repeat("R", 1000), repeat("}", 1), "long names";
     default: return NULL;
     }
 }
@@ -165,43 +173,59 @@ static const char *signature(int which) {
     }
 }
 
-// The two trees whose comparison is held against its reason; of most the second has another last node.
-static const char *pair(int which) {
-    static const struct { int shape; const char *name; } from_shapes[] = {{0, "a code"}, {1, "25 nodes"}, {2, "1,188 nodes"}, {5, "nested records"}};
-    text_len = 0;
-    if (which < 4) return shape(from_shapes[which].shape), from_shapes[which].name;
-    switch (which) {
-    case 4: return repeat("{R=", 1), repeat("i", 1000), repeat("}", 1), "1,000 fields";
-    case 5: return repeat("^", 2000), "2,000 pointers";
-    case 6: return repeat("{R=", 332), repeat("i", 1), repeat("}i", 331), repeat("}", 1), "not the last"; // each record has a field behind it
-    case 7: return repeat("{", 1), repeat("R", 1000), repeat("}", 1), "long names";
-    case 8: return shape(1), "25, equal";
-    case 9: return shape(2), "1,188, equal";
-    default: return NULL;
-    }
-}
+// The trees whose comparison is held against its reason: small ones, document 02's among them, by their texts.
+static const char *const small[][2] = {{"i", "d"}, {"i", "^i"}, {"^i", "^d"}, {"b3", "b4"}, {"b0i3", "b1i3"}, {"[3c]", "[12c]"},
+                                       {"{R=i}", "{S=i}"}, {"{R=ii}", "{R=i}"}, {"{R=i^v}", "{R=i^i}"}, {"{R=i}", "{R=i}"}, {"[100c]", "[1000c]"}, {"[65536c]", "[99999c]"}, {"[1000000c]", "[10000000c]"},
+                                       {"[18446744073709551615c]", "[18446744073709551614c]"}};
+
+// Larger ones, by a shape and what is changed in it for the second.
+enum { LAST, FIRST, NAME, COUNT, NOTHING };
+static const char *const changes[] = {"another last", "another first", "another name", "another count", "equal"};
+static const struct { int shape, change; } large[] = {{1, LAST}, {2, LAST}, {5, LAST}, {SHAPES, LAST}, {SHAPES, FIRST}, {SHAPES, COUNT}, {SHAPES + 1, LAST},
+                                                      {SHAPES + 2, LAST}, {SHAPES + 3, LAST}, {SHAPES + 4, LAST},
+                                                      {SHAPES + 5, NAME}, {1, NOTHING}, {2, NOTHING}};
 
 static void read_into(const Build *build, uint64_t *to_words, uint8_t *to_names) {
     uint64_t answer[3];
     if (build->from_str(text, text_len, to_words, BERZHOTUN_MAX_WORDS, to_names, BERZHOTUN_MAX_NAMES, answer)) fail("a text that does not read");
 }
 
-static void lend_pair(const Build *build, int which) {
+static void lend_small(const Build *build, int which) {
+    text_len = 0, repeat(small[which][0], 1), read_into(build, words, names);
+    text_len = 0, repeat(small[which][1], 1), read_into(build, other_words, other_names);
+}
+
+static void change(uint64_t *kind) {
+    *kind = *kind == BERZHOTUN_STRUCT ? BERZHOTUN_UNION : *kind == BERZHOTUN_INT ? BERZHOTUN_DOUBLE : BERZHOTUN_INT;
+}
+
+static void lend_large(const Build *build, int which) {
+    uint64_t *root = other_words + 4, answer[1];
+    shape(large[which].shape);
     read_into(build, words, names);
     memcpy(other_words, words, sizeof words);
     memcpy(other_names, names, sizeof names);
-    uint64_t *last = other_words + other_words[3] - 4, answer[1];
-    if (which == 7) other_names[999] = 'S';
-    else if (which < 7) *last = *last == BERZHOTUN_STRUCT ? BERZHOTUN_UNION : *last == BERZHOTUN_INT ? BERZHOTUN_DOUBLE : BERZHOTUN_INT;
-    if (build->equivalent_to(SHEET, OTHER, answer) || answer[0] != (which >= 8)) fail("a pair that does not compare as it should");
+    switch (large[which].change) {
+    case LAST: change(other_words + other_words[3] - 4); break;
+    case NAME: other_names[root[2] - 1] = 'S'; break;
+    case COUNT: other_words[0]--, other_words[3] -= 4, root[3]--; // without its last field, and
+    // fall through
+    case FIRST: change(root + 4);
+    }
+    if (build->equivalent_to(SHEET, OTHER, answer) || answer[0] != (large[which].change == NOTHING)) fail("a pair that does not compare as it should");
 }
 
 // A comparison, the length of its reason and the reason, all of the same two trees, and the reason by the comparison.
-static void reason_row(const char *name, const Build *builds, int each, int rounds, const int what[3]) {
+static void reason_row(const char *first, const char *second, const Build *builds, int each, int rounds, const int what[3]) {
     double times[3][MOST_BUILDS], mean[3], least[3];
     timed(builds, each, rounds, what, 3, times);
     for (int k = 0; k < 3; k++) summed(times[k], each, &mean[k], &least[k]);
-    printf("%-14s %-22s %9.1f %9.1f %9.1f  %5.2f %5.2f\n", name, whats[what[0]], mean[0], mean[1], mean[2], mean[2] / mean[0], least[2] / least[0]);
+    printf("%-14s %-14s %-18s %9.1f %9.1f %9.1f  %5.2f %5.2f\n", first, second, whats[what[0]], mean[0], mean[1], mean[2], mean[2] / mean[0], least[2] / least[0]);
+}
+
+static void reason_pair(const char *first, const char *second, const Build *builds, int each, int rounds) {
+    reason_row(first, second, builds, each, rounds, (const int[]){TREE, REASON_LEN, REASON});
+    reason_row(first, second, builds, each, rounds, (const int[]){ALL, REASON_ALL_LEN, REASON_ALL});
 }
 
 // Of the archive AFTER alone.
@@ -212,11 +236,14 @@ static void reason_rows(const Build *builds, int each, int rounds) {
             return;
         }
     }
-    printf("\n%-14s %-22s %9s %9s %9s  %5s %5s\n", "pair", "comparison", "compare", "length", "reason", "mean", "least");
-    for (int which = 0; pair(which); which++) {
-        lend_pair(&builds[0], which);
-        reason_row(pair(which), builds, each, rounds, (const int[]){TREE, REASON_LEN, REASON});
-        reason_row(pair(which), builds, each, rounds, (const int[]){ALL, REASON_ALL_LEN, REASON_ALL});
+    printf("\n%-14s %-14s %-18s %9s %9s %9s  %5s %5s\n", "first", "second", "comparison", "compare", "length", "reason", "mean", "least");
+    for (size_t which = 0; which < sizeof small / sizeof *small; which++) {
+        lend_small(&builds[0], (int)which);
+        reason_pair(small[which][0], small[which][1], builds, each, rounds);
+    }
+    for (size_t which = 0; which < sizeof large / sizeof *large; which++) {
+        lend_large(&builds[0], (int)which);
+        reason_pair(shape(large[which].shape), changes[large[which].change], builds, each, rounds);
     }
     printf("\n");
 }
@@ -232,7 +259,7 @@ int main(int count, char **given) {
     }
     if (last < STRICT) printf("one of the archives has no berzhotun_from_str_strict: strict reading is left out\n");
     printf("%-14s %-22s %9s %9s  %5s %5s\n", "tree", "what", "before", "after", "mean", "least");
-    for (int which = 0; shape(which); which++) {
+    for (int which = 0; which < SHAPES; which++) {
         uint64_t answer[3];
         read_into(&builds[0], words, names);
         memcpy(other_words, words, sizeof words);
