@@ -1,12 +1,13 @@
 -- Laws of putting text into a lent output.
 use Prim.Native.Nat.{ℕ, suc, _+_, _-_, min, _≤_, _<_}
 use native.Mathlib.Omega.{arith}
+use native.Mathlib.Numerals.{add-one}
 use mathlib.Core.Path.{_≡_, refl, ap, ap₂, sym, subst, _∙_}
 use mathlib.Core.Bool.{Bool, true, false}
 use mathlib.Core.List.{List, [], _∷_, _++_}
 use lib.Dec.{ltb}
 use lib.ListN.{length, take, drop, set, getD, length-set, length-append}
-use lib.Seq.{sets, length-sets, set-out}
+use lib.Seq.{sets, length-sets, set-out, set-comm}
 use borrow.Author.Tests.{ltb-true, ltb-false}
 use Rattle.kinds.proofs.ListLaws.{unread, unread-end}
 use Rattle.kinds.specs.Print.{decimal}
@@ -66,6 +67,37 @@ put-append {o} {m} {e} {a} {p} {r} xs ys v w =
 
 pub put-same : {o e : List ℕ} {a r : ℕ} {xs ys : List ℕ} → xs ≡ ys → Put o a xs e r → Put o a ys e r
 put-same {o} {e} {a} {r} q w = subst (λ (zs : List ℕ). Put o a zs e r) q w
+
+-- ---- Where there is room.
+
+pub put-one : (o : List ℕ) (a x : ℕ) → a < length o → Put o a (x ∷ []) (set o a x) (a + 1)
+put-one o a x h = record { place = omega arith; text = refl }
+
+pub put-pair : (o : List ℕ) (a x y : ℕ) → a + 2 ≤ length o → Put o a (x ∷ y ∷ []) (set (set o a x) (a + 1) y) (a + 2)
+put-pair o a x y h = record { place = omega arith; text = rw add-one }
+
+pub put-next : {o e xs : List ℕ} {a r : ℕ} → Put o a xs e r → a + length xs ≤ length o → r ≡ a + length xs
+put-next {o} {e} {xs} {a} {r} w h = let p = w .place in omega arith
+
+set-before : (o : List ℕ) (a x : ℕ) (b : ℕ) (ys : List ℕ) → a < b → set (sets o b ys) a x ≡ sets (set o a x) b ys
+set-before o a x b [] h = refl
+set-before o a x b (y ∷ ys) h =
+    set-before (set o b y) a x (suc b) ys (omega arith)
+    ∙ ap (λ (l : List ℕ). sets l (suc b) ys) (set-comm o b a y x (λ (e : b ≡ a). omega arith))
+
+-- The back may be written before the front.
+pub sets-back : (xs : List ℕ) (o : List ℕ) (a : ℕ) (ys : List ℕ) → sets (sets o (a + length xs) ys) a xs ≡ sets o a (xs ++ ys)
+sets-back [] o a ys = ap (λ (k : ℕ). sets o k ys) (none a)
+  where
+    none : (a : ℕ) → a + 0 ≡ a
+    none a = omega arith
+sets-back (x ∷ xs) o a ys =
+    ap (λ (l : List ℕ). sets l (suc a) xs) (set-before o a x (a + suc (length xs)) ys (omega arith))
+    ∙ ap (λ (k : ℕ). sets (sets (set o a x) k ys) (suc a) xs) (moved (length xs))
+    ∙ sets-back xs (set o a x) (suc a) ys
+  where
+    moved : (n : ℕ) → a + suc n ≡ suc a + n
+    moved n = omega arith
 
 -- With `rest` still to be put at `p`, the output becomes `all` put at `a`.
 abbrev pub ToPut : List ℕ → ℕ → List ℕ → List ℕ → ℕ → List ℕ → Type 0

@@ -1,3 +1,4 @@
--- What the calls answer; then what a function inside answers.
+-- What the calls answer; then what functions inside answer.
 pub mod Answer
 pub mod Steps
+pub mod Digits

@@ -8,8 +8,10 @@ ghost use Rattle.kinds.specs.Parse.{maxU64};
 ghost use Rattle.kinds.specs.Print.{decimal};
 ghost use Rattle.parser.specs.Place.{lent, remainingAt};
 ghost use Rattle.lines.specs.Answer.{until, frontOf, hexDigit, hexBytes, hexAnswer, hexGlyph, hexPair, grown, decimals, decimalsAnswer, Put, each, wordsText, sheetText, refusalText};
+ghost use Rattle.lines.specs.Digits.{inFours, inTwos, fourDigits, eightPacked, twoBytes, fourBytes, eightBytes};
 ghost use Rattle.lines.specs.Steps.{stepped, stepWords};
 use kinds::Refusal;
+use static_str::static_int_str_len;
 
 // How many items were read, or that the text is bad or the list too short.
 pub enum Decoded {
@@ -238,28 +240,138 @@ pub fn put_bytes(out: &mut [u8], at: usize, s: &[u8]) -> usize
     to
 }
 
-// Writes a number in decimal, four digits at a time; the next place.
+// A number as two numbers of four digits side by side in a word, 32 bits each.
+fn in_fours(n: u64) -> u64
+    requires { ⌜ n < 100000000 ⌝ }
+    ensures { λ r. ⌜ r ≡ inFours n ⌝ }
+{
+    n + n / 10000 * 4294957296
+}
+
+// A number as four numbers of two digits, 16 bits each: both halves are divided by 100 at once.
+fn in_twos(n: u64) -> u64
+    requires { ⌜ n < 100000000 ⌝ }
+    ensures { λ r. ⌜ r ≡ inTwos n ⌝ }
+{
+    let fours = in_fours(n);
+    let q = fours * 10486 / 1048576;
+    fours + (q % 128 + q / 4294967296 % 128 * 4294967296) * 65436
+}
+
+// The eight digits of a number, a byte each: all four pairs are divided by 10 at once.
+fn eight_digits(n: u64) -> u64
+    requires { ⌜ n < 100000000 ⌝ }
+    ensures { λ r. ⌜ r ≡ eightPacked n ⌝ }
+{
+    let twos = in_twos(n);
+    let q = twos * 103 / 1024;
+    let low = q % 16 + q / 65536 % 16 * 65536;
+    let high = q / 4294967296 % 16 * 4294967296 + q / 281474976710656 % 16 * 281474976710656;
+    twos + (low + high) * 246 + 3472328296227680304
+}
+
+// Stores the two last bytes of a word; the next place.
+fn put_two(out: &mut [u8], at: usize, w: u64) -> usize
+    requires { ⌜ at + 2 ≤ length (now out) ⌝ }
+    ensures { λ r. ⌜ Put (now (out .entry)) at (twoBytes w) (now (out .exit)) r ⌝ }
+{
+    out[at] = (w / 256 % 256) as u8;
+    out[at + 1] = (w % 256) as u8;
+    at + 2
+}
+
+// Stores the four last bytes of a word; the next place.
+fn put_four(out: &mut [u8], at: usize, w: u64) -> usize
+    requires { ⌜ at + 4 ≤ length (now out) ⌝ }
+    ensures { λ r. ⌜ Put (now (out .entry)) at (fourBytes w) (now (out .exit)) r ⌝ }
+{
+    let next = put_two(out, at, w / 65536);
+    put_two(out, next, w)
+}
+
+// Stores the eight bytes of a word; the next place.
+fn put_eight(out: &mut [u8], at: usize, w: u64) -> usize
+    requires { ⌜ at + 8 ≤ length (now out) ⌝ }
+    ensures { λ r. ⌜ Put (now (out .entry)) at (eightBytes w) (now (out .exit)) r ⌝ }
+{
+    let next = put_four(out, at, w / 4294967296);
+    put_four(out, next, w)
+}
+
+// Writes a number of at most four digits, which are the last bytes of `w`; the next place.
+fn put_short(out: &mut [u8], at: usize, n: u64, w: u64) -> usize
+    requires { ⌜ (n < 10000) × (fourBytes w ≡ fourDigits n) × (at + length (decimal n) ≤ length (now out)) ⌝ }
+    ensures { λ r. ⌜ Put (now (out .entry)) at (decimal n) (now (out .exit)) r ⌝ }
+{
+    if n < 10 {
+        out[at] = (w % 256) as u8;
+        return at + 1;
+    }
+    if n < 100 {
+        return put_two(out, at, w);
+    }
+    if n < 1000 {
+        out[at] = (w / 65536 % 256) as u8;
+        return put_two(out, at + 1, w);
+    }
+    put_four(out, at, w)
+}
+
+// Writes a number of at most eight digits; the next place.
+fn put_half(out: &mut [u8], at: usize, n: u64) -> usize
+    requires { ⌜ (n < 100000000) × (at + length (decimal n) ≤ length (now out)) ⌝ }
+    ensures { λ r. ⌜ Put (now (out .entry)) at (decimal n) (now (out .exit)) r ⌝ }
+{
+    let w = eight_digits(n);
+    if n < 10000 {
+        return put_short(out, at, n, w);
+    }
+    let next = put_short(out, at, n / 10000, w / 4294967296);
+    put_four(out, next, w)
+}
+
+// Writes a number of any length, which ends at `end`: the last eight digits first, as many times as there are eight.
+fn put_whole(out: &mut [u8], at: usize, end: usize, n: u64)
+    requires { ⌜ (at + length (decimal n) ≡ end) × (end ≤ length (now out)) ⌝ }
+    ensures { λ _. ⌜ now (out .exit) ≡ sets (now (out .entry)) at (decimal n) ⌝ }
+{
+    let mut rest = n;
+    let mut to = end;
+    while 100000000 <= rest {
+        to -= 8;
+        put_eight(out, to, eight_digits(rest % 100000000));
+        rest = rest / 100000000;
+    }
+    put_half(out, at, rest);
+}
+
+// Writes a number digit by digit, as many as there is room for; the next place.
+fn put_digits(out: &mut [u8], at: usize, n: u64) -> usize
+    ensures { λ r. ⌜ Put (now (out .entry)) at (decimal n) (now (out .exit)) r ⌝ }
+{
+    if n < 10 {
+        return put_byte(out, at, b'0' + n as u8);
+    }
+    let next = put_digits(out, at, n / 10);
+    put_byte(out, next, b'0' + (n % 10) as u8)
+}
+
+// Writes a number in decimal; the next place.
 pub fn put_number(out: &mut [u8], at: usize, n: u64) -> usize
     ensures { λ r. ⌜ Put (now (out .entry)) at (decimal n) (now (out .exit)) r ⌝ }
 {
     if n < 10 {
-        return put_byte(out, at, b'0' + (n as u8));
+        return put_byte(out, at, b'0' + n as u8);
     }
-    let ones = b'0' + (n % 10) as u8;
-    let tens = b'0' + (n / 10 % 10) as u8;
-    if n < 100 {
-        return put_bytes(out, at, &[tens, ones]);
+    if at <= out.len() {
+        let digits = static_int_str_len(n);
+        if digits <= out.len() - at {
+            let end = at + digits;
+            put_whole(out, at, end, n);
+            return end;
+        }
     }
-    let hundreds = b'0' + (n / 100 % 10) as u8;
-    if n < 1000 {
-        return put_bytes(out, at, &[hundreds, tens, ones]);
-    }
-    let thousands = b'0' + (n / 1000 % 10) as u8;
-    if n < 10000 {
-        return put_bytes(out, at, &[thousands, hundreds, tens, ones]);
-    }
-    let next = put_number(out, at, n / 10000);
-    put_bytes(out, next, &[thousands, hundreds, tens, ones])
+    put_digits(out, at, n)
 }
 
 // Writes a byte and a number; the next place.

@@ -1,22 +1,18 @@
 -- Laws of the counts of two nodes' items.
-use Prim.Native.Nat.{ℕ, zero, suc, _+_, _-_, _*_, _≤_, _<_}
+use Prim.Native.Nat.{ℕ, _+_, _-_}
 use native.Mathlib.Omega.{arith}
-use mathlib.Core.Path.{_≡_, refl, ap, ap₂, sym, _∙_, subst}
+use mathlib.Core.Path.{_≡_, refl, ap, ap₂, sym, _∙_}
 use mathlib.Core.List.{List, []}
 use mathlib.Core.Bool.{Bool, true, false, not, _&&_, _||_, false≢true}
 use borrow.Author.Tests.{ne-eqb, eq-eqb, eqb-true}
 use lib.Dec.{eqb}
 use Rattle.kinds.specs.Level.{showsFields}
-use Rattle.kinds.specs.Sheet as S
-use Rattle.kinds.specs.Sheet.{kindAt, firstAt, secondAt, countAt, labelAt, isContainerKind, read, trees}
+use Rattle.kinds.specs.Sheet.{kindAt, firstAt, secondAt, countAt, labelAt, isContainerKind, trees}
 use Rattle.kinds.specs.Tree.{Trees, isEnd, isContainer}
-use Rattle.kinds.specs.Walk.{NodeAt, TreesAt}
 use Rattle.kinds.specs.declared.NestingLevel.{NestingLevel}
 use Rattle.kinds.specs.declared.NestingLevel.the-variants.{Top, Within, Bottom}
-use Rattle.kinds.proofs.SheetLaws.{trees-step, eqb-same}
-use Rattle.kinds.proofs.NodeLaws.{first-some, first-within, first-node, other-trees, no-trees, some-trees, label-struct, label-union}
+use Rattle.kinds.proofs.NodeLaws.{no-trees, some-trees, label-struct, label-union}
 use Rattle.helper.specs.Measure.{shownCount}
-use Rattle.helper.proofs.CompareLaws.{Bounds}
 use Rattle.reason.specs.Reason.{items, itemsCompared}
 use Rattle.reason.specs.Spot.{below, itemsAt, CountsAre}
 use Rattle.reason.specs.declared.Counts.the-variants as C

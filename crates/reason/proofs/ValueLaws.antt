@@ -9,7 +9,8 @@ use types.Run.{OneOf}
 use denote.Enum.Declared.{tagOf}
 use Rattle.kinds.specs.Print.{decimal}
 use Rattle.kinds.specs.Sheet.{firstAt, secondAt, maxNames}
-use Rattle.kinds.proofs.DecimalLaws.{decimal-low, decimal-high}
+use Rattle.kinds.proofs.DecimalLaws.{decimal-low}
+use Rattle.static_str.proofs.NumberLaws.{decimal-two}
 use Rattle.reason.specs.Reason.{pathText, valueText, valuesText, differenceText, reasonText}
 use Rattle.reason.specs.Spot.{nameAt, wordOf, numberAt, valueAt, valueLength, differenceLength, differenceAt, NameWithin, NameShort, pathFrom, reasonAt}
 use Rattle.reason.specs.declared.Aspect.{Aspect}
@@ -21,13 +22,18 @@ unfolding valueText
 value-length s = let e = length-append (decimal (length s)) (58 ∷ s) in omega arith
 
 -- the pieces as they are written
-pub number-value : (n d : ℕ) → d ≡ length (decimal n) → (32 ∷ decimal d) ++ (58 ∷ decimal n) ≡ valueText (decimal n)
+number-value : (n d : ℕ) → d ≡ length (decimal n) → (32 ∷ decimal d) ++ (58 ∷ decimal n) ≡ valueText (decimal n)
 unfolding valueText
 number-value n d e = rw e
 
 -- of at most nine digits
 pub few-digits-value : (n d : ℕ) → d ≡ length (decimal n) → d < 10 → (32 ∷ (48 + d) ∷ 58 ∷ []) ++ decimal n ≡ valueText (decimal n)
 few-digits-value n d e h = ap (λ s. (32 ∷ s) ++ (58 ∷ decimal n)) (sym (decimal-low d h)) ∙ number-value n d e
+
+-- of ten and more
+pub many-digits-value : (n d : ℕ) → d ≡ length (decimal n) → 10 ≤ d → d < 100
+    → (32 ∷ (48 + d / 10 % 10) ∷ (48 + d % 10) ∷ 58 ∷ []) ++ decimal n ≡ valueText (decimal n)
+many-digits-value n d e lo hi = ap (λ s. (32 ∷ s) ++ (58 ∷ decimal n)) (sym (decimal-two d lo hi)) ∙ number-value n d e
 
 pub bytes-value : (s : List ℕ) → (32 ∷ decimal (length s)) ++ ((58 ∷ []) ++ s) ≡ valueText s
 unfolding valueText
@@ -155,17 +161,11 @@ module _ (a : Aspect) (an v : List ℕ) (at : ℕ) (bn w : List ℕ) (bt : ℕ) 
 
 -- ---- Numbers of one and of two digits.
 
-div-lt : (n : ℕ) → n < 100 → n / 10 < 10
-div-lt n h = omega arith
-
 pub value-one : (n : ℕ) → n < 10 → 32 ∷ 49 ∷ 58 ∷ (48 + n) ∷ [] ≡ valueText (decimal n)
-unfolding valueText
-value-one n h = sym (rw (decimal-low n h) (ap (λ s. 32 ∷ (s ++ (58 ∷ (48 + n) ∷ []))) (decimal-low 1 (omega arith))))
+value-one n h = ap (λ s. (32 ∷ 49 ∷ 58 ∷ []) ++ s) (sym (decimal-low n h)) ∙ few-digits-value n 1 (sym (ap length (decimal-low n h))) (omega arith)
 
-pub value-two : (n : ℕ) → 10 ≤ n → n < 100 → 32 ∷ 50 ∷ 58 ∷ (48 + n / 10) ∷ (48 + n % 10) ∷ [] ≡ valueText (decimal n)
-unfolding valueText
-value-two n lo hi =
-    sym (rw (decimal-high n lo, decimal-low (n / 10) (div-lt n hi)) (ap (λ s. 32 ∷ (s ++ (58 ∷ (48 + n / 10) ∷ (48 + n % 10) ∷ []))) (decimal-low 2 (omega arith))))
+pub value-two : (n : ℕ) → 10 ≤ n → n < 100 → 32 ∷ 50 ∷ 58 ∷ (48 + n / 10 % 10) ∷ (48 + n % 10) ∷ [] ≡ valueText (decimal n)
+value-two n lo hi = ap (λ s. (32 ∷ 50 ∷ 58 ∷ []) ++ s) (sym (decimal-two n lo hi)) ∙ few-digits-value n 2 (sym (ap length (decimal-two n lo hi))) (omega arith)
 
 pub one-value-length : (n : ℕ) → n < 10 → 4 ≡ length (valueText (decimal n))
 one-value-length n h = ap length (value-one n h)

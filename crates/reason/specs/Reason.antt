@@ -29,7 +29,7 @@ pub record Reason : Type 0 where
   pub path : List ℕ
   pub differs : Difference
 
--- What the values of a reason of two sheets are: kinds of the sheet's list, and names without a bad byte.
+-- What the values of a reason of two sheets are: kinds of the sheet's list, and good names.
 abbrev pub GoodValues : Difference → Type 0
 GoodValues (kind a b) = (a ≤ 31) × (b ≤ 31)
 GoodValues (size a b) = Unit {0}

@@ -1,4 +1,4 @@
--- What the walk finds: the place of the first node that differs, in the words of the first sheet from its first node on; and the path to it.
+-- What the walk finds: the places of the first nodes that differ, in the words of each sheet from its first node on, and their numbers; and the path to them.
 use Prim.Native.Nat.{ℕ, suc, _+_, _-_, _*_, _≤_, _<_}
 use mathlib.Core.Bool.{Bool, true, false, cond}
 use mathlib.Core.List.{List, [], _∷_}
@@ -194,7 +194,7 @@ pub record Towards (w : List ℕ) (parent x at i : ℕ) : Type 0 where
 unfoldable pub itemText : Bool → ℕ → List ℕ
 itemText first i = cond first (decimal i) (byte "." ∷ decimal i)
 
--- The most bytes of a path that are counted with, and of a value.
+-- More bytes than a path has, and than a value: bounds for the sums of the code, not reached.
 abbrev pub maxPathText : ℕ
 maxPathText = 200000
 

@@ -188,7 +188,7 @@ fn compare_counts(a: &[u64], at: usize, b: &[u64], bt: usize, level: NestingLeve
 }
 
 // The first difference of the trees of the `left` nodes from `at` on and those of the `more` nodes from `bt` on, up to where either ends. A node with
-// one child is followed by that child, and the last container by its fields, so only others need a call.
+// one child is followed by that child, and a container with nothing behind it by its fields, so only other containers need a call.
 fn first_difference(
     a: &[u64],
     an: &[u8],
@@ -395,7 +395,7 @@ fn put_number_value(out: &mut [u8], to: usize, n: u64) -> usize
         return put_bytes(out, to, &[b' ', b'1', b':', b'0' + n as u8]);
     }
     if n < 100 {
-        let tens = b'0' + (n / 10) as u8;
+        let tens = b'0' + (n / 10 % 10) as u8;
         let ones = b'0' + (n % 10) as u8;
         return put_bytes(out, to, &[b' ', b'2', b':', tens, ones]);
     }
@@ -404,8 +404,10 @@ fn put_number_value(out: &mut [u8], to: usize, n: u64) -> usize
         let from = put_bytes(out, to, &[b' ', b'0' + digits as u8, b':']);
         return put_number(out, from, n);
     }
-    let mark = put_marked(out, to, b' ', digits as u64);
-    put_marked(out, mark, b':', n)
+    let tens = b'0' + (digits / 10 % 10) as u8;
+    let ones = b'0' + (digits % 10) as u8;
+    let from = put_bytes(out, to, &[b' ', tens, ones, b':']);
+    put_number(out, from, n)
 }
 
 // Writes bytes as a value; the next place.
@@ -451,7 +453,7 @@ fn path_fits(nodes: &[u64], at: usize, rest: usize, room: usize) -> bool
     requires { ⌜ Inside (now nodes) at × (rest ≤ 7 + 2 * maxValueText) ⌝ }
     ensures { λ r. ⌜ r ≡ leb (length (pathText (pathFrom (now (nodes .entry)) 0 at)) + rest) room ⌝ }
 {
-    // a path has at most two bytes for each node before its last: only a short output is held against the path itself
+    // a path has at most two bytes for each node of the sheet before the one it leads to: only a short output is held against the path itself
     if at / 2 + rest <= room {
         return true;
     }

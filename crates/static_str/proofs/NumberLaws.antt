@@ -52,6 +52,24 @@ decimal-last-four n h =
     ∙ append-assoc (decimal (n / 100 / 100)) ((48 + n / 100 / 10 % 10) ∷ (48 + n / 100 % 10) ∷ []) ((48 + n / 10 % 10) ∷ (48 + n % 10) ∷ [])
     ∙ ap₂ (λ (m d : ℕ). decimal m ++ ((48 + d % 10) ∷ (48 + n / 100 % 10) ∷ (48 + n / 10 % 10) ∷ (48 + n % 10) ∷ [])) f e
 
+pub decimal-more-four : (n : ℕ) → 10000 ≤ n → length (decimal n) ≡ length (decimal (n / 10000)) + 4
+decimal-more-four n h = ap length (decimal-last-four n h) ∙ simp length-append
+
+pub decimal-more-eight : (n : ℕ) → 100000000 ≤ n → length (decimal n) ≡ length (decimal (n / 100000000)) + 8
+decimal-more-eight n h =
+    let e : n / 10000 / 10000 ≡ n / 100000000 = omega arith in
+    omega (arith, decimal-more-four n (omega arith), decimal-more-four (n / 10000) (omega arith), ap (λ (m : ℕ). length (decimal m)) e)
+
+pub decimal-more-twelve : (n : ℕ) → 1000000000000 ≤ n → length (decimal n) ≡ length (decimal (n / 1000000000000)) + 12
+decimal-more-twelve n h =
+    let e : n / 10000 / 100000000 ≡ n / 1000000000000 = omega arith in
+    omega (arith, decimal-more-four n (omega arith), decimal-more-eight (n / 10000) (omega arith), ap (λ (m : ℕ). length (decimal m)) e)
+
+pub decimal-more-sixteen : (n : ℕ) → 10000000000000000 ≤ n → length (decimal n) ≡ length (decimal (n / 10000000000000000)) + 16
+decimal-more-sixteen n h =
+    let e : n / 100000000 / 100000000 ≡ n / 10000000000000000 = omega arith in
+    omega (arith, decimal-more-eight n (omega arith), decimal-more-eight (n / 100000000) (omega arith), ap (λ (m : ℕ). length (decimal m)) e)
+
 digits-below : (k n : ℕ) → n < 10 ^ suc k → length (decimal n) ≤ suc k
 digits-below zero n h = let e = decimal-one n h in omega arith
 digits-below (suc k) n h = go (ltb n 10) refl (λ p. digits-below k (n / 10) p)

@@ -37,17 +37,40 @@ pub enum Printed {
     Bytes(usize),
 }
 
-// The count of decimal digits.
+// The count of decimal digits of a number below 10,000.
+fn short_len(n: u64) -> usize
+    requires { ⌜ n < 10000 ⌝ }
+    ensures { λ r. ⌜ (r ≡ length (decimal n)) × (r ≤ 4) ⌝ }
+{
+    if n < 10 {
+        return 1;
+    }
+    if n < 100 {
+        return 2;
+    }
+    if n < 1000 {
+        return 3;
+    }
+    4
+}
+
+// The count of decimal digits, by comparisons: divisions one after the other take longer than to write the digits.
 pub fn static_int_str_len(n: u64) -> usize
     ensures { λ r. ⌜ r ≡ length (decimal n) ⌝ }
 {
-    let mut rest = n;
-    let mut len = 1;
-    while 10 <= rest {
-        rest = rest / 10;
-        len += 1;
+    if n < 10000 {
+        return short_len(n);
     }
-    len
+    if n < 100000000 {
+        return 4 + short_len(n / 10000);
+    }
+    if n < 1000000000000 {
+        return 8 + short_len(n / 100000000);
+    }
+    if n < 10000000000000000 {
+        return 12 + short_len(n / 1000000000000);
+    }
+    16 + short_len(n / 10000000000000000)
 }
 
 // Writes one byte; the next place.

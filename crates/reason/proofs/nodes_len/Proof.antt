@@ -1,5 +1,4 @@
 use Prim.Native.Nat.{ℕ, _+_}
-use native.Mathlib.Omega.{arith}
 use mathlib.Core.Path.{ap, _∙_}
 use borrow.Author.Needs.{needs}
 use Rattle.reason.proofs.ReasonLaws.{yes-measured, bytes-measured, found-same, found-at, numbers-short, counted}

@@ -1,6 +1,8 @@
 use Rattle.lines.proofs.PutLaws.{put-same, put-append}
-use Rattle.reason.proofs.ValueLaws.{number-value, few-digits-value, value-one, value-two}
+use Rattle.reason.proofs.ValueLaws.{few-digits-value, many-digits-value, value-one, value-two}
+use native.Mathlib.Omega.{arith}
 use borrow.Author.Needs.{needs}
+use Rattle.static_str.proofs.NumberLaws.{decimal-fits}
 use Rattle.reason.proofs.put_number_value.Statement.{statement}
 use Rattle.reason.proofs.put_number_value.Tie as tie
 
@@ -32,7 +34,11 @@ returns-4 c =
     let c2 = c .before .before in
     let c6 = c2 .before .before .before .before in
     let c9 = c6 .before .before .before in
-    put-same (number-value _ _ (c9 .static-int-str-len .ensures)) (put-append _ _ (c6 .put-marked .ensures) (c2 .put-marked2 .ensures))
+    let c10 = c9 .before in
+    let c14 = c10 .before .before .before .before in
+    let d = c10 .static-int-str-len .ensures in
+    let f = decimal-fits (c14 .args .n) (omega arith) in
+    put-same (many-digits-value _ _ d (c9 .if3 .left) (omega arith)) (put-append _ _ (c6 .put-bytes4 .ensures) (c2 .put-number2 .ensures))
 
 pub put-number-value-spec : {M : Type 1} → statement M
 put-number-value-spec =
@@ -60,6 +66,11 @@ put-number-value-spec =
     (λ c κs. search needs)
     (λ c. search needs)
     returns-3
+    (λ c. search needs)
+    (λ c. search needs)
+    (λ c. search needs)
+    (λ c. search needs)
+    (λ c. search needs)
     (λ c κs. search needs)
     (λ c κs. search needs)
     (λ c. search needs)

@@ -1,34 +1,37 @@
 -- `static_str::static_int_str_len` meets its contract. Assumes nothing.
-use Prim.Native.Nat.{_+_, _≤_}
-use mathlib.Core.Path.{_≡_}
 use native.Mathlib.Omega.{arith}
-use lib.ListN.{length}
-use Rattle.kinds.specs.Print.{decimal}
-use Rattle.static_str.proofs.NumberLaws.{decimal-one, decimal-more}
+use borrow.Author.Needs.{needs}
+use Rattle.static_str.proofs.NumberLaws.{decimal-more-four, decimal-more-eight, decimal-more-twelve, decimal-more-sixteen}
 use Rattle.static_str.proofs.static_int_str_len.Statement.{statement}
 use Rattle.static_str.proofs.static_int_str_len.Tie as tie
 
-abbrev Inv-loop : tie.InvT-loop
-Inv-loop n rest₀ len₀ rest len = (len + rest ≤ n + 1) × (len + length (decimal rest) ≡ length (decimal n) + 1)
+returns-2 : tie.Need-returns-2
+returns-2 c = omega (arith, decimal-more-four _ (c .before .before .if1 .left))
 
-abbrev μ-loop : tie.MeasureT-loop
-μ-loop n rest₀ len₀ rest len = rest
+returns-3 : tie.Need-returns-3
+returns-3 c = omega (arith, decimal-more-eight _ (c .before .before .if2 .left))
 
-loop-holds : tie.Need-loop-holds Inv-loop μ-loop
-loop-holds c = omega arith
+returns-4 : tie.Need-returns-4
+returns-4 c = omega (arith, decimal-more-twelve _ (c .before .before .if3 .left))
 
-add-len : tie.Need-add-len Inv-loop μ-loop
-add-len c = omega arith
-
-loop-less : tie.Need-loop-less Inv-loop μ-loop
-loop-less c = omega arith
-
-loop-again : tie.Need-loop-again Inv-loop μ-loop
-loop-again c = omega (arith, decimal-more (c .before .loop .rest) (c .loop-test .taken))
-
-returns : tie.Need-returns Inv-loop μ-loop
-returns c = omega (arith, decimal-one (c .before .loop .rest) (c .loop-test .left))
+returns-5 : tie.Need-returns-5
+returns-5 c = omega (arith, decimal-more-sixteen _ (c .before .if4 .left))
 
 pub static-int-str-len-spec : {M : Type 1} → statement M
 static-int-str-len-spec =
-    tie.close (tie.spec Inv-loop μ-loop loop-holds add-len loop-less loop-again returns)
+    tie.close
+    (tie.spec
+    (λ c κs. search needs)
+    (λ c. search needs)
+    (λ c κs. search needs)
+    (λ c. search needs)
+    returns-2
+    (λ c κs. search needs)
+    (λ c. search needs)
+    returns-3
+    (λ c κs. search needs)
+    (λ c. search needs)
+    returns-4
+    (λ c κs. search needs)
+    (λ c. search needs)
+    returns-5)
