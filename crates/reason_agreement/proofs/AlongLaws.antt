@@ -13,7 +13,22 @@ use Rattle.kinds.specs.Tree.{Label, Trees, end, node, inside}
 use Rattle.kinds.specs.declared.NestingLevel.{NestingLevel}
 use Rattle.kinds.proofs.TableLaws.{both}
 use Rattle.reason.specs.Reason.{Difference, Reason, orElse, ownDifference, itemsCompared, countDifference, here, under, nodeDifference, itemsDifference, firstDifference}
-use Rattle.reason_agreement.specs.Along.{itemAt, before, differenceAlong}
+use Rattle.reason_agreement.specs.Along.{itemAt, follow, before, differenceAlong}
+
+-- ---- What a tree hands on to its children and to the trees beside it holds along a path.
+
+module _ (P : Trees → Type 0) (children : (l : Label) (cs ts : Trees) → P (node l cs ts) → P cs) (others : (l : Label) (cs ts : Trees) → P (node l cs ts) → P ts) where
+  pub item-keeps : (i : ℕ) (t : Trees) → P t → P (itemAt i t)
+  unfolding itemAt
+  item-keeps i end h = h
+  item-keeps zero (node l cs ts) h = h
+  item-keeps (suc i) (node l cs ts) h = item-keeps i ts (others l cs ts h)
+
+  pub follow-keeps : (p : List ℕ) (t : Trees) → P t → P (follow p t)
+  unfolding follow
+  follow-keeps [] t h = h
+  follow-keeps (i ∷ p) end h = h
+  follow-keeps (i ∷ p) (node l cs ts) h = follow-keeps p (itemAt i cs) (item-keeps i cs (children l cs ts h))
 
 -- ---- The parts of the definition.
 

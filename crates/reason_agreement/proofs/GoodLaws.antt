@@ -14,6 +14,7 @@ use Rattle.kinds.specs.declared.NestingLevel.{NestingLevel}
 use Rattle.kinds.proofs.TableLaws.{both}
 use Rattle.reason.specs.Reason.{Difference, kind, size, offset, length, name, count, Reason, GoodValues, firstDifference}
 use Rattle.reason_agreement.specs.Along.{itemAt, follow, NodesDiffer, Differ}
+use Rattle.reason_agreement.proofs.AlongLaws.{follow-keeps}
 use Rattle.reason_agreement.proofs.KindLaws.{valid-parts}
 use Rattle.reason_agreement.proofs.RightLaws.{follow-valid, found-right}
 
@@ -71,17 +72,8 @@ good-parts l cs ts h =
     let b = both (goodNames cs) (goodNames ts) (a .1) in
     record { label = a .0; children = b .0; others = b .1 }
 
-good-item : (i : ℕ) (t : Trees) → goodNames t ≡ true → goodNames (itemAt i t) ≡ true
-unfolding itemAt
-good-item i end h = h
-good-item zero (node l cs ts) h = h
-good-item (suc i) (node l cs ts) h = good-item i ts (good-parts l cs ts h .others)
-
 follow-good : (p : List ℕ) (t : Trees) → goodNames t ≡ true → goodNames (follow p t) ≡ true
-unfolding follow
-follow-good [] t h = h
-follow-good (i ∷ p) end h = h
-follow-good (i ∷ p) (node l cs ts) h = follow-good p (itemAt i cs) (good-item i cs (good-parts l cs ts h .children))
+follow-good = follow-keeps (λ t. goodNames t ≡ true) (λ l cs ts h. good-parts l cs ts h .children) (λ l cs ts h. good-parts l cs ts h .others)
 
 led : (p : List ℕ) (t : Trees) → valid t ≡ true → goodNames t ≡ true → (l : Label) (cs ts : Trees) → follow p t ≡ node l cs ts → Node l
 led p t a g l cs ts e = record {

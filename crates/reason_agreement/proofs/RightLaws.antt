@@ -17,7 +17,7 @@ use Rattle.kinds.specs.declared.NestingLevel.{NestingLevel}
 use Rattle.kinds.proofs.TableLaws.{both, same-bytes, same-bytes-refl}
 use Rattle.reason.specs.Reason.{Difference, kind, size, offset, length, name, count, orElse, unless, offsetOf, lengthOf, ownDifference, items, itemsCompared, countDifference, firstDifference}
 use Rattle.reason_agreement.specs.Along.{itemAt, follow, NodesDiffer, Differ}
-use Rattle.reason_agreement.proofs.AlongLaws.{reason, else-some, else-none, nodesOwn, at-root, below-root}
+use Rattle.reason_agreement.proofs.AlongLaws.{item-keeps, follow-keeps, reason, else-some, else-none, nodesOwn, at-root, below-root}
 use Rattle.reason_agreement.proofs.KindLaws.{kind-alone, equivalent-turned, with-offset, with-length, with-bits, with-name, labels-alike, ValidParts, valid-parts, same-items}
 
 unless-some : (b : Bool) (d : Difference) {e : Difference} → unless b d ≡ some e → (b ≡ false) × (d ≡ e)
@@ -219,16 +219,10 @@ module _ (l m : Label) (cs ds : Trees) (a : validLabel l ≡ true) (b : validLab
 -- ---- Along the path.
 
 valid-item : (i : ℕ) (t : Trees) → valid t ≡ true → valid (itemAt i t) ≡ true
-unfolding itemAt
-valid-item i end h = h
-valid-item zero (node l cs ts) h = h
-valid-item (suc i) (node l cs ts) h = valid-item i ts (valid-parts l cs ts h .others)
+valid-item = item-keeps (λ t. valid t ≡ true) (λ l cs ts h. valid-parts l cs ts h .children) (λ l cs ts h. valid-parts l cs ts h .others)
 
 pub follow-valid : (p : List ℕ) (t : Trees) → valid t ≡ true → valid (follow p t) ≡ true
-unfolding follow
-follow-valid [] t h = h
-follow-valid (i ∷ p) end h = h
-follow-valid (i ∷ p) (node l cs ts) h = follow-valid p (itemAt i cs) (valid-item i cs (valid-parts l cs ts h .children))
+follow-valid = follow-keeps (λ t. valid t ≡ true) (λ l cs ts h. valid-parts l cs ts h .children) (λ l cs ts h. valid-parts l cs ts h .others)
 
 root-right : (v : NestingLevel) (l m : Label) (cs ts ds us : Trees) {d : Difference} → valid (node l cs ts) ≡ true → valid (node m ds us) ≡ true
     → nodesOwn l m v cs ds ≡ some d → NodesDiffer d l cs m ds

@@ -1,4 +1,4 @@
--- Two texts and the reason of the trees that they are read as, as one table: the cases that come with request N4 and more where one rule meets another.
+-- Two texts and the reason of the trees that they are read as, as one table: the header's examples and more where one rule meets another.
 use Prim.Native.Nat.{ℕ}
 use mathlib.Core.Path.{_≡_}
 use mathlib.Core.Bool.{Bool, true, false}
@@ -41,7 +41,7 @@ same s t = (s, t, false, yes)
 abbrev pub differ : List ℕ → List ℕ → List ℕ → Case
 differ s t r = (s, t, false, no r)
 
--- The cases that come with the request.
+-- The header's examples.
 unfoldable pub named : List Case
 named =
     differ (bytes "i") (bytes "d") (bytes ":kind 1:2 2:11")
