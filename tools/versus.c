@@ -27,10 +27,10 @@ typedef struct {
 
 static const char *const whats[] = {"whole-text reading", "reading from the start", "tree against tree", "with all fields",
                                     "tree against text", "size", "length", "print", "strict reading", "signature"};
-enum { TREE = 2, ALL = 3, TEXT = 4, STRICT = 8, SIGNATURE = 9, REASON_LEN, REASON_ALL_LEN, REASON, REASON_ALL };
+enum { TREE = 2, ALL = 3, TEXT = 4, STRICT = 8, SIGNATURE = 9, REASON_LEN, REASON_ALL_LEN, REASON, REASON_ALL, EXACT, EXACT_ALL };
 
 static uint8_t text[BERZHOTUN_MAX_TEXT + 1], printed[BERZHOTUN_MAX_PRINT], output[BERZHOTUN_MAX_PRINT];
-static size_t text_len, printed_len;
+static size_t text_len, printed_len, reason_len; // of the reason that is timed in an output of just its length
 static uint64_t words[BERZHOTUN_MAX_WORDS], other_words[BERZHOTUN_MAX_WORDS];
 static uint8_t names[BERZHOTUN_MAX_NAMES], other_names[BERZHOTUN_MAX_NAMES];
 static uint64_t list[BERZHOTUN_MAX_SIGNATURE];
@@ -79,6 +79,8 @@ static uint64_t call(const Build *build, int what) {
     case REASON_ALL_LEN: return build->reason_all_len(SHEET, OTHER, answer) + answer[1];
     case REASON: return build->reason(SHEET, OTHER, output, sizeof output, answer) + answer[1];
     case REASON_ALL: return build->reason_all(SHEET, OTHER, output, sizeof output, answer) + answer[1];
+    case EXACT: return build->reason(SHEET, OTHER, output, reason_len, answer) + answer[1];
+    case EXACT_ALL: return build->reason_all(SHEET, OTHER, output, reason_len, answer) + answer[1];
     default: return build->signature(text, text_len, list, BERZHOTUN_MAX_SIGNATURE, answer) + answer[0];
     }
 }
@@ -102,7 +104,7 @@ static void summed(const double *times, int builds, double *mean, double *least)
 
 // The least time of each build for each of some calls, all in turn.
 static void timed(const Build *builds, int count, int rounds, const int *what, int kinds, double times[][MOST_BUILDS]) {
-    int calls[3];
+    int calls[4];
     for (int k = 0; k < kinds; k++) {
         for (calls[k] = 1; batch(&builds[0], what[k], calls[k]) < BATCH_NS;) calls[k] *= 2;
         for (int i = 0; i < count; i++) times[k][i] = 1e18;
@@ -173,10 +175,13 @@ static const char *signature(int which) {
     }
 }
 
-// The trees whose comparison is held against its reason: small ones, document 02's among them, by their texts.
+// The trees whose comparison is held against its reason: small ones, the header's examples among them, by their texts.
 static const char *const small[][2] = {{"i", "d"}, {"i", "^i"}, {"^i", "^d"}, {"b3", "b4"}, {"b0i3", "b1i3"}, {"[3c]", "[12c]"},
-                                       {"{R=i}", "{S=i}"}, {"{R=ii}", "{R=i}"}, {"{R=i^v}", "{R=i^i}"}, {"{R=i}", "{R=i}"}, {"[100c]", "[1000c]"}, {"[65536c]", "[99999c]"}, {"[1000000c]", "[10000000c]"},
-                                       {"[18446744073709551615c]", "[18446744073709551614c]"}};
+                                       {"{R=i}", "{S=i}"}, {"{R=ii}", "{R=i}"}, {"{R=i^v}", "{R=i^i}"}, {"{R=i}", "{R=i}"}};
+
+// Lengths of so many digits that differ in the last.
+enum { FEWEST_DIGITS = 3, MOST_DIGITS = 20 };
+static const char digits[] = "18446744073709551615";
 
 // Larger ones, by a shape and what is changed in it for the second.
 enum { LAST, FIRST, NAME, COUNT, NOTHING };
@@ -193,6 +198,17 @@ static void read_into(const Build *build, uint64_t *to_words, uint8_t *to_names)
 static void lend_small(const Build *build, int which) {
     text_len = 0, repeat(small[which][0], 1), read_into(build, words, names);
     text_len = 0, repeat(small[which][1], 1), read_into(build, other_words, other_names);
+}
+
+static const char *lend_digits(const Build *build, int count) {
+    static char label[16];
+    uint64_t answer[1];
+    text_len = (size_t)sprintf((char *)text, "[%.*sc]", count, digits);
+    read_into(build, words, names);
+    text[count] = text[count] == '4' ? '3' : '4';
+    read_into(build, other_words, other_names);
+    if (build->equivalent_to(SHEET, OTHER, answer) || answer[0]) fail("two lengths that do not differ");
+    return sprintf(label, "%d digits", count), label;
 }
 
 static void change(uint64_t *kind) {
@@ -215,17 +231,20 @@ static void lend_large(const Build *build, int which) {
     if (build->equivalent_to(SHEET, OTHER, answer) || answer[0] != (large[which].change == NOTHING)) fail("a pair that does not compare as it should");
 }
 
-// A comparison, the length of its reason and the reason, all of the same two trees, and the reason by the comparison.
-static void reason_row(const char *first, const char *second, const Build *builds, int each, int rounds, const int what[3]) {
-    double times[3][MOST_BUILDS], mean[3], least[3];
-    timed(builds, each, rounds, what, 3, times);
-    for (int k = 0; k < 3; k++) summed(times[k], each, &mean[k], &least[k]);
-    printf("%-14s %-14s %-18s %9.1f %9.1f %9.1f  %5.2f %5.2f\n", first, second, whats[what[0]], mean[0], mean[1], mean[2], mean[2] / mean[0], least[2] / least[0]);
+// A comparison, the length of its reason, the reason in a long output and in one of just its length, all of the same two trees; and
+// both reasons by the comparison.
+static void reason_row(const char *first, const char *second, const Build *builds, int each, int rounds, const int what[4]) {
+    double times[4][MOST_BUILDS], mean[4], least[4];
+    reason_len = call(&builds[0], what[1]);
+    timed(builds, each, rounds, what, 4, times);
+    for (int k = 0; k < 4; k++) summed(times[k], each, &mean[k], &least[k]);
+    printf("%-14s %-14s %-18s %9.1f %9.1f %9.1f %9.1f  %5.2f %5.2f  %5.2f %5.2f\n", first, second, whats[what[0]], mean[0], mean[1], mean[2], mean[3],
+           mean[2] / mean[0], least[2] / least[0], mean[3] / mean[0], least[3] / least[0]);
 }
 
 static void reason_pair(const char *first, const char *second, const Build *builds, int each, int rounds) {
-    reason_row(first, second, builds, each, rounds, (const int[]){TREE, REASON_LEN, REASON});
-    reason_row(first, second, builds, each, rounds, (const int[]){ALL, REASON_ALL_LEN, REASON_ALL});
+    reason_row(first, second, builds, each, rounds, (const int[]){TREE, REASON_LEN, REASON, EXACT});
+    reason_row(first, second, builds, each, rounds, (const int[]){ALL, REASON_ALL_LEN, REASON_ALL, EXACT_ALL});
 }
 
 // Of the archive AFTER alone.
@@ -236,11 +255,12 @@ static void reason_rows(const Build *builds, int each, int rounds) {
             return;
         }
     }
-    printf("\n%-14s %-14s %-18s %9s %9s %9s  %5s %5s\n", "first", "second", "comparison", "compare", "length", "reason", "mean", "least");
+    printf("\n%-14s %-14s %-18s %9s %9s %9s %9s  %5s %5s  %5s %5s\n", "first", "second", "comparison", "compare", "length", "reason", "exact", "mean", "least", "mean", "least");
     for (size_t which = 0; which < sizeof small / sizeof *small; which++) {
         lend_small(&builds[0], (int)which);
         reason_pair(small[which][0], small[which][1], builds, each, rounds);
     }
+    for (int count = FEWEST_DIGITS; count <= MOST_DIGITS; count++) reason_pair(lend_digits(&builds[0], count), changes[LAST], builds, each, rounds);
     for (size_t which = 0; which < sizeof large / sizeof *large; which++) {
         lend_large(&builds[0], (int)which);
         reason_pair(shape(large[which].shape), changes[large[which].change], builds, each, rounds);
