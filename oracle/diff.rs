@@ -12,6 +12,7 @@
 //!     diff strict SEED COUNT    random, well-formed and spoilt texts with surplus zeros: strict reading
 //!     diff short-reasons LENGTH  every pair of readable texts up to that length: the reason for a no
 //!     diff reasons SEED COUNT   related pairs of trees: the reason for a no
+//!     diff number-reasons SEED COUNT  numbers of every count of digits: the reason for a no
 //!     diff all SEED COUNT       each of these, with lengths 3 and 4
 //!     diff stack KIBIBYTES      the deepest trees, texts and signatures on a stack of that size
 //!     diff bench                times, as ratios to the crate's
@@ -40,10 +41,11 @@ pub fn run() -> i32 {
         (Some("strict"), Some(&[seed, count])) => strict(seed, count),
         (Some("short-reasons"), Some(&[length])) => short_reasons(length as usize),
         (Some("reasons"), Some(&[seed, count])) => reasons(seed, count),
+        (Some("number-reasons"), Some(&[seed, count])) => number_reasons(seed, count),
         (Some("stack"), Some(&[kibibytes])) => stack::run(kibibytes as usize),
         (Some("bench"), Some(&[])) => bench::run(),
         _ => {
-            eprintln!("usage: diff trees|sheets|reads|texts|signatures|strict|reasons|all SEED COUNT");
+            eprintln!("usage: diff trees|sheets|reads|texts|signatures|strict|reasons|number-reasons|all SEED COUNT");
             eprintln!("       diff short|match|short-signatures|short-strict|short-reasons LENGTH");
             eprintln!("       diff stack KIBIBYTES, diff bench");
             return 2;
@@ -66,6 +68,7 @@ fn all(seed: u64, count: u64) -> bool {
     same &= strict(seed, count);
     same &= short_reasons(4);
     same &= reasons(seed, count);
+    same &= number_reasons(seed, count);
     same
 }
 
@@ -128,4 +131,9 @@ fn short_reasons(length: usize) -> bool {
 fn reasons(seed: u64, count: u64) -> bool {
     let mut check = run_reasons::Check::new();
     run_all("reasons", run_reasons::inputs(seed, count), |case, tally| check.case(case, tally))
+}
+
+fn number_reasons(seed: u64, count: u64) -> bool {
+    let mut check = run_reasons::Check::new();
+    run_all("number-reasons", run_reasons::number_inputs(seed, count), |case, tally| check.case(case, tally))
 }

@@ -10,8 +10,9 @@ use crate::plain;
 use crate::random::Random;
 use crate::reason::Finder;
 use crate::report::{expect, refusal_name, Case, Difference, Lent, Tally};
+use crate::sheet::{ARRAY, TYPED_BITFIELD};
 use crate::texts;
-use crate::trees::{Arena, Tree};
+use crate::trees::{Arena, Node, Tree};
 
 /// The most bytes of a reason, and bytes that are looked at beyond what was lent.
 const MOST: usize = 8016;
@@ -57,6 +58,26 @@ fn pair(random: &mut Random) -> Case {
     let extra = random.next();
     let (a, b) = if random.percent(50) { (a, b) } else { (b, a) };
     Case { a, b, text: String::new(), extra }
+}
+
+/// Lengths of arrays and offsets of bitfields, of any two counts of digits.
+pub fn number_inputs(seed: u64, count: u64) -> impl Iterator<Item = Case> {
+    let mut random = Random::new(seed);
+    (0..count).map(move |_| {
+        let kind = random.pick(&[ARRAY, TYPED_BITFIELD]);
+        let (a, b) = (numbered(&mut random, kind), numbered(&mut random, kind));
+        Case { a, b, text: String::new(), extra: random.next() }
+    })
+}
+
+fn numbered(random: &mut Random, kind: u64) -> Tree {
+    let least = 10u64.pow(random.below(20) as u32);
+    let number = match random.below(4) {
+        0 => least - random.below(2) as u64,
+        _ => least + random.next() % least.saturating_mul(9).min(u64::MAX - least),
+    };
+    let nodes = vec![Node { kind, first: number, second: 0, count: 2 }, Node { kind: 0, first: 0, second: 0, count: 1 }];
+    Tree { nodes, names: Vec::new() }
 }
 
 type Measure = fn(Sheet, Sheet) -> Reply;

@@ -2,14 +2,14 @@
 use Prim.Native.Nat.{ℕ, _+_, _-_, _*_, _/_, _%_, _≤_, _<_}
 use native.Mathlib.Omega.{arith}
 use native.Mathlib.Nat.{mod-eq-of-lt}
-use mathlib.Core.Path.{_≡_, refl, ap, ap₂, sym, _∙_}
+use mathlib.Core.Path.{_≡_, ap, ap₂, sym, _∙_}
 use mathlib.Core.List.{List, [], _∷_, _++_, append-assoc}
 use lib.ListN.{length}
-use lib.Seq.{sets}
 use Rattle.kinds.specs.Print.{decimal}
 use Rattle.kinds.proofs.DecimalLaws.{decimal-low}
 use Rattle.static_str.proofs.NumberLaws.{decimal-two, decimal-three, decimal-four, decimal-last-four, decimal-more-eight}
-use Rattle.lines.proofs.PutLaws.{sets-back}
+use Rattle.lines.proofs.PutLaws.{put-next, put-append, put-same}
+use Rattle.lines.specs.Answer.{Put}
 use Rattle.lines.specs.Digits.{inFours, inTwos, fourDigits, fourPacked, eightPacked, twoBytes, fourBytes, eightBytes}
 
 -- ---- Two numbers below 10,000 in a word, divided by 100 at once: 10486 / 1048576 is a little more than a hundredth.
@@ -25,9 +25,6 @@ low-hundreds q hi h = omega arith
 
 high-hundreds : (q hi : ℕ) → q < 100 → hi < 10000 → (q + 42950656 * hi) / 4294967296 ≡ hi / 100
 high-hundreds q hi h k = omega arith
-
-small : (m x : ℕ) → x < m → x % m ≡ x
-small m x h = mod-eq-of-lt h
 
 -- a word of two halves with their hundreds put apart
 apart : (x lo hi q r : ℕ) → x ≡ lo + 4294967296 * hi
@@ -70,7 +67,7 @@ twos-are n x h e = rw (q, r) (apart x lo hi (lo / 100) (hi / 100) e ∙ sums)
     q = ap (λ (y : ℕ). y % 128) p ∙ low-hundreds (lo / 100) hi (few .1 .0)
 
     r : x * 10486 / 1048576 / 4294967296 % 128 ≡ hi / 100
-    r = ap (λ (y : ℕ). y / 4294967296 % 128) p ∙ ap (λ (y : ℕ). y % 128) (high-hundreds (lo / 100) hi (few .1 .0) (few .0)) ∙ small 128 (hi / 100) (few .1 .1)
+    r = ap (λ (y : ℕ). y / 4294967296 % 128) p ∙ ap (λ (y : ℕ). y % 128) (high-hundreds (lo / 100) hi (few .1 .0) (few .0)) ∙ mod-eq-of-lt (few .1 .1)
 
     sums : lo + 65436 * (lo / 100) + 4294967296 * (hi + 65436 * (hi / 100)) ≡ inTwos n
     sums = rw (low-half n, high-half n) (grouped (n % 100) (n / 100 % 100) (n / 10000 % 100) (n / 1000000))
@@ -84,6 +81,9 @@ tens-product a b c d = omega arith
 tenth : (x : ℕ) → x < 100 → x * 103 / 1024 ≡ x / 10
 tenth x h = omega arith
 
+low-16 : (x y : ℕ) → x < 16 → (x + 16 * y) % 16 ≡ x
+low-16 x y h = omega arith
+
 module _ (q b c d : ℕ) (l : q < 10) (m : b < 100) (n : c < 100) where
   tens-0 : (q + 6592 * b + 432013312 * c + 28312424415232 * d) % 16 ≡ q
   tens-0 = omega arith
@@ -91,23 +91,17 @@ module _ (q b c d : ℕ) (l : q < 10) (m : b < 100) (n : c < 100) where
   tens-1 : (q + 6592 * b + 432013312 * c + 28312424415232 * d) / 65536 % 16 ≡ b / 10
   tens-1 =
       let e : (q + 6592 * b + 432013312 * c + 28312424415232 * d) / 65536 ≡ b / 10 + 16 * (412 * c + 27000832 * d) = omega arith in
-      ap (λ (y : ℕ). y % 16) e ∙ low16 (b / 10) (412 * c + 27000832 * d) (omega arith)
-    where
-      low16 : (x y : ℕ) → x < 16 → (x + 16 * y) % 16 ≡ x
-      low16 x y h = omega arith
+      ap (λ (y : ℕ). y % 16) e ∙ low-16 (b / 10) (412 * c + 27000832 * d) (omega arith)
 
   tens-2 : (q + 6592 * b + 432013312 * c + 28312424415232 * d) / 4294967296 % 16 ≡ c / 10
   tens-2 =
       let e : (q + 6592 * b + 432013312 * c + 28312424415232 * d) / 4294967296 ≡ c / 10 + 16 * (412 * d) = omega arith in
-      ap (λ (y : ℕ). y % 16) e ∙ low16 (c / 10) (412 * d) (omega arith)
-    where
-      low16 : (x y : ℕ) → x < 16 → (x + 16 * y) % 16 ≡ x
-      low16 x y h = omega arith
+      ap (λ (y : ℕ). y % 16) e ∙ low-16 (c / 10) (412 * d) (omega arith)
 
   tens-3 : d < 100 → (q + 6592 * b + 432013312 * c + 28312424415232 * d) / 281474976710656 % 16 ≡ d / 10
   tens-3 o =
       let e : (q + 6592 * b + 432013312 * c + 28312424415232 * d) / 281474976710656 ≡ d / 10 = omega arith in
-      ap (λ (y : ℕ). y % 16) e ∙ small 16 (d / 10) (omega arith)
+      ap (λ (y : ℕ). y % 16) e ∙ mod-eq-of-lt (omega arith)
 
 -- a word of four pairs with their tens put apart, and made digits
 packs : (x a b c d p q r s i j k l : ℕ) → x ≡ a + 65536 * b + 4294967296 * c + 281474976710656 * d → a ≡ 10 * p + i → b ≡ 10 * q + j → c ≡ 10 * r + k
@@ -227,7 +221,8 @@ unfolding eightPacked fourPacked fourDigits
 high-digits n =
     let m : ℕ = n / 10000 in
     let e : eightPacked n / 4294967296 ≡ fourPacked m + 4294967296 * 0 = omega arith in
-    ap fourBytes e ∙ four-bytes (48 + m % 10) (48 + m / 10 % 10) (48 + m / 100 % 10) (48 + m / 1000 % 10) 0 (omega arith) (omega arith) (omega arith) (omega arith)
+    ap fourBytes e ∙ four-bytes (48 + m % 10) (48 + m / 10 % 10) (48 + m / 100 % 10) (48 + m / 1000 % 10) 0 (omega arith) (omega arith) (omega arith)
+    (omega arith)
 
 -- ---- Digits that are bytes of a word, written.
 
@@ -271,7 +266,7 @@ same-high n = rw (thousands, hundreds, tens, ones)
     ones : n % 100000000 / 10000 % 10 ≡ n / 10000 % 10
     ones = omega arith
 
-pub last-eight : (n w : ℕ) → 100000000 ≤ n → w ≡ eightPacked (n % 100000000) → decimal (n / 100000000) ++ eightBytes w ≡ decimal n
+last-eight : (n w : ℕ) → 100000000 ≤ n → w ≡ eightPacked (n % 100000000) → decimal (n / 100000000) ++ eightBytes w ≡ decimal n
 unfolding eightBytes
 last-eight n w h e =
     let m : ℕ = n % 100000000 in
@@ -283,15 +278,13 @@ last-eight n w h e =
     ∙ ap (λ s. s ++ fourDigits n) (ap (λ (x : ℕ). decimal x ++ fourDigits (n / 10000)) (sym f) ∙ sym (last-four (n / 10000) (omega arith)))
     ∙ sym (last-four n (omega arith))
 
--- The last eight digits stand at their places: what is left to write makes the whole.
-pub eight-written : (o m : List ℕ) (a e n w : ℕ) → 100000000 ≤ n → w ≡ eightPacked (n % 100000000) → a + length (decimal n) ≡ e → m ≡ sets o (e - 8) (eightBytes w)
-    → sets m a (decimal (n / 100000000)) ≡ sets o a (decimal n)
-eight-written o m a e n w h q p t =
-    let l = decimal-more-eight n h in
-    let k : e - 8 ≡ a + length (decimal (n / 100000000)) = omega arith in
-    ap (λ (x : List ℕ). sets x a (decimal (n / 100000000))) (t ∙ ap (λ (j : ℕ). sets o j (eightBytes w)) k)
-    ∙ sets-back (decimal (n / 100000000)) o a (eightBytes w)
-    ∙ ap (sets o a) (last-eight n w h q)
+-- Eight digits behind others.
+module _ {o m : List ℕ} {a p : ℕ} (n : ℕ) (h : 100000000 ≤ n) (f : Put o a (decimal (n / 100000000)) m p) where
+  pub eight-room : a + length (decimal n) ≤ length o → length m ≡ length o → p + 8 ≤ length m
+  eight-room k l = let d = decimal-more-eight n h in let q = put-next f (omega arith) in omega arith
+
+  pub eight-put : {e : List ℕ} {r : ℕ} (w : ℕ) → w ≡ eightPacked (n % 100000000) → Put m p (eightBytes w) e r → Put o a (decimal n) e r
+  eight-put w q g = put-same (last-eight n w h q) (put-append _ _ f g)
 
 -- A number of at most four digits.
 module _ (n w : ℕ) (e : fourBytes w ≡ fourDigits n) where

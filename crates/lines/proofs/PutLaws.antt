@@ -7,7 +7,7 @@ use mathlib.Core.Bool.{Bool, true, false}
 use mathlib.Core.List.{List, [], _∷_, _++_}
 use lib.Dec.{ltb}
 use lib.ListN.{length, take, drop, set, getD, length-set, length-append}
-use lib.Seq.{sets, length-sets, set-out, set-comm}
+use lib.Seq.{sets, length-sets, set-out}
 use borrow.Author.Tests.{ltb-true, ltb-false}
 use Rattle.kinds.proofs.ListLaws.{unread, unread-end}
 use Rattle.kinds.specs.Print.{decimal}
@@ -79,25 +79,24 @@ put-pair o a x y h = record { place = omega arith; text = rw add-one }
 pub put-next : {o e xs : List ℕ} {a r : ℕ} → Put o a xs e r → a + length xs ≤ length o → r ≡ a + length xs
 put-next {o} {e} {xs} {a} {r} w h = let p = w .place in omega arith
 
-set-before : (o : List ℕ) (a x : ℕ) (b : ℕ) (ys : List ℕ) → a < b → set (sets o b ys) a x ≡ sets (set o a x) b ys
-set-before o a x b [] h = refl
-set-before o a x b (y ∷ ys) h =
-    set-before (set o b y) a x (suc b) ys (omega arith)
-    ∙ ap (λ (l : List ℕ). sets l (suc b) ys) (set-comm o b a y x (λ (e : b ≡ a). omega arith))
+-- Bytes copied one after the other: what is left to copy makes the whole.
+module _ (o s : List ℕ) (a : ℕ) where
+  pub copied-none : sets o (a + 0) (drop 0 s) ≡ sets o a s
+  copied-none = ap (λ (k : ℕ). sets o k s) (here a)
+    where
+      here : (a : ℕ) → a + 0 ≡ a
+      here a = omega arith
 
--- The back may be written before the front.
-pub sets-back : (xs : List ℕ) (o : List ℕ) (a : ℕ) (ys : List ℕ) → sets (sets o (a + length xs) ys) a xs ≡ sets o a (xs ++ ys)
-sets-back [] o a ys = ap (λ (k : ℕ). sets o k ys) (none a)
-  where
-    none : (a : ℕ) → a + 0 ≡ a
-    none a = omega arith
-sets-back (x ∷ xs) o a ys =
-    ap (λ (l : List ℕ). sets l (suc a) xs) (set-before o a x (a + suc (length xs)) ys (omega arith))
-    ∙ ap (λ (k : ℕ). sets (sets (set o a x) k ys) (suc a) xs) (moved (length xs))
-    ∙ sets-back xs (set o a x) (suc a) ys
-  where
-    moved : (n : ℕ) → a + suc n ≡ suc a + n
-    moved n = omega arith
+  pub copied-more : (m : List ℕ) (i : ℕ) → i < length s → sets m (a + i) (drop i s) ≡ sets o a s
+      → sets (set m (a + i) (getD s i 0)) (a + (i + 1)) (drop (i + 1) s) ≡ sets o a s
+  copied-more m i h e =
+      ap (λ (k : ℕ). sets (set m (a + i) (getD s i 0)) k (drop (i + 1) s)) (next a i) ∙ sym (ap (sets m (a + i)) (unread s i h)) ∙ e
+    where
+      next : (a i : ℕ) → a + (i + 1) ≡ suc (a + i)
+      next a i = omega arith
+
+  pub copied-all : (m : List ℕ) (i : ℕ) → length s ≤ i → sets m (a + i) (drop i s) ≡ sets o a s → m ≡ sets o a s
+  copied-all m i h e = sym (ap (sets m (a + i)) (unread-end s i h)) ∙ e
 
 -- With `rest` still to be put at `p`, the output becomes `all` put at `a`.
 abbrev pub ToPut : List ℕ → ℕ → List ℕ → List ℕ → ℕ → List ℕ → Type 0

@@ -2,6 +2,7 @@
 ghost use mathlib.Core.Path.{_≡_};
 ghost use Prim.Native.Nat.{_+_, _≤_, _<_};
 ghost use mathlib.Core.List.{[], _∷_};
+ghost use lib.Dec.{leb};
 ghost use lib.ListN.{length, take, set, getD};
 ghost use lib.Seq.{sets};
 ghost use Rattle.kinds.specs.Parse.{maxU64};
@@ -227,8 +228,20 @@ pub fn decode_words(list: &[u8], words: &mut [u64]) -> Decoded
     Decoded::Items(n + 1)
 }
 
-// Writes bytes, as many as there is room for; the next place.
-pub fn put_bytes(out: &mut [u8], at: usize, s: &[u8]) -> usize
+// Copies bytes to where there is room for all of them.
+fn copy_bytes(out: &mut [u8], at: usize, s: &[u8])
+    requires { ⌜ at + length (now s) ≤ length (now out) ⌝ }
+    ensures { λ _. ⌜ now (out .exit) ≡ sets (now (out .entry)) at (now (s .entry)) ⌝ }
+{
+    let mut i = 0;
+    while i < s.len() {
+        out[at + i] = s[i];
+        i += 1;
+    }
+}
+
+// Writes bytes one by one, as many as there is room for; the next place.
+fn put_front(out: &mut [u8], at: usize, s: &[u8]) -> usize
     ensures { λ r. ⌜ Put (now (out .entry)) at (now (s .entry)) (now (out .exit)) r ⌝ }
 {
     let mut i = 0;
@@ -240,30 +253,46 @@ pub fn put_bytes(out: &mut [u8], at: usize, s: &[u8]) -> usize
     to
 }
 
-// A number as two numbers of four digits side by side in a word, 32 bits each.
+// Writes bytes, as many as there is room for; the next place.
+pub fn put_bytes(out: &mut [u8], at: usize, s: &[u8]) -> usize
+    ensures { λ r. ⌜ Put (now (out .entry)) at (now (s .entry)) (now (out .exit)) r ⌝ }
+{
+    if at <= out.len() {
+        if s.len() <= out.len() - at {
+            copy_bytes(out, at, s);
+            return at + s.len();
+        }
+    }
+    put_front(out, at, s)
+}
+
+// A number of at most eight digits as two of four, side by side in a word, 32 bits each.
 fn in_fours(n: u64) -> u64
     requires { ⌜ n < 100000000 ⌝ }
     ensures { λ r. ⌜ r ≡ inFours n ⌝ }
 {
+    // the upper half goes from 10,000 times to 2^32 times
     n + n / 10000 * 4294957296
 }
 
-// A number as four numbers of two digits, 16 bits each: both halves are divided by 100 at once.
+// The same as four numbers of two digits, 16 bits each: both halves are divided by 100 at once.
 fn in_twos(n: u64) -> u64
     requires { ⌜ n < 100000000 ⌝ }
     ensures { λ r. ⌜ r ≡ inTwos n ⌝ }
 {
     let fours = in_fours(n);
+    // 10486 / 2^20 is a little more than a hundredth, too little to matter below 10,000
     let q = fours * 10486 / 1048576;
     fours + (q % 128 + q / 4294967296 % 128 * 4294967296) * 65436
 }
 
-// The eight digits of a number, a byte each: all four pairs are divided by 10 at once.
+// The same as eight digits, a byte each, the last one lowest: all four pairs are divided by 10 at once.
 fn eight_digits(n: u64) -> u64
     requires { ⌜ n < 100000000 ⌝ }
     ensures { λ r. ⌜ r ≡ eightPacked n ⌝ }
 {
     let twos = in_twos(n);
+    // 103 / 2^10 is a little more than a tenth, too little to matter below 100
     let q = twos * 103 / 1024;
     let low = q % 16 + q / 65536 % 16 * 65536;
     let high = q / 4294967296 % 16 * 4294967296 + q / 281474976710656 % 16 * 281474976710656;
@@ -330,19 +359,38 @@ fn put_half(out: &mut [u8], at: usize, n: u64) -> usize
     put_four(out, next, w)
 }
 
-// Writes a number of any length, which ends at `end`: the last eight digits first, as many times as there are eight.
-fn put_whole(out: &mut [u8], at: usize, end: usize, n: u64)
-    requires { ⌜ (at + length (decimal n) ≡ end) × (end ≤ length (now out)) ⌝ }
-    ensures { λ _. ⌜ now (out .exit) ≡ sets (now (out .entry)) at (decimal n) ⌝ }
+// Writes a number of at most sixteen digits; the next place.
+fn put_high(out: &mut [u8], at: usize, n: u64) -> usize
+    requires { ⌜ (n < 10000000000000000) × (at + length (decimal n) ≤ length (now out)) ⌝ }
+    ensures { λ r. ⌜ Put (now (out .entry)) at (decimal n) (now (out .exit)) r ⌝ }
 {
-    let mut rest = n;
-    let mut to = end;
-    while 100000000 <= rest {
-        to -= 8;
-        put_eight(out, to, eight_digits(rest % 100000000));
-        rest = rest / 100000000;
+    if n < 100000000 {
+        return put_half(out, at, n);
     }
-    put_half(out, at, rest);
+    let next = put_half(out, at, n / 100000000);
+    put_eight(out, next, eight_digits(n % 100000000))
+}
+
+// Writes a number of any length; the next place. One function that calls itself would do for this and the one above, and is slower.
+fn put_whole(out: &mut [u8], at: usize, n: u64) -> usize
+    requires { ⌜ at + length (decimal n) ≤ length (now out) ⌝ }
+    ensures { λ r. ⌜ Put (now (out .entry)) at (decimal n) (now (out .exit)) r ⌝ }
+{
+    if n < 100000000 {
+        return put_half(out, at, n);
+    }
+    let next = put_high(out, at, n / 100000000);
+    put_eight(out, next, eight_digits(n % 100000000))
+}
+
+// Whether a number has at most `room` digits; none has more than 20.
+fn number_fits(n: u64, room: usize) -> bool
+    ensures { λ r. ⌜ r ≡ leb (length (decimal n)) room ⌝ }
+{
+    if 20 <= room {
+        return true;
+    }
+    static_int_str_len(n) <= room
 }
 
 // Writes a number digit by digit, as many as there is room for; the next place.
@@ -364,11 +412,8 @@ pub fn put_number(out: &mut [u8], at: usize, n: u64) -> usize
         return put_byte(out, at, b'0' + n as u8);
     }
     if at <= out.len() {
-        let digits = static_int_str_len(n);
-        if digits <= out.len() - at {
-            let end = at + digits;
-            put_whole(out, at, end, n);
-            return end;
+        if number_fits(n, out.len() - at) {
+            return put_whole(out, at, n);
         }
     }
     put_digits(out, at, n)

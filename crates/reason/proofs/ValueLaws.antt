@@ -10,7 +10,7 @@ use denote.Enum.Declared.{tagOf}
 use Rattle.kinds.specs.Print.{decimal}
 use Rattle.kinds.specs.Sheet.{firstAt, secondAt, maxNames}
 use Rattle.kinds.proofs.DecimalLaws.{decimal-low}
-use Rattle.static_str.proofs.NumberLaws.{decimal-two}
+use Rattle.static_str.proofs.NumberLaws.{decimal-two, decimal-fits, digits-below}
 use Rattle.reason.specs.Reason.{pathText, valueText, valuesText, differenceText, reasonText}
 use Rattle.reason.specs.Spot.{nameAt, wordOf, numberAt, valueAt, valueLength, differenceLength, differenceAt, NameWithin, NameShort, pathFrom, reasonAt}
 use Rattle.reason.specs.declared.Aspect.{Aspect}
@@ -129,6 +129,33 @@ length-of-value names w at A.Offset h = refl
 length-of-value names w at A.Length h = refl
 length-of-value names w at A.Name h = name-value-length names w at refl h
 length-of-value names w at A.Count h = refl
+
+-- ---- The most bytes of what follows the path.
+
+number-most : (n : ℕ) → length (decimal n) ≤ 20 → length (valueText (decimal n)) ≤ 24
+number-most n h = omega (arith, value-length (decimal n), digits-below 1 (length (decimal n)) (omega arith))
+
+word-short : (a : Aspect) → length (wordOf a) ≤ 6
+unfolding wordOf
+word-short A.Kind = omega arith
+word-short A.Size = omega arith
+word-short A.Offset = omega arith
+word-short A.Length = omega arith
+word-short A.Name = omega arith
+word-short A.Count = omega arith
+
+pub numbers-most : (a : Aspect) (k j : ℕ) → OtherTag a → k < 18446744073709551616 → j < 18446744073709551616 → differenceLength a k j ≤ 55
+unfolding differenceLength
+numbers-most a k j h p q =
+    omega
+    (arith, word-short a, number-most k (decimal-fits k p), number-most j (decimal-fits j q), length-of-number k a h, length-of-number j a h)
+
+pub names-most : (k j : ℕ) {a : Aspect} → a ≡ A.Name → NameShort a k → NameShort a j → differenceLength a k j ≤ 17 + k + j
+unfolding differenceLength valueLength wordOf
+names-most k j e p q = subst (λ (b : Aspect). differenceLength b k j ≤ 17 + k + j) (sym e) (named (name-short k e p) (name-short j e q))
+  where
+    named : k ≤ maxNames → j ≤ maxNames → differenceLength A.Name k j ≤ 17 + k + j
+    named h i = omega (arith, digits-below 3 k (omega arith), digits-below 3 j (omega arith))
 
 -- ---- The reason that two nodes differ in an aspect, in the pieces that are written.
 

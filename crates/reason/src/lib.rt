@@ -448,16 +448,27 @@ fn difference_len(aspect: Aspect, k: u64, j: u64) -> usize
     1 + word_len(aspect) + value_len(aspect, k) + value_len(aspect, j)
 }
 
-// Whether the path to the node at `at` and `rest` bytes more fit into `room` bytes.
-fn path_fits(nodes: &[u64], at: usize, rest: usize, room: usize) -> bool
-    requires { ⌜ Inside (now nodes) at × (rest ≤ 7 + 2 * maxValueText) ⌝ }
-    ensures { λ r. ⌜ r ≡ leb (length (pathText (pathFrom (now (nodes .entry)) 0 at)) + rest) room ⌝ }
+// At least the length of what follows the path: a number as a value has at most 24 bytes, and a name's length at most four digits.
+fn most_len(aspect: Aspect, k: u64, j: u64) -> usize
+    requires { ⌜ NameShort aspect k × NameShort aspect j ⌝ }
+    ensures { λ r. ⌜ (differenceLength aspect k j ≤ r) × (r ≤ 7 + 2 * maxValueText) ⌝ }
 {
-    // a path has at most two bytes for each node of the sheet before the one it leads to: only a short output is held against the path itself
-    if at / 2 + rest <= room {
+    if let Aspect::Name = aspect {
+        return 17 + k as usize + j as usize;
+    }
+    55
+}
+
+// Whether the reason that the node at `at` and another, with the numbers `k` and `j`, differ in an aspect fits into `room` bytes.
+fn reason_fits(nodes: &[u64], at: usize, aspect: Aspect, k: u64, j: u64, room: usize) -> bool
+    requires { ⌜ Inside (now nodes) at × NameShort aspect k × NameShort aspect j ⌝ }
+    ensures { λ r. ⌜ r ≡ leb (length (pathText (pathFrom (now (nodes .entry)) 0 at)) + differenceLength aspect k j) room ⌝ }
+{
+    // a path has at most two bytes for each node of the sheet before the one it leads to: only a short output is held against the length itself
+    if at / 2 + most_len(aspect, k, j) <= room {
         return true;
     }
-    path_len(nodes, at) + rest <= room
+    path_len(nodes, at) + difference_len(aspect, k, j) <= room
 }
 
 // Writes the reason that two nodes with the numbers `k` and `j` differ in an aspect; the next place.
@@ -516,7 +527,7 @@ fn write_nodes(
     match first_difference(a, an, 0, n, b, bn, 0, m, NestingLevel::new(), all) {
         Found::Same => Reasoned::Yes,
         Found::At(x, y, aspect, k, j) => {
-            if !path_fits(a, x, difference_len(aspect, k, j), out.len()) {
+            if !reason_fits(a, x, aspect, k, j, out.len()) {
                 return Reasoned::Refused(Refusal::OutputTooShort);
             }
             Reasoned::Bytes(put_reason(out, a, an, x, b, bn, y, aspect, k, j))

@@ -1,15 +1,15 @@
 -- How long a reason can be, by the nodes and name bytes of the two trees.
-use Prim.Native.Nat.{ℕ, zero, suc, _+_, _*_, _/_, _≤_, _<_}
+use Prim.Native.Nat.{ℕ, zero, suc, _+_, _*_, _≤_, _<_}
 use native.Mathlib.Omega.{arith}
 use mathlib.Core.Path.{_≡_, refl, sym, ap, _∙_}
 use mathlib.Core.Bool.{Bool, true, false, cond, true≢false}
 use mathlib.Core.List.{List, [], _∷_, _++_}
 use mathlib.Core.Logic.{_⊎_, inl, inr}
 use mathlib.Core.Option.{Option, some, none}
-use lib.Dec.{leb, ltb}
+use lib.Dec.{leb}
 use lib.ListN as N
 use lib.ListN.{length-append}
-use borrow.Author.Tests.{ltb-true, ltb-false, leb-true}
+use borrow.Author.Tests.{ltb-true, leb-true}
 use Rattle.kinds.specs.Byte.{byte, bytes}
 use Rattle.kinds.specs.Compare.{bits}
 use Rattle.kinds.specs.Parse.{maxU64, maxU8}
@@ -25,7 +25,7 @@ use Rattle.kinds.specs.declared.Refusal.{Refusal}
 use Rattle.kinds.specs.declared.Refusal.the-variants as R
 use Rattle.kinds.proofs.TableLaws.{both}
 use Rattle.sheet.specs.Answer.{Held, refused, holding, held, paired, heldBoth, ofHeldBoth, ofSheets}
-use Rattle.static_str.proofs.NumberLaws.{decimal-one, decimal-more, decimal-few, decimal-fits}
+use Rattle.static_str.proofs.NumberLaws.{digits-below, decimal-few, decimal-fits}
 use Rattle.reason.specs.Answer.{measured, reasonLen, reasonAnswer}
 use Rattle.reason.specs.Reason.{Difference, kind, size, offset, length, name, count, Reason, offsetOf, lengthOf, items, firstDifference, dotted, pathText, valueText, valuesText, differenceText, reasonText}
 use Rattle.reason.specs.declared.Reasoned.{Reasoned}
@@ -40,26 +40,6 @@ use Rattle.reason_agreement.proofs.RightLaws.{follow-valid, found-right
 
 -- ---- Numbers.
 
--- One digit more for ten times as many.
-one-more : (k c n : ℕ) → ((m : ℕ) → m < k → N.length (decimal m) ≤ c) → 1 ≤ c → n < k * 10 → N.length (decimal n) ≤ c + 1
-one-more k c n h p l = go (ltb n 10) refl
-  where
-    go : (t : Bool) → ltb n 10 ≡ t → N.length (decimal n) ≤ c + 1
-    go true e = omega (arith, decimal-one n (ltb-true n 10 e))
-    go false e = omega (arith, decimal-more n (ltb-false n 10 e), h (n / 10) (omega arith))
-
-one-digit : (n : ℕ) → n < 10 → N.length (decimal n) ≤ 1
-one-digit n h = omega (arith, decimal-one n h)
-
-two-digits : (n : ℕ) → n < 100 → N.length (decimal n) ≤ 2
-two-digits n h = one-more 10 1 n one-digit (omega arith) (omega arith)
-
-three-digits : (n : ℕ) → n < 1000 → N.length (decimal n) ≤ 3
-three-digits n h = one-more 100 2 n two-digits (omega arith) (omega arith)
-
-four-digits : (n : ℕ) → n < 10000 → N.length (decimal n) ≤ 4
-four-digits n h = one-more 1000 3 n three-digits (omega arith) (omega arith)
-
 number-digits : (n : ℕ) → n ≤ maxU64 → N.length (decimal n) ≤ 20
 number-digits n h = decimal-fits n (low h)
   where
@@ -70,7 +50,7 @@ number-digits n h = decimal-fits n (low h)
 
 value-length : (s : List ℕ) → N.length s ≤ maxNames → N.length (valueText s) ≤ N.length s + 6
 unfolding valueText
-value-length s h = omega (arith, length-append (decimal (N.length s)) (byte ":" ∷ s), four-digits (N.length s) (omega arith))
+value-length s h = omega (arith, length-append (decimal (N.length s)) (byte ":" ∷ s), digits-below 3 (N.length s) (omega arith))
 
 -- The most bytes of what follows the colon.
 abbrev mostValues : ℕ

@@ -1,9 +1,9 @@
 -- The values of a reason: kinds of the sheet's list, and names of both trees.
-use Prim.Native.Nat.{ℕ, zero, suc, _≤_}
+use Prim.Native.Nat.{ℕ, _≤_}
 use native.Mathlib.Omega.{arith}
 use mathlib.Core.Path.{_≡_, refl, subst}
 use mathlib.Core.Bool.{Bool, true, false≢true}
-use mathlib.Core.List.{List, [], _∷_}
+use mathlib.Core.List.{List}
 use mathlib.Core.Option.{some}
 use borrow.Author.Tests.{ltb-true}
 use Rattle.kinds.specs.Name.{verifyName}
@@ -13,7 +13,7 @@ use Rattle.kinds.specs.Tree.{Label, Trees, end, node, primitive, bitField, type
 use Rattle.kinds.specs.declared.NestingLevel.{NestingLevel}
 use Rattle.kinds.proofs.TableLaws.{both}
 use Rattle.reason.specs.Reason.{Difference, kind, size, offset, length, name, count, Reason, GoodValues, firstDifference}
-use Rattle.reason_agreement.specs.Along.{itemAt, follow, NodesDiffer, Differ}
+use Rattle.reason_agreement.specs.Along.{follow, NodesDiffer, Differ}
 use Rattle.reason_agreement.proofs.AlongLaws.{follow-keeps}
 use Rattle.reason_agreement.proofs.KindLaws.{valid-parts}
 use Rattle.reason_agreement.proofs.RightLaws.{follow-valid, found-right}

@@ -70,7 +70,8 @@ decimal-more-sixteen n h =
     let e : n / 100000000 / 100000000 ≡ n / 10000000000000000 = omega arith in
     omega (arith, decimal-more-eight n (omega arith), decimal-more-eight (n / 100000000) (omega arith), ap (λ (m : ℕ). length (decimal m)) e)
 
-digits-below : (k n : ℕ) → n < 10 ^ suc k → length (decimal n) ≤ suc k
+-- at most as many digits as the power of ten that it is below has zeros
+pub digits-below : (k n : ℕ) → n < 10 ^ suc k → length (decimal n) ≤ suc k
 digits-below zero n h = let e = decimal-one n h in omega arith
 digits-below (suc k) n h = go (ltb n 10) refl (λ p. digits-below k (n / 10) p)
   where

@@ -4,7 +4,7 @@ use mathlib.Core.Path.{ap, _∙_}
 use native.Mathlib.Omega.{arith}
 use borrow.Author.Needs.{needs}
 use Rattle.static_str.proofs.NumberLaws.{decimal-more-four}
-use Rattle.lines.specs.Digits.{fourBytes, twoBytes}
+use Rattle.lines.specs.Digits.{fourBytes}
 use Rattle.lines.proofs.PutLaws.{put-next, put-append, put-same}
 use Rattle.lines.proofs.DigitLaws.{low-digits, high-digits, half-digits}
 use Rattle.lines.proofs.put_half.Statement.{statement}

@@ -1,6 +1,11 @@
 -- `lines::put_number` meets its contract. Assumes nothing.
-use mathlib.Core.Path.{sym}
+use Prim.Native.Nat.{_-_}
+use mathlib.Core.Path.{sym, _∙_}
+use native.Mathlib.Omega.{arith}
 use borrow.Author.Needs.{needs}
+use borrow.Author.Tests.{leb-true}
+use lib.ListN.{length}
+use Rattle.kinds.specs.Print.{decimal}
 use Rattle.kinds.proofs.DecimalLaws.{decimal-low}
 use Rattle.lines.proofs.PutLaws.{put-same}
 use Rattle.lines.proofs.put_number.Statement.{statement}
@@ -12,6 +17,13 @@ returns c =
     let c4 = c2 .before .before in
     put-same (sym (decimal-low _ (c4 .if1 .taken))) (c2 .put-byte .ensures)
 
+put-whole-requires : tie.Need-put-whole-requires
+put-whole-requires c κs =
+    let c2 = c .before .before in
+    let c6 = c2 .before .before .before .before in
+    let f = leb-true (length (decimal (c6 .args .n))) (length (c6 .args .out .now) - c6 .args .at) (sym (c2 .number-fits .ensures) ∙ c .before .if3 .taken)
+    in omega arith
+
 pub put-number-spec : {M : Type 1} → statement M
 put-number-spec =
     tie.close
@@ -21,10 +33,9 @@ put-number-spec =
     (λ c κs. search needs)
     (λ c. search needs)
     returns
-    (λ c κs. search needs)
-    (λ c. search needs)
     (λ c. search needs)
     (λ c κs. search needs)
+    put-whole-requires
     (λ c. search needs)
     (λ c. search needs)
     (λ c κs. search needs)

@@ -1,4 +1,4 @@
-use mathlib.Core.Path.{sym, _∙_}
+use mathlib.Core.Path.{refl, sym, _∙_}
 use borrow.Author.Tests.{leb-true, leb-false, not-true, not-false}
 use borrow.Author.Needs.{needs}
 use Rattle.reason.proofs.ReasonLaws.{yes-fitted, yes-placed, short-fitted, short-placed, bytes-placed, put-fitted}
@@ -6,42 +6,32 @@ use Rattle.reason.proofs.ReasonLaws.{found-same, found-at, numbers-shor
 use Rattle.reason.proofs.write_nodes.Statement.{statement}
 use Rattle.reason.proofs.write_nodes.Tie as tie
 
-difference-len-requires : tie.Need-difference-len-requires
-difference-len-requires c κs =
+reason-fits-requires : tie.Need-reason-fits-requires
+reason-fits-requires c κs =
     let c3 = c .before .before .before in
     let c4 = c3 .before in
     let c10 = c4 .before .before .before .before .before .before in
     let d = found-at (c10 .args .all) _ (c4 .new .ensures) _ _ _ _ _ _ (c10 .pre .0) (c10 .pre .1) (c3 .first-difference .ensures) (c .before .x .given .1) in
-    numbers-short d
-
-path-fits-requires : tie.Need-path-fits-requires
-path-fits-requires c κs =
-    let c2 = c .before .before in
-    let c4 = c2 .before .before in
-    let c5 = c4 .before in
-    let c11 = c5 .before .before .before .before .before .before in
-    let d = found-at (c11 .args .all) _ (c5 .new .ensures) _ _ _ _ _ _ (c11 .pre .0) (c11 .pre .1) (c4 .first-difference .ensures) (c2 .x .given .1) in
-    (d .places .0, c .difference-len .ensures .1)
+    let n = numbers-short d in
+    (d .places .0, n .0, n .1)
 
 returns : tie.Need-returns
 returns c =
-    let c2 = c .before .before in
-    let c4 = c2 .before .before in
+    let c3 = c .before .before .before in
+    let c5 = c3 .before .before in
+    let c6 = c5 .before in
+    let c12 = c6 .before .before .before .before .before .before in
+    let d = found-at (c12 .args .all) _ (c6 .new .ensures) _ _ _ _ _ _ (c12 .pre .0) (c12 .pre .1) (c5 .first-difference .ensures) (c3 .x .given .1) in
+    let w = leb-false _ _ (sym (c .before .reason-fits .ensures) ∙ not-true _ (c .if1 .taken)) in
+    (short-fitted _ (d .reason) (counted d refl) (c12 .args .out .now) w, short-placed _ (d .reason) (counted d refl) (c12 .args .out .now) w)
+
+put-reason-requires : tie.Need-put-reason-requires
+put-reason-requires c κs =
+    let c4 = c .before .before .before .before in
     let c6 = c4 .before .before in
     let c7 = c6 .before in
     let c13 = c7 .before .before .before .before .before .before in
     let d = found-at (c13 .args .all) _ (c7 .new .ensures) _ _ _ _ _ _ (c13 .pre .0) (c13 .pre .1) (c6 .first-difference .ensures) (c4 .x .given .1) in
-    let l = counted d (c2 .difference-len .ensures .0) in
-    let w = leb-false _ _ (sym (c .before .path-fits .ensures) ∙ not-true _ (c .if1 .taken)) in
-    (short-fitted _ (d .reason) l (c13 .args .out .now) w, short-placed _ (d .reason) l (c13 .args .out .now) w)
-
-put-reason-requires : tie.Need-put-reason-requires
-put-reason-requires c κs =
-    let c5 = c .before .before .before .before .before in
-    let c7 = c5 .before .before in
-    let c8 = c7 .before in
-    let c14 = c8 .before .before .before .before .before .before in
-    let d = found-at (c14 .args .all) _ (c8 .new .ensures) _ _ _ _ _ _ (c14 .pre .0) (c14 .pre .1) (c7 .first-difference .ensures) (c5 .x .given .1) in
     (d .places, (d .lent, d .numbers))
 
 returns-2 : tie.Need-returns-2
@@ -57,16 +47,14 @@ returns-3 c =
     let c2 = c .before .before in
     let c4 = c2 .before .before in
     let c5 = c4 .before in
-    let c6 = c5 .before in
-    let c8 = c6 .before .before in
-    let c10 = c8 .before .before in
-    let c11 = c10 .before in
-    let c17 = c11 .before .before .before .before .before .before in
-    let d = found-at (c17 .args .all) _ (c11 .new .ensures) _ _ _ _ _ _ (c17 .pre .0) (c17 .pre .1) (c10 .first-difference .ensures) (c8 .x .given .1) in
-    let l = counted d (c6 .difference-len .ensures .0) in
-    let w = leb-true _ _ (sym (c5 .path-fits .ensures) ∙ not-false _ (c4 .if1 .left)) in
+    let c7 = c5 .before .before in
+    let c9 = c7 .before .before in
+    let c10 = c9 .before in
+    let c16 = c10 .before .before .before .before .before .before in
+    let d = found-at (c16 .args .all) _ (c10 .new .ensures) _ _ _ _ _ _ (c16 .pre .0) (c16 .pre .1) (c9 .first-difference .ensures) (c7 .x .given .1) in
+    let w = leb-true _ _ (sym (c5 .reason-fits .ensures) ∙ not-false _ (c4 .if1 .left)) in
     let p = c2 .put-reason .ensures in
-    (put-fitted _ (d .reason) l (c17 .args .out .now) w p, bytes-placed _ (d .reason) l (c17 .args .out .now) w p)
+    (put-fitted _ (d .reason) (counted d refl) (c16 .args .out .now) w p, bytes-placed _ (d .reason) (counted d refl) (c16 .args .out .now) w p)
 
 pub write-nodes-spec : {M : Type 1} → statement M
 write-nodes-spec =
@@ -76,8 +64,7 @@ write-nodes-spec =
     (λ c κs. search needs)
     (λ c. search needs)
     (λ c. search needs)
-    difference-len-requires
-    path-fits-requires
+    reason-fits-requires
     returns
     put-reason-requires
     returns-2

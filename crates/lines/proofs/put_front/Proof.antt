@@ -1,4 +1,4 @@
--- `lines::put_bytes` meets its contract. Assumes nothing.
+-- `lines::put_front` meets its contract. Assumes nothing.
 use Prim.Native.Nat.{_+_, _-_, _≤_}
 use mathlib.Core.Path.{_≡_, refl, _∙_}
 use mathlib.Core.List.{[], _∷_}
@@ -7,8 +7,8 @@ use borrow.Author.Needs.{needs}
 use lib.ListN.{length, drop, getD}
 use Rattle.lines.proofs.PutLaws.{ToPut, to-put, then-put, all-put}
 use Rattle.kinds.proofs.ListLaws.{unread, unread-end}
-use Rattle.lines.proofs.put_bytes.Statement.{statement}
-use Rattle.lines.proofs.put_bytes.Tie as tie
+use Rattle.lines.proofs.put_front.Statement.{statement}
+use Rattle.lines.proofs.put_front.Tie as tie
 
 abbrev Inv-loop : tie.InvT-loop
 Inv-loop out₀ at s i₀ to₀ out i to = ToPut out₀ at s out to (drop i s) × (length out ≡ length out₀) × (i ≤ length s)
@@ -49,8 +49,8 @@ returns c =
     let c4 = c .before .before .before .before in
     all-put (unread-end (c4 .args .s .now) (c .before .loop .i) (c .loop-test .left)) (c .before .loop .inv .0)
 
-pub put-bytes-spec : {M : Type 1} → statement M
-put-bytes-spec =
+pub put-front-spec : {M : Type 1} → statement M
+put-front-spec =
     tie.close
     (tie.spec
     Inv-loop
