@@ -72,8 +72,9 @@ pub fn number_inputs(seed: u64, count: u64) -> impl Iterator<Item = Case> {
 
 fn numbered(random: &mut Random, kind: u64) -> Tree {
     let least = 10u64.pow(random.below(20) as u32);
-    let number = match random.below(4) {
+    let number = match random.below(8) {
         0 => least - random.below(2) as u64,
+        1 => u64::MAX - random.below(2) as u64,
         _ => least + random.next() % least.saturating_mul(9).min(u64::MAX - least),
     };
     let nodes = vec![Node { kind, first: number, second: 0, count: 2 }, Node { kind: 0, first: 0, second: 0, count: 1 }];

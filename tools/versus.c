@@ -30,7 +30,8 @@ static const char *const whats[] = {"whole-text reading", "reading from the star
 enum { TREE = 2, ALL = 3, TEXT = 4, STRICT = 8, SIGNATURE = 9, REASON_LEN, REASON_ALL_LEN, REASON, REASON_ALL, EXACT, EXACT_ALL };
 
 static uint8_t text[BERZHOTUN_MAX_TEXT + 1], printed[BERZHOTUN_MAX_PRINT], output[BERZHOTUN_MAX_PRINT];
-static size_t text_len, printed_len, reason_len; // of the reason that is timed in an output of just its length
+static size_t text_len, printed_len;
+static size_t reason_len; // of the reason that is timed in an output of just its length
 static uint64_t words[BERZHOTUN_MAX_WORDS], other_words[BERZHOTUN_MAX_WORDS];
 static uint8_t names[BERZHOTUN_MAX_NAMES], other_names[BERZHOTUN_MAX_NAMES];
 static uint64_t list[BERZHOTUN_MAX_SIGNATURE];

@@ -21,7 +21,7 @@ fourPacked n = (byte "0" + n % 10) + 256 * (byte "0" + n / 10 % 10) + 65536 * (b
 unfoldable pub eightPacked : ℕ → ℕ
 eightPacked n = fourPacked n + 4294967296 * fourPacked (n / 10000)
 
--- The last bytes of a word, the lowest last.
+-- The two, four and eight lowest bytes of a word, the highest of them first.
 unfoldable pub twoBytes : ℕ → List ℕ
 twoBytes w = (w / 256 % 256) ∷ (w % 256) ∷ []
 

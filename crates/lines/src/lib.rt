@@ -286,7 +286,7 @@ fn in_twos(n: u64) -> u64
     fours + (q % 128 + q / 4294967296 % 128 * 4294967296) * 65436
 }
 
-// The same as eight digits, a byte each, the last one lowest: all four pairs are divided by 10 at once.
+// The same as eight digits, a byte each, the last digit lowest: all four pairs are divided by 10 at once.
 fn eight_digits(n: u64) -> u64
     requires { ⌜ n < 100000000 ⌝ }
     ensures { λ r. ⌜ r ≡ eightPacked n ⌝ }
@@ -299,7 +299,7 @@ fn eight_digits(n: u64) -> u64
     twos + (low + high) * 246 + 3472328296227680304
 }
 
-// Stores the two last bytes of a word; the next place.
+// Stores the two lowest bytes of a word, the higher one first; the next place.
 fn put_two(out: &mut [u8], at: usize, w: u64) -> usize
     requires { ⌜ at + 2 ≤ length (now out) ⌝ }
     ensures { λ r. ⌜ Put (now (out .entry)) at (twoBytes w) (now (out .exit)) r ⌝ }
@@ -309,7 +309,7 @@ fn put_two(out: &mut [u8], at: usize, w: u64) -> usize
     at + 2
 }
 
-// Stores the four last bytes of a word; the next place.
+// Stores the four lowest bytes of a word, the highest of them first; the next place.
 fn put_four(out: &mut [u8], at: usize, w: u64) -> usize
     requires { ⌜ at + 4 ≤ length (now out) ⌝ }
     ensures { λ r. ⌜ Put (now (out .entry)) at (fourBytes w) (now (out .exit)) r ⌝ }
@@ -318,7 +318,7 @@ fn put_four(out: &mut [u8], at: usize, w: u64) -> usize
     put_two(out, next, w)
 }
 
-// Stores the eight bytes of a word; the next place.
+// Stores the eight bytes of a word, the highest first; the next place.
 fn put_eight(out: &mut [u8], at: usize, w: u64) -> usize
     requires { ⌜ at + 8 ≤ length (now out) ⌝ }
     ensures { λ r. ⌜ Put (now (out .entry)) at (eightBytes w) (now (out .exit)) r ⌝ }
@@ -327,8 +327,8 @@ fn put_eight(out: &mut [u8], at: usize, w: u64) -> usize
     put_four(out, next, w)
 }
 
-// Writes a number of at most four digits, which are the last bytes of `w`; the next place.
-fn put_short(out: &mut [u8], at: usize, n: u64, w: u64) -> usize
+// Writes a number of at most four digits, which, with zeros in front, are the four lowest bytes of `w`; the next place.
+fn put_up_to_four(out: &mut [u8], at: usize, n: u64, w: u64) -> usize
     requires { ⌜ (n < 10000) × (fourBytes w ≡ fourDigits n) × (at + length (decimal n) ≤ length (now out)) ⌝ }
     ensures { λ r. ⌜ Put (now (out .entry)) at (decimal n) (now (out .exit)) r ⌝ }
 {
@@ -347,39 +347,39 @@ fn put_short(out: &mut [u8], at: usize, n: u64, w: u64) -> usize
 }
 
 // Writes a number of at most eight digits; the next place.
-fn put_half(out: &mut [u8], at: usize, n: u64) -> usize
+fn put_up_to_eight(out: &mut [u8], at: usize, n: u64) -> usize
     requires { ⌜ (n < 100000000) × (at + length (decimal n) ≤ length (now out)) ⌝ }
     ensures { λ r. ⌜ Put (now (out .entry)) at (decimal n) (now (out .exit)) r ⌝ }
 {
     let w = eight_digits(n);
     if n < 10000 {
-        return put_short(out, at, n, w);
+        return put_up_to_four(out, at, n, w);
     }
-    let next = put_short(out, at, n / 10000, w / 4294967296);
+    let next = put_up_to_four(out, at, n / 10000, w / 4294967296);
     put_four(out, next, w)
 }
 
 // Writes a number of at most sixteen digits; the next place.
-fn put_high(out: &mut [u8], at: usize, n: u64) -> usize
+fn put_up_to_sixteen(out: &mut [u8], at: usize, n: u64) -> usize
     requires { ⌜ (n < 10000000000000000) × (at + length (decimal n) ≤ length (now out)) ⌝ }
     ensures { λ r. ⌜ Put (now (out .entry)) at (decimal n) (now (out .exit)) r ⌝ }
 {
     if n < 100000000 {
-        return put_half(out, at, n);
+        return put_up_to_eight(out, at, n);
     }
-    let next = put_half(out, at, n / 100000000);
+    let next = put_up_to_eight(out, at, n / 100000000);
     put_eight(out, next, eight_digits(n % 100000000))
 }
 
 // Writes a number of any length; the next place. One function that calls itself would do for this and the one above, and is slower.
-fn put_whole(out: &mut [u8], at: usize, n: u64) -> usize
+fn put_any(out: &mut [u8], at: usize, n: u64) -> usize
     requires { ⌜ at + length (decimal n) ≤ length (now out) ⌝ }
     ensures { λ r. ⌜ Put (now (out .entry)) at (decimal n) (now (out .exit)) r ⌝ }
 {
     if n < 100000000 {
-        return put_half(out, at, n);
+        return put_up_to_eight(out, at, n);
     }
-    let next = put_high(out, at, n / 100000000);
+    let next = put_up_to_sixteen(out, at, n / 100000000);
     put_eight(out, next, eight_digits(n % 100000000))
 }
 
@@ -413,7 +413,7 @@ pub fn put_number(out: &mut [u8], at: usize, n: u64) -> usize
     }
     if at <= out.len() {
         if number_fits(n, out.len() - at) {
-            return put_whole(out, at, n);
+            return put_any(out, at, n);
         }
     }
     put_digits(out, at, n)

@@ -21,16 +21,16 @@ pub value-length : (s : List ℕ) → length (valueText s) ≡ 2 + length (decim
 unfolding valueText
 value-length s = let e = length-append (decimal (length s)) (58 ∷ s) in omega arith
 
--- the pieces as they are written
+-- a number as a value: its head and its digits
 number-value : (n d : ℕ) → d ≡ length (decimal n) → (32 ∷ decimal d) ++ (58 ∷ decimal n) ≡ valueText (decimal n)
 unfolding valueText
 number-value n d e = rw e
 
--- of at most nine digits
+-- the pieces as they are written, of at most nine digits
 pub few-digits-value : (n d : ℕ) → d ≡ length (decimal n) → d < 10 → (32 ∷ (48 + d) ∷ 58 ∷ []) ++ decimal n ≡ valueText (decimal n)
 few-digits-value n d e h = ap (λ s. (32 ∷ s) ++ (58 ∷ decimal n)) (sym (decimal-low d h)) ∙ number-value n d e
 
--- of ten and more
+-- of ten digits to 99
 pub many-digits-value : (n d : ℕ) → d ≡ length (decimal n) → 10 ≤ d → d < 100
     → (32 ∷ (48 + d / 10 % 10) ∷ (48 + d % 10) ∷ 58 ∷ []) ++ decimal n ≡ valueText (decimal n)
 many-digits-value n d e lo hi = ap (λ s. (32 ∷ s) ++ (58 ∷ decimal n)) (sym (decimal-two d lo hi)) ∙ number-value n d e

@@ -41,7 +41,7 @@ same s t = (s, t, false, yes)
 abbrev pub differ : List ℕ → List ℕ → List ℕ → Case
 differ s t r = (s, t, false, no r)
 
--- The header's examples.
+-- The header's examples, and one behind a pointer.
 unfoldable pub named : List Case
 named =
     differ (bytes "i") (bytes "d") (bytes ":kind 1:2 2:11")

@@ -54,7 +54,7 @@ fn short_len(n: u64) -> usize
     4
 }
 
-// The count of decimal digits, by comparisons: divisions one after the other take longer than to write the digits.
+// The count of decimal digits, by comparisons and at most one division: a division for each digit takes longer than writing the digits.
 pub fn static_int_str_len(n: u64) -> usize
     ensures { λ r. ⌜ r ≡ length (decimal n) ⌝ }
 {

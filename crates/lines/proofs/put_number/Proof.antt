@@ -17,8 +17,8 @@ returns c =
     let c4 = c2 .before .before in
     put-same (sym (decimal-low _ (c4 .if1 .taken))) (c2 .put-byte .ensures)
 
-put-whole-requires : tie.Need-put-whole-requires
-put-whole-requires c κs =
+put-any-requires : tie.Need-put-any-requires
+put-any-requires c κs =
     let c2 = c .before .before in
     let c6 = c2 .before .before .before .before in
     let f = leb-true (length (decimal (c6 .args .n))) (length (c6 .args .out .now) - c6 .args .at) (sym (c2 .number-fits .ensures) ∙ c .before .if3 .taken)
@@ -35,7 +35,7 @@ put-number-spec =
     returns
     (λ c. search needs)
     (λ c κs. search needs)
-    put-whole-requires
+    put-any-requires
     (λ c. search needs)
     (λ c. search needs)
     (λ c κs. search needs)

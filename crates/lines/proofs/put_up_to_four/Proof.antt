@@ -1,4 +1,4 @@
--- `lines::put_short` meets its contract. Assumes nothing.
+-- `lines::put_up_to_four` meets its contract. Assumes nothing.
 use mathlib.Core.Path.{ap, _∙_}
 use native.Mathlib.Omega.{arith}
 use borrow.Author.Needs.{needs}
@@ -6,8 +6,8 @@ use lib.ListN.{length, length-set}
 use Rattle.lines.specs.Digits.{twoBytes, fourBytes}
 use Rattle.lines.proofs.PutLaws.{put-one, put-append, put-same}
 use Rattle.lines.proofs.DigitLaws.{short-one, short-two, short-three, short-four}
-use Rattle.lines.proofs.put_short.Statement.{statement}
-use Rattle.lines.proofs.put_short.Tie as tie
+use Rattle.lines.proofs.put_up_to_four.Statement.{statement}
+use Rattle.lines.proofs.put_up_to_four.Tie as tie
 
 slice-write-out : tie.Need-slice-write-out
 slice-write-out c = omega (arith, ap length (short-one _ _ (c .before .before .pre .1) (c .if1 .taken)))
@@ -71,8 +71,8 @@ returns-4 c =
     let c8 = c4 .before .before .before .before in
     put-same (short-four _ _ (c8 .pre .1) (c4 .if3 .left) (c8 .pre .0)) (c2 .put-four .ensures)
 
-pub put-short-spec : {M : Type 1} → statement M
-put-short-spec =
+pub put-up-to-four-spec : {M : Type 1} → statement M
+put-up-to-four-spec =
     tie.close
     (tie.spec
     (λ c. search needs)
