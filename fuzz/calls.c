@@ -41,6 +41,7 @@ static const uint8_t carried[NUMBERS] = {
     [BERZHOTUN_OFFSET_TOO_LARGE] = PLACE,
     [BERZHOTUN_EMPTY_SIGNATURE] = NOTHING,
     [BERZHOTUN_SURPLUS_ZERO] = PLACE,
+    [BERZHOTUN_NO_SUCH_ROW] = NOTHING,
 };
 
 /* The numbers that each function may return, a bit each. */
@@ -57,7 +58,7 @@ static const uint64_t returned[FUNCTIONS] = {
     [REASON] = 0x39,             /* 0, 3, 4, 5 */
     [REASON_ALL] = 0x39,         /* 0, 3, 4, 5 */
     [MATCHES] = 0x1b,            /* 0, 1, 3, 4 */
-    [SIZE] = 0x59,               /* 0, 3, 4, 6 */
+    [SIZE] = 0x100059,           /* 0, 3, 4, 6, 20 */
     [LENGTH] = 0x19,             /* 0, 3, 4 */
     [PRINT] = 0x39,              /* 0, 3, 4, 5 */
 };
@@ -72,6 +73,7 @@ static const uint8_t *text, *names[2];
 static const uint64_t *words[2];
 static size_t text_length, words_length[2], names_length[2];
 static enum function running;
+static uint64_t running_row;
 
 static void show_sheet(int which) {
     size_t i;
@@ -88,6 +90,9 @@ static void show_sheet(int which) {
 void fail(const char *what) {
     size_t i;
     printf("%s: %s\n", function_names[running], what);
+    if (running == SIZE) {
+        printf(" %" PRIu64, running_row);
+    }
     if (running <= SIGNATURE || running == MATCHES) {
         printf(" t:");
         for (i = 0; i < text_length; i++) {
@@ -427,15 +432,26 @@ uint64_t call_matches(uint64_t *answer) {
     return refusal;
 }
 
-uint64_t call_size(void) {
+uint64_t call_size(uint64_t row, int *has_one) {
     uint64_t *lent = lend_marked(&answer_room, 2 * sizeof(uint64_t));
     uint64_t refusal;
     running = SIZE;
-    refusal = ends(berzhotun_size(words[0], words_length[0], names[0], names_length[0], lent));
+    running_row = row;
+    refusal = ends(berzhotun_size(words[0], words_length[0], names[0], names_length[0], row, lent));
     check_yes_or_no(refusal, lent[0]);
     if (lent[0] == 0 && lent[1] != 0) {
         fail("gave bytes of what has no size");
     }
+    if (row > BERZHOTUN_ROW_ARM32 && (refusal == 0 || refusal == BERZHOTUN_SIZE_TOO_LARGE)) {
+        fail("took a row that is none");
+    }
+    if (row <= BERZHOTUN_ROW_ARM32 && refusal == BERZHOTUN_NO_SUCH_ROW) {
+        fail("refused a row");
+    }
+    if (row == BERZHOTUN_ROW_ARM32 && lent[1] > UINT32_MAX) {
+        fail("gave a size that the row does not have");
+    }
+    *has_one = refusal == BERZHOTUN_SIZE_TOO_LARGE || lent[0] == 1;
     return refusal;
 }
 

@@ -42,7 +42,10 @@ uint64_t call_reason_length(enum function function, uint64_t *answer);
 uint64_t call_reason(enum function function, size_t room, uint64_t *answer);
 
 uint64_t call_matches(uint64_t *answer);
-uint64_t call_size(void);
+
+/* Whether there is a size is put in `has_one`; one that is too large counts. */
+uint64_t call_size(uint64_t row, int *has_one);
+
 uint64_t call_length(uint64_t *answer);
 
 /* Prints into an output of `room` bytes; as much of the print as has room is copied to `print`. */

@@ -20,10 +20,12 @@ static size_t most[FUNCTIONS];
 static struct sheet tree, other, spare;
 static struct text text, print;
 static struct entries entries;
+static uint64_t row;
 
 /* One call of a function with what is lent; whether it was accepted. */
 static uint64_t call(enum function function) {
     uint64_t answer, reason[2];
+    int has_size;
     switch (function) {
     case FROM_STR:
     case FROM_STRICT:
@@ -44,7 +46,7 @@ static uint64_t call(enum function function) {
     case MATCHES:
         return call_matches(&answer);
     case SIZE:
-        return call_size();
+        return call_size(row, &has_size);
     case LENGTH:
         return call_length(&answer);
     default:
@@ -140,10 +142,15 @@ static void run_pair(size_t at) {
 
 /* Every function that takes trees, of two with another last node, and against as much of its print as a text can have. */
 static void run_tree(void) {
-    static const enum function functions[] = {SIZE, LENGTH, PRINT, MATCHES};
+    static const enum function functions[] = {LENGTH, PRINT, MATCHES};
     size_t i;
     run_pair(BERZHOTUN_MAX_NODES - 1);
     lend_sheet(0, &tree);
+    for (row = 0; row <= BERZHOTUN_ROW_ARM32; row++) {
+        if (call_on_stack(SIZE) != 0) {
+            fail("refused to measure a deep tree");
+        }
+    }
     for (i = 0; i < sizeof functions / sizeof functions[0]; i++) {
         if (functions[i] == MATCHES) {
             if (print.length > BERZHOTUN_MAX_TEXT) {

@@ -122,6 +122,25 @@ static void take_signature(void) {
     }
 }
 
+/* Mostly a row or the first number that is none. */
+static uint64_t random_row(void) {
+    return random_below(8) != 0 ? random_below(4) : random_word() >> random_below(64);
+}
+
+/* In any row, and in row 0: 3 and 4 do not depend on the row, nor does whether there is a size. */
+static void measure_first(void) {
+    int has_one, has_one_there;
+    uint64_t row = random_row(), refusal = call_size(BERZHOTUN_ROW_APPLE_ARM64, &has_one);
+    uint64_t there = call_size(row, &has_one_there), due = refusal == BERZHOTUN_SIZE_TOO_LARGE ? 0 : refusal;
+    if (due == 0 && row > BERZHOTUN_ROW_ARM32) {
+        due = BERZHOTUN_NO_SUCH_ROW;
+        has_one = 0;
+    }
+    if ((there == BERZHOTUN_SIZE_TOO_LARGE ? 0 : there) != due || has_one_there != has_one) {
+        fail("does not go with the size in row 0");
+    }
+}
+
 static void print_first(void) {
     uint64_t length, refusal = call_length(&length), printed;
     size_t room = length + random_below(3);
@@ -175,7 +194,7 @@ static void round_of_calls(void) {
     random_text(&input);
     read_input();
     lend_two();
-    call_size();
+    measure_first();
     print_first();
     compare_both();
     if (print.length > 0 && random_below(2) == 0) {

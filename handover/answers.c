@@ -157,11 +157,32 @@ static void pair_question(const char *question) {
     }
 }
 
+static void say_size(void) {
+    printf(values[0] == 0 ? "none\n" : "bytes %" PRIu64 "\n", values[1]);
+}
+
+static void size_question(const char *row, char *argument) {
+    uint64_t refusal = load_tree(argument, &first);
+    if (refusal != 0) {
+        say_refusal("unread", refusal);
+        return;
+    }
+    refusal = berzhotun_size(LENT(first), strtoull(row, NULL, 10), values);
+    if (refusal != 0) {
+        printf("no %" PRIu64 " 0 0 0\n", refusal);
+    } else {
+        say_size();
+    }
+}
+
 static void tree_question(const char *question) {
     uint64_t refusal;
     if (strcmp(question, "size") == 0) {
-        refusal = berzhotun_size(LENT(first), values);
-        printf(refusal != 0 ? "refused\n" : values[0] == 0 ? "none\n" : "bytes %" PRIu64 "\n", values[1]);
+        if (berzhotun_size(LENT(first), BERZHOTUN_ROW_APPLE_ARM64, values) != 0) {
+            printf("refused\n");
+        } else {
+            say_size();
+        }
     } else if (strcmp(question, "length") == 0) {
         refusal = berzhotun_static_encoding_str_len(LENT(first), values);
         printf(refusal != 0 ? "refused\n" : "%" PRIu64 "\n", values[0]);
@@ -188,6 +209,8 @@ static void answer(char *line) {
         read_question(one, berzhotun_from_start_of_str);
     } else if (strcmp(question, "signature") == 0) {
         signature_question(one);
+    } else if (strcmp(question, "size-in") == 0) {
+        size_question(one, two);
     } else if ((refusal = load_tree(one, &first)) != 0) {
         say_refusal("unread", refusal);
     } else if (strcmp(question, "text") == 0) {

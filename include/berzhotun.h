@@ -116,7 +116,12 @@ extern "C" {
 #define BERZHOTUN_UNION 30u               /* (Name=ii), or (Name) */
 #define BERZHOTUN_NONE 31u                /* no type at all: no byte */
 
-/* The refusals. Those up to 6, and 18, carry only their number; the others also a place, which is
+/* The rows of sizes: the machine that a type is measured for. Other numbers are refused, by 20. */
+#define BERZHOTUN_ROW_APPLE_ARM64 0u /* 64-bit Apple ARM, as the Rust crate measures there */
+#define BERZHOTUN_ROW_X86_64 1u      /* x86_64, as Intel Macs: long double is wider */
+#define BERZHOTUN_ROW_ARM32 2u       /* 32-bit ARM: long and pointers are narrower */
+
+/* The refusals. Those up to 6, 18 and 20 carry only their number; the others also a place, which is
    named. */
 
 /* The text has more than 2,000 bytes. */
@@ -129,7 +134,7 @@ extern "C" {
 #define BERZHOTUN_BAD_NAME 4u
 /* The output is shorter than the printed length, or than the reason for a no. */
 #define BERZHOTUN_OUTPUT_TOO_SHORT 5u
-/* The size is above 2^64 - 1. */
+/* The size is above 2^64 - 1, or for 32-bit ARM above 2^32 - 1. */
 #define BERZHOTUN_SIZE_TOO_LARGE 6u
 /* A needed byte is missing after `j`, `b`, `[` or inside quotes. Place: the text's end. */
 #define BERZHOTUN_UNEXPECTED_END 7u
@@ -159,6 +164,8 @@ extern "C" {
 #define BERZHOTUN_EMPTY_SIGNATURE 18u
 /* In a strict reading a number has more than one digit and starts with 0. Place: that of the 0. */
 #define BERZHOTUN_SURPLUS_ZERO 19u
+/* The number of the row of sizes is above 2. */
+#define BERZHOTUN_NO_SUCH_ROW 20u
 
 /*
  * Reads the whole text as one type. Leading bytes among r n N o O R V (const, in, inout and so on)
@@ -363,22 +370,32 @@ uint64_t berzhotun_equivalent_to_str(const uint64_t *words, size_t words_len, co
                                      uint64_t answer[1]);
 
 /*
- * Measures a tree in bytes, with the widths of 64-bit Apple ARM and without padding: char and bool
- * 1; short 2; int and float 4; long, long long, double, long double, strings, objects, blocks,
- * classes, selectors and pointers 8; a complex number twice its part; a bitfield its bits raised
- * to a power of two, at least 8, divided by 8, or its type's size if that is larger; an atomic what
- * it holds; an array its length times its item; a struct the sum of its fields; a union the largest
- * of those that have a size. Void, Unknown, None, a struct with a field that has no size, and a
- * union without a member that has one, have none.
+ * Measures a tree in bytes, without padding, with the widths of the machine whose row is named:
+ *
+ *     row                             long   strings, objects, blocks,      long double
+ *                                            classes, selectors, pointers
+ *     BERZHOTUN_ROW_APPLE_ARM64 (0)   8      8                              8
+ *     BERZHOTUN_ROW_X86_64      (1)   8      8                              16
+ *     BERZHOTUN_ROW_ARM32       (2)   4      4                              8
+ *
+ * In every row char and bool have 1; short 2; int and float 4; long long and double 8; a complex
+ * number twice its part; a bitfield its bits raised to a power of two, at least 8, divided by 8, or
+ * its type's size if that is larger; an atomic what it holds; an array its length times its item; a
+ * struct the sum of its fields; a union the largest of those that have a size. Void, Unknown, None,
+ * a struct with a field that has no size, and a union without a member that has one, have none.
  *
  * Reads   the sheet as far as its first four words say.
  * Writes  answer[0 .. 2].
  * 0       answer is 1 and the bytes, or 0 and 0 where the type has no size.
- * Refuses 3 if the lists are no sheet, then 4 if a name is bad, then 6 if the size is above
- *         2^64 - 1 (no size goes before too large, and 0 times too large is 0). answer is then 0 0.
+ * Refuses 3 if the lists are no sheet, then 4 if a name is bad, then 20 if row is above 2, then 6
+ *         if the size is above 2^64 - 1, in row 2 above 2^32 - 1 (no size goes before too large,
+ *         and 0 times too large is 0: only the whole tree's size must fit). answer is then 0 0.
+ *
+ * So `{R=i^v}` has 12 bytes in rows 0 and 1, and 8 in row 2; `[4294967296c]` has 4,294,967,296 in
+ * rows 0 and 1, and is refused by 6 in row 2, where `[0[4294967296c]]` has 0.
  */
 uint64_t berzhotun_size(const uint64_t *words, size_t words_len, const uint8_t *names,
-                        size_t names_len, uint64_t answer[2]);
+                        size_t names_len, uint64_t row, uint64_t answer[2]);
 
 /*
  * Counts the bytes that berzhotun_static_encoding_str_array would write.

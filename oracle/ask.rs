@@ -4,7 +4,7 @@ use std::str::FromStr;
 
 use crate::helper::NestingLevel;
 use crate::parse::Parser;
-use crate::plain;
+use crate::rows::{self, Answer, Measured};
 use crate::sheet::{STRUCT, UNION};
 use crate::static_str::{static_encoding_str_array, static_encoding_str_len};
 use crate::surplus;
@@ -201,9 +201,22 @@ fn array_text<const LEN: usize>(tree: &Encoding, length: usize) -> Vec<u8> {
 }
 
 /// The crate's size on document 01's target, if the question is within the domain.
-pub fn size(arena: &mut Arena, tree: &Tree) -> Option<Option<u64>> {
-    if !plain::measure(tree).fits {
-        return None;
+pub fn size(arena: &mut Arena, tree: &Tree) -> Option<Option<u128>> {
+    size_in(arena, tree, 0, &rows::measure(tree, 0))
+}
+
+/// The crate's size in a row, if that can be had here and every sum and product is below 2^64.
+pub fn size_in(arena: &mut Arena, tree: &Tree, row: usize, measured: &Measured) -> Option<Option<u128>> {
+    let is_here = row != 1 || Encoding::LongDouble.size() == Some(16);
+    (is_here && measured.fits()).then(|| arena.encoding_in_row(tree, row).size().map(|bytes| bytes as u128))
+}
+
+/// What size answers in a row: by the crate where it can be asked, else by request N5.
+pub fn sized(arena: &mut Arena, tree: &Tree, row: u64) -> Answer {
+    if row >= rows::ROWS as u64 {
+        return Answer::Refused(rows::NO_SUCH_ROW);
     }
-    Some(arena.encoding_without_long_double(tree).size().map(|bytes| bytes as u64))
+    let row = row as usize;
+    let measured = rows::measure(tree, row);
+    rows::handed_out(size_in(arena, tree, row, &measured).unwrap_or(measured.bytes), row)
 }

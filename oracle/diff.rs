@@ -13,7 +13,9 @@
 //!     diff short-reasons LENGTH  every pair of readable texts up to that length: the reason for a no
 //!     diff reasons SEED COUNT   related pairs of trees: the reason for a no
 //!     diff number-reasons SEED COUNT  numbers of every count of digits: the reason for a no
-//!     diff all SEED COUNT       each of these, with lengths 3 and 4
+//!     diff short-rows LENGTH    every readable text up to that length: sizes in every row
+//!     diff rows SEED COUNT      trees with sizes about the limits of the rows: sizes in every row
+//!     diff all SEED COUNT       each of these, with lengths 3 to 5
 //!     diff stack KIBIBYTES      the deepest trees, texts and signatures on a stack of that size
 //!     diff bench                times, as ratios to the crate's
 //!
@@ -21,7 +23,9 @@
 
 use crate::report::run as run_all;
 use crate::{bench, stack};
-use crate::{run_reads, run_reasons, run_sheets, run_signatures, run_strict, run_texts, run_trees};
+use crate::{
+    run_reads, run_reasons, run_rows, run_sheets, run_signatures, run_strict, run_texts, run_trees,
+};
 
 pub fn run() -> i32 {
     let arguments: Vec<String> = std::env::args().skip(1).collect();
@@ -42,11 +46,14 @@ pub fn run() -> i32 {
         (Some("short-reasons"), Some(&[length])) => short_reasons(length as usize),
         (Some("reasons"), Some(&[seed, count])) => reasons(seed, count),
         (Some("number-reasons"), Some(&[seed, count])) => number_reasons(seed, count),
+        (Some("short-rows"), Some(&[length])) => short_rows(length as usize),
+        (Some("rows"), Some(&[seed, count])) => rows(seed, count),
         (Some("stack"), Some(&[kibibytes])) => stack::run(kibibytes as usize),
         (Some("bench"), Some(&[])) => bench::run(),
         _ => {
-            eprintln!("usage: diff trees|sheets|reads|texts|signatures|strict|reasons|number-reasons|all SEED COUNT");
-            eprintln!("       diff short|match|short-signatures|short-strict|short-reasons LENGTH");
+            eprintln!("usage: diff trees|sheets|reads|texts|signatures|strict SEED COUNT");
+            eprintln!("       diff reasons|number-reasons|rows|all SEED COUNT");
+            eprintln!("       diff short|match|short-signatures|short-strict|short-reasons|short-rows LENGTH");
             eprintln!("       diff stack KIBIBYTES, diff bench");
             return 2;
         }
@@ -69,6 +76,8 @@ fn all(seed: u64, count: u64) -> bool {
     same &= short_reasons(4);
     same &= reasons(seed, count);
     same &= number_reasons(seed, count);
+    same &= short_rows(5);
+    same &= rows(seed, count);
     same
 }
 
@@ -136,4 +145,14 @@ fn reasons(seed: u64, count: u64) -> bool {
 fn number_reasons(seed: u64, count: u64) -> bool {
     let mut check = run_reasons::Check::new();
     run_all("number-reasons", run_reasons::number_inputs(seed, count), |case, tally| check.case(case, tally))
+}
+
+fn short_rows(length: usize) -> bool {
+    let mut check = run_rows::Check::default();
+    run_all("short-rows", run_rows::short_inputs(length), |case, tally| check.case(case, tally))
+}
+
+fn rows(seed: u64, count: u64) -> bool {
+    let mut check = run_rows::Check::default();
+    run_all("rows", run_rows::inputs(seed, count), |case, tally| check.case(case, tally))
 }

@@ -421,7 +421,8 @@ fn insert_under(tree: &mut Tree, parent: usize, at: usize, new: &Tree) {
     put(tree, at, 0, new);
 }
 
-fn put(tree: &mut Tree, at: usize, removed: usize, new: &Tree) {
+/// Puts `new` in place of `removed` nodes at `at`; the counts above them stay as they are.
+pub fn put(tree: &mut Tree, at: usize, removed: usize, new: &Tree) {
     let shift = tree.names.len() as u64;
     tree.names.extend_from_slice(&new.names);
     let shifted = new.nodes.iter().map(|node| {

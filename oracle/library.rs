@@ -110,6 +110,7 @@ mod exported {
             words_len: usize,
             names: *const u8,
             names_len: usize,
+            row: u64,
             answer: *mut u64,
         ) -> u64;
         pub fn berzhotun_static_encoding_str_len(
@@ -270,7 +271,7 @@ pub fn reason_all(a: Sheet, b: Sheet, out: &mut [u8], lent: usize) -> Reply {
     written(exported::berzhotun_reason_all, a, b, &mut out[..lent])
 }
 
-pub fn size(sheet: Sheet) -> Reply {
+pub fn size(sheet: Sheet, row: u64) -> Reply {
     let mut answers = [MARK; 4];
     let Sheet { words, names } = sheet;
     // SAFETY: as in `pair`.
@@ -280,6 +281,7 @@ pub fn size(sheet: Sheet) -> Reply {
             words.len(),
             names.as_ptr(),
             names.len(),
+            row,
             answers.as_mut_ptr(),
         )
     };

@@ -1,5 +1,5 @@
-//! Document 01's own words as plain code, where the crate cannot be asked: levels, sizes that are
-//! too large, soundness, and which refusal a sheet meets.
+//! Document 01's own words as plain code, where the crate cannot be asked: levels, soundness, and which
+//! refusal a sheet meets.
 
 use crate::sheet::*;
 use crate::trees::Tree;
@@ -38,114 +38,13 @@ pub fn levels(tree: &Tree) -> Vec<Option<Level>> {
     levels
 }
 
-#[derive(Clone, Copy, Debug, PartialEq)]
-pub enum Size {
-    None,
-    Bytes(u64),
-    TooLarge,
-}
-
-/// A size, and whether every sum and product on the way to it is below 2^64. One that is not puts
-/// the tree outside the domain, also if the crate would not come to it.
-#[derive(Clone, Copy, PartialEq)]
-pub struct Measured {
-    pub size: Size,
-    pub fits: bool,
-}
-
-pub fn measure(tree: &Tree) -> Measured {
-    let mut fits = true;
-    let size = size_of(tree, 0, Level::Top, &mut fits);
-    Measured { size, fits }
-}
-
-fn size_of(tree: &Tree, at: usize, level: Level, fits: &mut bool) -> Size {
-    let node = &tree.nodes[at];
-    let below = inside(node.kind, level);
-    let size = match node.kind {
-        STRUCT | UNION if level == Level::Bottom => Size::None,
-        STRUCT => struct_size(tree, at, below, fits),
-        UNION => union_size(tree, at, below, fits),
-        POINTER => Size::Bytes(8),
-        ATOMIC => size_of(tree, at + 1, below, fits),
-        ARRAY => times(node.first, size_of(tree, at + 1, below, fits)),
-        TYPED_BITFIELD => {
-            larger(Size::Bytes(bitfield_bytes(node.second)), size_of(tree, at + 1, below, fits))
-        }
-        BITFIELD => Size::Bytes(bitfield_bytes(node.second)),
-        kind => primitive_size(kind),
-    };
-    *fits &= size != Size::TooLarge;
-    size
-}
-
-/// "None" goes before "too large".
-fn struct_size(tree: &Tree, at: usize, level: Level, fits: &mut bool) -> Size {
-    let mut sum = Some(0u64);
-    let mut all_sized = true;
-    for child in children(tree, at) {
-        match size_of(tree, child, level, fits) {
-            Size::None => all_sized = false,
-            Size::Bytes(bytes) => sum = sum.and_then(|sum| sum.checked_add(bytes)),
-            Size::TooLarge => sum = None,
-        }
-    }
-    *fits &= sum.is_some();
-    match sum {
-        _ if !all_sized => Size::None,
-        Some(bytes) => Size::Bytes(bytes),
-        None => Size::TooLarge,
-    }
-}
-
-fn union_size(tree: &Tree, at: usize, level: Level, fits: &mut bool) -> Size {
-    children(tree, at).fold(Size::None, |largest, child| larger(largest, size_of(tree, child, level, fits)))
-}
-
-fn children(tree: &Tree, at: usize) -> impl Iterator<Item = usize> + '_ {
+pub fn children(tree: &Tree, at: usize) -> impl Iterator<Item = usize> + '_ {
     let end = at + tree.nodes[at].count as usize;
     let first = (at + 1 < end).then_some(at + 1);
     std::iter::successors(first, move |&child| {
         let next = child + tree.nodes[child].count as usize;
         (next < end).then_some(next)
     })
-}
-
-fn times(length: u64, item: Size) -> Size {
-    match item {
-        Size::None => Size::None,
-        Size::TooLarge if length == 0 => Size::Bytes(0),
-        Size::TooLarge => Size::TooLarge,
-        Size::Bytes(bytes) => bytes.checked_mul(length).map_or(Size::TooLarge, Size::Bytes),
-    }
-}
-
-fn larger(a: Size, b: Size) -> Size {
-    match (a, b) {
-        (Size::TooLarge, _) | (_, Size::TooLarge) => Size::TooLarge,
-        (Size::None, other) | (other, Size::None) => other,
-        (Size::Bytes(a), Size::Bytes(b)) => Size::Bytes(a.max(b)),
-    }
-}
-
-/// Bits raised to a power of two, at least 8, in bytes.
-fn bitfield_bytes(bits: u64) -> u64 {
-    let mut raised = 8;
-    while raised < bits {
-        raised *= 2;
-    }
-    raised / 8
-}
-
-fn primitive_size(kind: u64) -> Size {
-    match kind {
-        0 | 5 | 16 => Size::Bytes(1),
-        1 | 6 => Size::Bytes(2),
-        2 | 7 | 10 => Size::Bytes(4),
-        3 | 4 | 8 | 9 | 11 | 12 | 13 | 18..=22 => Size::Bytes(8),
-        14 | 15 => Size::Bytes(16),
-        _ => Size::None,
-    }
 }
 
 /// The refusal that a sheet alone meets: 3, 4 or 0 for none.

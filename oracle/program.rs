@@ -19,11 +19,12 @@
 //!     reason-all TREE TREE         yes | no HEX              (the same with all fields)
 //!     text TREE TEXT               yes | no                  (equivalent_to_str)
 //!     size TREE                    bytes N | none | outside  (document 01's target)
+//!     size-in ROW TREE             bytes N | none | no NUMBER 0 0 0  (request N5, by its row number)
 //!     size-host TREE               bytes N | none            (as the crate answers on this machine)
 //!     length TREE                  N                         (static_encoding_str_len)
 //!     print TREE                   t:HEX                     (static_encoding_str_array)
 //!
-//! NUMBER is the refusal of document 01, or of request N1 or N3; PLACE, BYTE and KIND (29 struct, 30
+//! NUMBER is the refusal of document 01, or of request N1, N3 or N5; PLACE, BYTE and KIND (29 struct, 30
 //! union) are 0 where it carries none. PLACE after `ok` is where the rest begins. HEX after `no` is
 //! the reason's bytes. A sheet in an answer has the words and name bytes that are used and no more.
 //! Other answers to any question:
@@ -38,7 +39,8 @@ use std::panic::{catch_unwind, set_hook, AssertUnwindSafe};
 
 use crate::ask::{self, Refusal};
 use crate::reason::Finder;
-use crate::sheet::is_container;
+use crate::rows::Answer;
+use crate::sheet::{is_container, names_are_good, BAD_NAME};
 use crate::trees::{Arena, Tree};
 use crate::EncodingBox;
 
@@ -93,6 +95,7 @@ fn ask(line: &str) -> Result<String, String> {
         ("reason-all", [a, b]) => Ok(reason(&tree_of(a)?, &tree_of(b)?, true)),
         ("text", [tree, text]) => Ok(against_text(&tree_of(tree)?, &text_of(text)?)),
         ("size", [tree]) => Ok(size(&tree_of(tree)?)),
+        ("size-in", [row, tree]) => Ok(size_in(&tree_of(tree)?, row.parse().map_err(|_| bad_line())?)),
         ("size-host", [tree]) => Ok(size_here(&tree_of(tree)?)),
         ("length", [tree]) => Ok(length(&tree_of(tree)?)),
         ("print", [tree]) => Ok(print(&tree_of(tree)?)),
@@ -158,11 +161,23 @@ fn size(tree: &Tree) -> String {
     }
 }
 
-fn size_here(tree: &Tree) -> String {
-    size_text(Arena::default().encoding(tree).size().map(|bytes| bytes as u64))
+/// A bad name goes before the row's number, also where the crate would not come to it.
+fn size_in(tree: &Tree, row: u64) -> String {
+    if !names_are_good(&tree.words(), &tree.names) {
+        return format!("no {BAD_NAME} 0 0 0");
+    }
+    match ask::sized(&mut Arena::default(), tree, row) {
+        Answer::None => size_text(None),
+        Answer::Bytes(bytes) => size_text(Some(bytes.into())),
+        Answer::Refused(number) => format!("no {number} 0 0 0"),
+    }
 }
 
-fn size_text(size: Option<u64>) -> String {
+fn size_here(tree: &Tree) -> String {
+    size_text(Arena::default().encoding(tree).size().map(|bytes| bytes as u128))
+}
+
+fn size_text(size: Option<u128>) -> String {
     size.map_or("none".to_string(), |bytes| format!("bytes {bytes}"))
 }
 

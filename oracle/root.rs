@@ -27,6 +27,8 @@ mod plain;
 #[allow(dead_code)]
 mod reason;
 #[allow(dead_code)]
+mod rows;
+#[allow(dead_code)]
 mod sheet;
 #[allow(dead_code)]
 mod surplus;
@@ -45,6 +47,8 @@ mod diff;
 #[cfg(diff)]
 mod grow;
 #[cfg(diff)]
+mod grow_sizes;
+#[cfg(diff)]
 mod library;
 #[cfg(diff)]
 mod random;
@@ -54,6 +58,8 @@ mod report;
 mod run_reads;
 #[cfg(diff)]
 mod run_reasons;
+#[cfg(diff)]
+mod run_rows;
 #[cfg(diff)]
 mod run_sheets;
 #[cfg(diff)]

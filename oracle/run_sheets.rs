@@ -7,6 +7,7 @@ use crate::plain;
 use crate::random::Random;
 use crate::report::{expect, refusal_name, show_sheet, Case, Difference, Input, Lent, Tally};
 use crate::run_reasons;
+use crate::run_rows;
 use crate::run_trees;
 use crate::sheet::{is_container, is_good_name, BAD_NAME};
 use crate::trees::{Arena, Tree};
@@ -101,9 +102,9 @@ impl Check {
             let tree = Tree::from_sheet(&case.a.words, &case.a.names).unwrap();
             let mut garbage = Random::new(case.extra);
             run_trees::check_print(&mut self.arena, &tree, sheet, &mut self.out, &mut garbage, tally)?;
-            return run_trees::check_size(&mut self.arena, &tree, sheet, tally);
+            return run_rows::check_size(&mut self.arena, &tree, sheet, 0, tally).map(|_| ());
         }
-        expect("size", library::size(sheet), reply(verdict, &[0, 0]))?;
+        run_rows::check_refused(verdict, sheet, tally)?;
         expect("static_encoding_str_len", library::static_encoding_str_len(sheet), reply(verdict, &[0]))?;
         let room = case.extra as usize % 64;
         let got = library::static_encoding_str_array(sheet, &mut self.out, room);

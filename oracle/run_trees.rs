@@ -3,9 +3,10 @@
 use crate::ask;
 use crate::grow;
 use crate::library::{self, reply, Sheet, MARK_BYTE};
-use crate::plain::{self, Size};
+use crate::plain;
 use crate::random::Random;
 use crate::report::{expect, Case, Difference, Lent, Tally};
+use crate::run_rows;
 use crate::sheet::{MOST_NAME_BYTES, MOST_NODES};
 use crate::trees::{Arena, Tree};
 
@@ -61,9 +62,9 @@ impl Check {
         self.lent_b.fill(&case.b, &mut garbage);
         count_shape(&case.a, tally);
         check_print(&mut self.a, &case.a, self.lent_a.sheet(), &mut self.out, &mut garbage, tally)?;
-        check_size(&mut self.a, &case.a, self.lent_a.sheet(), tally)?;
+        run_rows::check_size(&mut self.a, &case.a, self.lent_a.sheet(), 0, tally)?;
         check_print(&mut self.b, &case.b, self.lent_b.sheet(), &mut self.out, &mut garbage, tally)?;
-        check_size(&mut self.b, &case.b, self.lent_b.sheet(), tally)?;
+        run_rows::check_size(&mut self.b, &case.b, self.lent_b.sheet(), 0, tally)?;
         self.compare(case, tally)?;
         self.lent_a.is_unchanged()?;
         self.lent_b.is_unchanged()
@@ -175,28 +176,4 @@ fn check_room(
         return Err(format!("static_encoding_str_array: wrote beyond {written} bytes"));
     }
     Ok(())
-}
-
-pub fn check_size(arena: &mut Arena, tree: &Tree, sheet: Sheet, tally: &mut Tally) -> Result<(), Difference> {
-    let size = plain::measure(tree).size;
-    match ask::size(arena, tree) {
-        None => tally.add("size", "outside the crate's domain"),
-        Some(bytes) if size == bytes.map_or(Size::None, Size::Bytes) => {}
-        Some(bytes) => return Err(format!("the driver's size {size:?}, the crate's {bytes:?}")),
-    }
-    let wanted = match size {
-        Size::None => {
-            tally.add("size", "none");
-            reply(0, &[0, 0])
-        }
-        Size::Bytes(bytes) => {
-            tally.add("size", "bytes");
-            reply(0, &[1, bytes])
-        }
-        Size::TooLarge => {
-            tally.add("size", "refused 06");
-            reply(6, &[0, 0])
-        }
-    };
-    expect("size", library::size(sheet), wanted)
 }

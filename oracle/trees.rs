@@ -151,15 +151,15 @@ pub struct Arena {
 
 impl Arena {
     pub fn encoding<'a>(&'a mut self, tree: &'a Tree) -> &'a Encoding {
-        self.make(tree, false)
+        self.make(tree, None)
     }
 
-    /// The same tree with `d` for `D` and `jd` for `jD` (README.md says why).
-    pub fn encoding_without_long_double<'a>(&'a mut self, tree: &'a Tree) -> &'a Encoding {
-        self.make(tree, true)
+    /// The same tree with codes that have the sizes of a row here (README.md says which and why).
+    pub fn encoding_in_row<'a>(&'a mut self, tree: &'a Tree, row: usize) -> &'a Encoding {
+        self.make(tree, Some(row))
     }
 
-    fn make<'a>(&'a mut self, tree: &'a Tree, no_long_double: bool) -> &'a Encoding {
+    fn make<'a>(&'a mut self, tree: &'a Tree, row: Option<usize>) -> &'a Encoding {
         self.held.clear();
         self.typed.clear();
         self.open.clear();
@@ -170,15 +170,17 @@ impl Arena {
             let made = match node.kind {
                 BITFIELD => Encoding::BitField(node.second as u8, None),
                 TYPED_BITFIELD => Encoding::BitField(node.second as u8, Some(self.keep_typed(node.first))),
+                POINTER if row == Some(2) => {
+                    self.open.pop();
+                    Encoding::Int
+                }
                 POINTER => Encoding::Pointer(&self.keep(1)[0]),
                 ATOMIC => Encoding::Atomic(&self.keep(1)[0]),
                 ARRAY => Encoding::Array(node.first, &self.keep(1)[0]),
                 STRUCT => Encoding::Struct(lengthened_name(tree.name(node)), self.keep(tree.children(at))),
                 UNION => Encoding::Union(lengthened_name(tree.name(node)), self.keep(tree.children(at))),
                 NONE => Encoding::None,
-                12 if no_long_double => Encoding::Double,
-                15 if no_long_double => Encoding::DoubleComplex,
-                kind => primitive(kind),
+                kind => primitive(stand_in(kind, row)),
             };
             self.open.push(made);
         }
@@ -200,6 +202,16 @@ impl Arena {
         self.typed.push((offset, self.open.pop().unwrap()));
         // SAFETY: as in `keep`.
         unsafe { &*self.typed.as_ptr().add(self.typed.len() - 1) }
+    }
+}
+
+/// A code that here has the size that this one has in a row: of 64-bit Apple ARM (0), x86_64 (1) or ARM (2).
+fn stand_in(kind: u64, row: Option<usize>) -> u64 {
+    match (row, kind) {
+        (Some(0 | 2), 12) => 11,
+        (Some(0 | 2), 15) => 14,
+        (Some(2), 3 | 8 | 18..=22) => INT,
+        _ => kind,
     }
 }
 

@@ -26,8 +26,8 @@ typedef struct {
 } Build;
 
 static const char *const whats[] = {"whole-text reading", "reading from the start", "tree against tree", "with all fields",
-                                    "tree against text", "size", "length", "print", "strict reading", "signature"};
-enum { TREE = 2, ALL = 3, TEXT = 4, STRICT = 8, SIGNATURE = 9, REASON_LEN, REASON_ALL_LEN, REASON, REASON_ALL, EXACT, EXACT_ALL };
+                                    "tree against text", "size", "size in row 2", "length", "print", "strict reading", "signature"};
+enum { TREE = 2, ALL, TEXT, SIZE, SIZE_ARM32, LENGTH, PRINT, STRICT, SIGNATURE, REASON_LEN, REASON_ALL_LEN, REASON, REASON_ALL, EXACT, EXACT_ALL };
 
 static uint8_t text[BERZHOTUN_MAX_TEXT + 1], printed[BERZHOTUN_MAX_PRINT], output[BERZHOTUN_MAX_PRINT];
 static size_t text_len, printed_len;
@@ -72,9 +72,10 @@ static uint64_t call(const Build *build, int what) {
     case TREE: return build->equivalent_to(SHEET, OTHER, answer) + answer[0];
     case ALL: return build->eq(SHEET, OTHER, answer) + answer[0];
     case TEXT: return build->equivalent_to_str(SHEET, printed, printed_len, answer) + answer[0];
-    case 5: return build->size(SHEET, answer) + answer[0];
-    case 6: return build->len(SHEET, answer) + answer[0];
-    case 7: return build->print(SHEET, output, sizeof output, answer) + answer[0];
+    case SIZE: return build->size(SHEET, BERZHOTUN_ROW_APPLE_ARM64, answer) + answer[0];
+    case SIZE_ARM32: return build->size(SHEET, BERZHOTUN_ROW_ARM32, answer) + answer[0];
+    case LENGTH: return build->len(SHEET, answer) + answer[0];
+    case PRINT: return build->print(SHEET, output, sizeof output, answer) + answer[0];
     case STRICT: return build->strict(text, text_len, LENT, answer);
     case REASON_LEN: return build->reason_len(SHEET, OTHER, answer) + answer[1];
     case REASON_ALL_LEN: return build->reason_all_len(SHEET, OTHER, answer) + answer[1];
@@ -84,6 +85,13 @@ static uint64_t call(const Build *build, int what) {
     case EXACT_ALL: return build->reason_all(SHEET, OTHER, output, reason_len, answer) + answer[1];
     default: return build->signature(text, text_len, list, BERZHOTUN_MAX_SIGNATURE, answer) + answer[0];
     }
+}
+
+// Where a row number stands now, a build from before rows is lent the answer: given a place there, it writes yes or no to it.
+static int has_rows(const Build *build) {
+    uint64_t place[2] = {2, 2}, answer[2];
+    build->size(SHEET, (uint64_t)(uintptr_t)place, answer);
+    return place[0] == 2;
 }
 
 static double batch(const Build *build, int what, int calls) {
@@ -180,14 +188,15 @@ static const char *signature(int which) {
 static const char *const small[][2] = {{"i", "d"}, {"i", "^i"}, {"^i", "^d"}, {"b3", "b4"}, {"b0i3", "b1i3"}, {"[3c]", "[12c]"},
                                        {"{R=i}", "{S=i}"}, {"{R=ii}", "{R=i}"}, {"{R=i^v}", "{R=i^i}"}, {"{R=i}", "{R=i}"}};
 
-// Lengths of so many digits that differ in the last.
+// Lengths of so many digits that differ in the last; and the longest numbers where a walk comes to them otherwise.
 enum { FEWEST_DIGITS = 3, MOST_DIGITS = 20 };
 static const char digits[] = "18446744073709551615";
+static const struct { const char *label, *before, *behind; } placed[] = {{"20 in a record", "{R=[", "c]}"}, {"20 behind ^", "^[", "c]"}, {"20 as offset", "b", "c7"}};
 
 // Larger ones, by a shape and what is changed in it for the second.
 enum { LAST, FIRST, NAME, COUNT, NOTHING };
 static const char *const changes[] = {"another last", "another first", "another name", "another count", "equal"};
-static const struct { int shape, change; } large[] = {{1, LAST}, {2, LAST}, {5, LAST}, {SHAPES, LAST}, {SHAPES, FIRST}, {SHAPES, COUNT}, {SHAPES + 1, LAST},
+static const struct { int shape, change; } large[] = {{1, LAST}, {2, LAST}, {3, LAST}, {5, LAST}, {SHAPES, LAST}, {SHAPES, FIRST}, {SHAPES, COUNT}, {SHAPES + 1, LAST},
                                                       {SHAPES + 2, LAST}, {SHAPES + 3, LAST}, {SHAPES + 4, LAST},
                                                       {SHAPES + 5, NAME}, {1, NOTHING}, {2, NOTHING}};
 
@@ -201,15 +210,14 @@ static void lend_small(const Build *build, int which) {
     text_len = 0, repeat(small[which][1], 1), read_into(build, other_words, other_names);
 }
 
-static const char *lend_digits(const Build *build, int count) {
-    static char label[16];
+static void lend_digits(const Build *build, const char *before, int count, const char *behind) {
+    uint8_t *last = text + strlen(before) + count - 1;
     uint64_t answer[1];
-    text_len = (size_t)sprintf((char *)text, "[%.*sc]", count, digits);
+    text_len = (size_t)sprintf((char *)text, "%s%.*s%s", before, count, digits, behind);
     read_into(build, words, names);
-    text[count] = text[count] == '4' ? '3' : '4';
+    *last = *last == '4' ? '3' : '4';
     read_into(build, other_words, other_names);
-    if (build->equivalent_to(SHEET, OTHER, answer) || answer[0]) fail("two lengths that do not differ");
-    return sprintf(label, "%d digits", count), label;
+    if (build->equivalent_to(SHEET, OTHER, answer) || answer[0]) fail("two numbers that do not differ");
 }
 
 static void change(uint64_t *kind) {
@@ -261,7 +269,16 @@ static void reason_rows(const Build *builds, int each, int rounds) {
         lend_small(&builds[0], (int)which);
         reason_pair(small[which][0], small[which][1], builds, each, rounds);
     }
-    for (int count = FEWEST_DIGITS; count <= MOST_DIGITS; count++) reason_pair(lend_digits(&builds[0], count), changes[LAST], builds, each, rounds);
+    for (int count = FEWEST_DIGITS; count <= MOST_DIGITS; count++) {
+        char label[16];
+        lend_digits(&builds[0], "[", count, "c]");
+        sprintf(label, "%d digits", count);
+        reason_pair(label, changes[LAST], builds, each, rounds);
+    }
+    for (size_t which = 0; which < sizeof placed / sizeof *placed; which++) {
+        lend_digits(&builds[0], placed[which].before, MOST_DIGITS, placed[which].behind);
+        reason_pair(placed[which].label, changes[LAST], builds, each, rounds);
+    }
     for (size_t which = 0; which < sizeof large / sizeof *large; which++) {
         lend_large(&builds[0], (int)which);
         reason_pair(shape(large[which].shape), changes[large[which].change], builds, each, rounds);
@@ -273,21 +290,27 @@ int main(int count, char **given) {
     static Build builds[MOST_BUILDS];
     int rounds = count > 1 ? atoi(given[1]) : 0, each = (count - 2) / 2;
     if (rounds < 1 || each < 1 || 2 * each > MOST_BUILDS) fail("ROUNDS BEFORE.so.. AFTER.so..");
-    int last = STRICT;
+    int last = STRICT, sized = 1;
     for (int i = 0; i < 2 * each; i++) {
         builds[i] = load(given[2 + i]);
         if (!builds[i].strict) last = STRICT - 1;
+        shape(0), read_into(&builds[i], words, names);
+        if (!has_rows(&builds[i])) sized = 0;
     }
     if (last < STRICT) printf("one of the archives has no berzhotun_from_str_strict: strict reading is left out\n");
+    if (!sized) printf("one of the archives has a berzhotun_size without rows: sizes are left out\n");
     printf("%-14s %-22s %9s %9s  %5s %5s\n", "tree", "what", "before", "after", "mean", "least");
     for (int which = 0; which < SHAPES; which++) {
+        const char *name = shape(which);
         uint64_t answer[3];
         read_into(&builds[0], words, names);
         memcpy(other_words, words, sizeof words);
         memcpy(other_names, names, sizeof names);
         if (builds[0].print(SHEET, printed, sizeof printed, answer)) fail("a tree that does not print");
         printed_len = answer[0];
-        for (int what = 0; what <= last; what++) row(shape(which), builds, each, rounds, what);
+        for (int what = 0; what <= last; what++) {
+            if (sized || (what != SIZE && what != SIZE_ARM32)) row(name, builds, each, rounds, what);
+        }
     }
     // An empty record passes over the fields of these shapes.
     static const struct { int shape; const char *name; } passed[] = {{2, "1,188 passed"}, {3, "1,997 passed"}, {5, "nested passed"}};

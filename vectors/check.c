@@ -1,4 +1,5 @@
-/* Reads every text of the list, prints it again, measures it, and compares with what the list says. */
+/* Reads every text of the list, prints it again, measures it in the row of its target, and compares with what the list
+   says. */
 #include <inttypes.h>
 #include <stdio.h>
 #include <stdlib.h>
@@ -13,13 +14,24 @@ static struct {
     uint8_t names[BERZHOTUN_MAX_NAMES];
 } tree, strict_tree;
 
-/* A line of the list. */
+/* A line of the list, and the row of sizes of its target. */
 static struct {
     char target[16], how[16], name[64], text[512], size[24], outcome[512];
+    unsigned machine;
 } row;
 
+static const struct {
+    const char *target;
+    unsigned machine;
+} targets[] = {
+    {"arm64", BERZHOTUN_ROW_APPLE_ARM64},
+    {"x86_64", BERZHOTUN_ROW_X86_64},
+    {"armv7", BERZHOTUN_ROW_ARM32},
+    {"gnu", BERZHOTUN_ROW_X86_64},
+};
+
 static struct {
-    int rows, same, otherwise, refused, sizes, signatures, types, differences;
+    int rows, same, otherwise, refused, sizes[3], signatures, types, differences;
 } counts;
 
 static void differs(const char *what) {
@@ -86,8 +98,8 @@ static void check_size(void) {
     if (strcmp(row.size, "-") == 0) {
         return;
     }
-    counts.sizes++;
-    if (berzhotun_size(LENT(tree), size) != 0 || size[0] != 1 || size[1] != strtoull(row.size, NULL, 10)) {
+    counts.sizes[row.machine]++;
+    if (berzhotun_size(LENT(tree), row.machine, size) != 0 || size[0] != 1 || size[1] != strtoull(row.size, NULL, 10)) {
         differs("has another size");
     }
 }
@@ -120,12 +132,24 @@ static void check_type(void) {
     }
 }
 
-/* Takes a line of the list apart; 0 where it has not exactly the six words of a row. */
+/* Whether the target is one that has a row of sizes. */
+static int find_machine(void) {
+    size_t i;
+    for (i = 0; i < sizeof targets / sizeof targets[0]; i++) {
+        if (strcmp(row.target, targets[i].target) == 0) {
+            row.machine = targets[i].machine;
+            return 1;
+        }
+    }
+    return 0;
+}
+
+/* Takes a line of the list apart; 0 where it has not exactly the six words of a row, or an unknown target. */
 static int parse_row(const char *line) {
     int end = 0;
     int words = sscanf(line, "%15s %15s %63s %511s %23s %511s %n", row.target, row.how, row.name, row.text, row.size,
                        row.outcome, &end);
-    return words == 6 && line[end] == '\0';
+    return words == 6 && line[end] == '\0' && find_machine();
 }
 
 int main(void) {
@@ -146,7 +170,7 @@ int main(void) {
     }
     printf("%d texts of real compilers: %d print as they were, %d print otherwise, as expected, %d refused,\n",
            counts.rows, counts.same, counts.otherwise, counts.refused);
-    printf("%d sizes, %d signatures with %d types; %d differences\n", counts.sizes, counts.signatures, counts.types,
-           counts.differences);
+    printf("%d, %d and %d sizes in rows 0, 1 and 2, %d signatures with %d types; %d differences\n", counts.sizes[0],
+           counts.sizes[1], counts.sizes[2], counts.signatures, counts.types, counts.differences);
     return counts.differences != 0 || unread != 0 || counts.rows == 0;
 }

@@ -1,19 +1,21 @@
 /*
  * Types of our own, for whose encodings compilers are asked (see README.md).
  *
- * Compiled for Apple's runtime, the texts stand in the constants text_NAME, with size_NAME and widths_NAME
+ * Compiled for Apple's runtime, the texts stand in the constants text_NAME, with size_NAME and sizing_NAME
  * beside them, and in the class's own tables; part_METHOD_N is the type that a method was declared with, 0 for
  * its result. Built for the GNU runtime, it is a program that prints them.
  */
 
-/* What a type's size rests on, for the comparison with sizes of 64-bit Apple ARM without padding. */
+/* Whether a type's size can be held against the row of its target, where sizes are without padding. */
 enum {
-    EVERYWHERE, /* widths that are the same on every target here */
-    WORDS,      /* also pointers or longs: 64-bit targets */
-    EXTENDED,   /* also long doubles: 64-bit ARM */
-    PADDED,     /* padding or shared bytes of bitfields, or no size at all: nowhere */
-    FOREIGN,    /* a type that the crate does not know: its text is refused */
+    EXACT,    /* no padding on any target here */
+    EXTENDED, /* the same, with long doubles */
+    PADDED,   /* padding or shared bytes of bitfields, or no size at all */
+    FOREIGN,  /* a type that the crate does not know: its text is refused */
 };
+
+/* For an int before a double: on armv7, for iOS, doubles stand at multiples of 4, so that there is no padding. */
+#define ALIGNED (_Alignof(double) == 4 ? EXACT : PADDED)
 
 @class Tariff;
 @protocol Rated;
@@ -225,14 +227,14 @@ typedef float Vector __attribute__((vector_size(16)));
 #endif
 
 #ifdef __BLOCKS__
-#define BLOCKS(X) X(RuleBlock, WORDS) X(HookBlock, WORDS)
+#define BLOCKS(X) X(RuleBlock, EXACT) X(HookBlock, EXACT)
 #else
 #define BLOCKS(X)
 #endif
 #ifdef __clang__
 #define CLANG_ONLY(X) \
-    X(AtomicInt, EVERYWHERE) X(AtomicPointer, WORDS) X(AtomicRate, PADDED) X(AtomicIntPointer, WORDS) \
-    X(AtomicRatePointer, WORDS) X(Counter, EVERYWHERE) X(BoolBits, PADDED)
+    X(AtomicInt, EXACT) X(AtomicPointer, EXACT) X(AtomicRate, PADDED) X(AtomicIntPointer, EXACT) \
+    X(AtomicRatePointer, EXACT) X(Counter, EXACT) X(BoolBits, PADDED)
 #define GCC_ONLY(X)
 #else
 #define CLANG_ONLY(X)
@@ -244,27 +246,26 @@ typedef float Vector __attribute__((vector_size(16)));
 #define LARGE(X)
 #endif
 
-/* Flat records are EVERYWHERE or WORDS. Rate has four bytes of padding. */
 #define TYPES(X) \
-    X(Char, EVERYWHERE) X(SignedChar, EVERYWHERE) X(Short, EVERYWHERE) X(Int, EVERYWHERE) X(Long, WORDS) \
-    X(LongLong, EVERYWHERE) X(UChar, EVERYWHERE) X(UShort, EVERYWHERE) X(UInt, EVERYWHERE) X(ULong, WORDS) \
-    X(ULongLong, EVERYWHERE) X(Float, EVERYWHERE) X(Double, EVERYWHERE) X(LongDouble, EXTENDED) \
-    X(FloatComplex, EVERYWHERE) X(DoubleComplex, EVERYWHERE) X(LongDoubleComplex, EXTENDED) \
-    X(Boolean, EVERYWHERE) X(String, WORDS) X(ConstString, WORDS) X(Octets, WORDS) X(Object, WORDS) \
-    X(Conforming, WORDS) X(Instance, WORDS) X(ClassObject, WORDS) X(Selector, WORDS) X(Cover, EVERYWHERE) \
-    X(Anything, WORDS) X(ConstAnything, WORDS) X(Ints, WORDS) X(ConstInts, WORDS) X(ConstPointer, WORDS) \
-    X(Threefold, WORDS) X(Strings, WORDS) X(ConstStrings, WORDS) X(Objects, WORDS) X(Selectors, WORDS) \
-    X(Handle, WORDS) X(HandleOut, WORDS) X(Rule, WORDS) X(Hook, WORDS) X(RuleFinder, WORDS) BLOCKS(X) \
-    X(Band, EVERYWHERE) X(Curves, WORDS) X(Grid, EVERYWHERE) X(Code, EVERYWHERE) X(Nothing, EVERYWHERE) \
-    X(Row, WORDS) X(Rate, PADDED) X(Point, EVERYWHERE) X(Box, EVERYWHERE) X(Unnamed, EVERYWHERE) \
-    X(Outer, EVERYWHERE) X(Empty, EVERYWHERE) X(Link, WORDS) X(Policy, WORDS) X(Table, PADDED) \
-    X(Flexible, EVERYWHERE) X(Driver_2, WORDS) X(Packed, EVERYWHERE) X(Number, EVERYWHERE) \
-    X(Value, WORDS) X(UnnamedUnion, EVERYWHERE) X(Tagged, WORDS) X(Shapes, EVERYWHERE) \
-    X(Flags, PADDED) X(Mixed, PADDED) X(Octet, EVERYWHERE) X(FullWord, EVERYWHERE) X(LongBits, PADDED) \
-    X(RatePointer, WORDS) X(RatePointer2, WORDS) X(RatePointer3, WORDS) \
-    X(ConstRatePointer, WORDS) X(BoxPointer, WORDS) X(ValuePointer, WORDS) X(ValuePointer2, WORDS) \
-    X(TablePointer, WORDS) X(FlagsPointer, WORDS) X(RateRow, WORDS) X(RatePointers, WORDS) \
-    X(RatePointers2, WORDS) CLANG_ONLY(X) LARGE(X) GCC_ONLY(X)
+    X(Char, EXACT) X(SignedChar, EXACT) X(Short, EXACT) X(Int, EXACT) X(Long, EXACT) \
+    X(LongLong, EXACT) X(UChar, EXACT) X(UShort, EXACT) X(UInt, EXACT) X(ULong, EXACT) \
+    X(ULongLong, EXACT) X(Float, EXACT) X(Double, EXACT) X(LongDouble, EXTENDED) \
+    X(FloatComplex, EXACT) X(DoubleComplex, EXACT) X(LongDoubleComplex, EXTENDED) \
+    X(Boolean, EXACT) X(String, EXACT) X(ConstString, EXACT) X(Octets, EXACT) X(Object, EXACT) \
+    X(Conforming, EXACT) X(Instance, EXACT) X(ClassObject, EXACT) X(Selector, EXACT) X(Cover, EXACT) \
+    X(Anything, EXACT) X(ConstAnything, EXACT) X(Ints, EXACT) X(ConstInts, EXACT) X(ConstPointer, EXACT) \
+    X(Threefold, EXACT) X(Strings, EXACT) X(ConstStrings, EXACT) X(Objects, EXACT) X(Selectors, EXACT) \
+    X(Handle, EXACT) X(HandleOut, EXACT) X(Rule, EXACT) X(Hook, EXACT) X(RuleFinder, EXACT) BLOCKS(X) \
+    X(Band, EXACT) X(Curves, EXACT) X(Grid, EXACT) X(Code, EXACT) X(Nothing, EXACT) \
+    X(Row, EXACT) X(Rate, ALIGNED) X(Point, EXACT) X(Box, EXACT) X(Unnamed, EXACT) \
+    X(Outer, EXACT) X(Empty, EXACT) X(Link, EXACT) X(Policy, EXACT) X(Table, ALIGNED) \
+    X(Flexible, EXACT) X(Driver_2, EXACT) X(Packed, EXACT) X(Number, EXACT) \
+    X(Value, EXACT) X(UnnamedUnion, EXACT) X(Tagged, EXACT) X(Shapes, EXACT) \
+    X(Flags, PADDED) X(Mixed, PADDED) X(Octet, EXACT) X(FullWord, EXACT) X(LongBits, PADDED) \
+    X(RatePointer, EXACT) X(RatePointer2, EXACT) X(RatePointer3, EXACT) \
+    X(ConstRatePointer, EXACT) X(BoxPointer, EXACT) X(ValuePointer, EXACT) X(ValuePointer2, EXACT) \
+    X(TablePointer, EXACT) X(FlagsPointer, EXACT) X(RateRow, EXACT) X(RatePointers, EXACT) \
+    X(RatePointers2, EXACT) CLANG_ONLY(X) LARGE(X) GCC_ONLY(X)
 
 /* A protocol: Apple's compiler writes its signatures a second time, with class names and the signatures of blocks.
    Each of them has one of these. */
@@ -470,10 +471,10 @@ typedef float Vector __attribute__((vector_size(16)));
 
 #ifdef __clang__
 
-#define TEXT(name, widths) \
+#define TEXT(name, sizing) \
     const char text_##name[] = @encode(name); \
     const unsigned long long size_##name = sizeof(name); \
-    const int widths_##name = widths;
+    const int sizing_##name = sizing;
 TYPES(TEXT)
 
 #define PART(method, at, type) const char part_##method##_##at[] = @encode(type);
@@ -484,7 +485,7 @@ PARTS(PART)
 #include <objc/runtime.h>
 #include <stdio.h>
 
-#define SHOW(name, widths) printf("encode %s %s %zu %d\n", #name, @encode(name), sizeof(name), widths);
+#define SHOW(name, sizing) printf("encode %s %s %zu %d\n", #name, @encode(name), sizeof(name), sizing);
 
 #define SHOW_PART(method, at, type) printf("part %s_%d %s\n", #method, at, @encode(type));
 

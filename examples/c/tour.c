@@ -21,7 +21,7 @@ static const char *const in_words[] = {
     "the lists are no sheet",
     "a struct or union has a name that is none",
     "the output is too short",
-    "the size is above 2^64 - 1",
+    "the size is above 2^64 - 1, or on 32-bit ARM 2^32 - 1",
     "the text ends where something must follow",
     "no type starts with this byte, or nothing is open that it closes",
     "this byte does not make a complex number",
@@ -35,6 +35,7 @@ static const char *const in_words[] = {
     "the number is above 4,294,967,295",
     "the signature has no byte",
     "the number starts with a surplus zero",
+    "there is no such row of sizes",
 };
 
 static const char *yes_or_no(uint64_t answer) {
@@ -73,7 +74,7 @@ static void show_print(const struct tree *tree) {
 
 static void show_size(const struct tree *tree) {
     uint64_t size[2];
-    uint64_t refusal = berzhotun_size(LENT(*tree), size);
+    uint64_t refusal = berzhotun_size(LENT(*tree), BERZHOTUN_ROW_APPLE_ARM64, size);
     if (refusal != 0) {
         printf("  %s\n", in_words[refusal]);
     } else if (size[0] == 0) {
@@ -106,6 +107,38 @@ static void read_print_size(void) {
         printf("\nThe words of {R=i^v}: the header, then each node's kind, two numbers, nodes below and itself");
         show_words(&tree);
     }
+}
+
+/* A type's size on one of the machines, as a column of a table. */
+static void show_column(const struct tree *tree, uint64_t row) {
+    uint64_t size[2];
+    uint64_t refusal = berzhotun_size(LENT(*tree), row, size);
+    if (refusal != 0) {
+        printf("   refusal %2" PRIu64, refusal);
+    } else if (size[0] == 0) {
+        printf(" %12s", "none");
+    } else {
+        printf(" %12" PRIu64, size[1]);
+    }
+}
+
+static void measure_some(void) {
+    static const char *const texts[] = {"l", "^v", "D", "{R=i^v}", "b0l3", "v", "[4294967296c]", "[0[4294967296c]]"};
+    static struct tree tree;
+    size_t i;
+    printf("\n%-18s %12s %12s %12s %12s\n", "bytes", "Apple ARM64", "x86_64", "32-bit ARM", "row 3");
+    for (i = 0; i < sizeof texts / sizeof texts[0]; i++) {
+        if (read_text(texts[i], &tree)) {
+            printf("%-18s", texts[i]);
+            show_column(&tree, BERZHOTUN_ROW_APPLE_ARM64);
+            show_column(&tree, BERZHOTUN_ROW_X86_64);
+            show_column(&tree, BERZHOTUN_ROW_ARM32);
+            show_column(&tree, 3);
+            printf("\n");
+        }
+    }
+    printf("  refusal %2u: %s\n", BERZHOTUN_SIZE_TOO_LARGE, in_words[BERZHOTUN_SIZE_TOO_LARGE]);
+    printf("  refusal %2u: %s\n", BERZHOTUN_NO_SUCH_ROW, in_words[BERZHOTUN_NO_SUCH_ROW]);
 }
 
 static void compare(const char *first, const char *second) {
@@ -244,6 +277,7 @@ static void refuse_some(void) {
 
 int main(void) {
     read_print_size();
+    measure_some();
     compare_some();
     explain_some();
     read_start("{R=i}16@0:8");

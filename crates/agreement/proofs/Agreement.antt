@@ -43,7 +43,7 @@ reads-readable = tree-readable
 pub starts-readable : (text : List ℕ) (l : Label) (cs : Trees) (rest : List ℕ) → fromStartOfStr text ≡ treeThen l cs rest → Readable (length text) (node l cs end)
 starts-readable = part-readable
 
--- Two trees with equal shown parts give equal prints, sizes and level comparisons, with trees on either side and with texts.
+-- Two trees with equal shown parts give equal prints, sizes on every machine and level comparisons, with trees on either side and with texts.
 pub shown-alike : (A B : Trees) → shown Top A ≡ shown Top B → ShownAlike A B
 shown-alike = shown-agrees
 

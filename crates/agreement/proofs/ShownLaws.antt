@@ -10,7 +10,7 @@ use borrow.Author.Tests.{eqb-true}
 use Rattle.kinds.specs.Compare.{compareLabels, compareChildren, compareEncodings, equivalentTo}
 use Rattle.kinds.specs.Expect.{Expected, _then_, expectContainer, expectNode, expectEncoding, isEmpty, equivalentToStr}
 use Rattle.kinds.specs.Parse.{stripLeadingQualifiers}
-use Rattle.kinds.specs.Primitive.{isObject, equivalent}
+use Rattle.kinds.specs.Primitive.{Widths, isObject, equivalent}
 use Rattle.kinds.specs.Print.{fields, printNode, print}
 use Rattle.kinds.specs.Size.{nodeSize, sizes, only, size}
 use Rattle.kinds.specs.Sound.{validLabel, validCount, valid}
@@ -53,16 +53,16 @@ print-shown v end = refl
 print-shown v (node l cs ts) = ap₂ (λ x y. x ++ y) (kept (λ x. printNode l v x) (λ u. print (inside l v) u) (shows l v) cs (shown (inside l v) cs) (print-hidden l v)
     (print-shown (inside l v) cs)) (print-shown v ts)
 
--- Sizes.
-size-hidden : (l : Label) (v : NestingLevel) → shows l v ≡ false → (x y : List (Option ℕ)) → nodeSize l v x ≡ nodeSize l v y
+-- Sizes, on any machine.
+size-hidden : (w : Widths) (l : Label) (v : NestingLevel) → shows l v ≡ false → (x y : List (Option ℕ)) → nodeSize w l v x ≡ nodeSize w l v y
 unfolding nodeSize
-size-hidden l v h = hidden (λ l v. (x y : List (Option ℕ)) → nodeSize l v x ≡ nodeSize l v y) (λ s x y. refl) (λ s x y. refl) l v h
+size-hidden w l v h = hidden (λ l v. (x y : List (Option ℕ)) → nodeSize w l v x ≡ nodeSize w l v y) (λ s x y. refl) (λ s x y. refl) l v h
 
-sizes-shown : (v : NestingLevel) (ts : Trees) → sizes v (shown v ts) ≡ sizes v ts
+sizes-shown : (w : Widths) (v : NestingLevel) (ts : Trees) → sizes w v (shown v ts) ≡ sizes w v ts
 unfolding sizes shown
-sizes-shown v end = refl
-sizes-shown v (node l cs ts) = ap₂ (λ x y. x ∷ y) (kept (λ x. nodeSize l v x) (λ u. sizes (inside l v) u) (shows l v) cs (shown (inside l v) cs) (size-hidden l v)
-    (sizes-shown (inside l v) cs)) (sizes-shown v ts)
+sizes-shown w v end = refl
+sizes-shown w v (node l cs ts) = ap₂ (λ x y. x ∷ y) (kept (λ x. nodeSize w l v x) (λ u. sizes w (inside l v) u) (shows l v) cs (shown (inside l v) cs) (size-hidden w l v)
+    (sizes-shown w (inside l v) cs)) (sizes-shown w v ts)
 
 end-shown : (v : NestingLevel) (ts : Trees) → isEnd (shown v ts) ≡ isEnd ts
 unfolding isEnd shown
@@ -198,7 +198,7 @@ unfolding size equivalentTo equivalentToStr
 shown-agrees A B e =
     record {
       prints = of-shown (print Top) (print-shown Top) A B e;
-      sizes = of-shown size (λ t. ap only (sizes-shown Top t)) A B e;
+      sizes = λ w. of-shown (size w) (λ t. ap only (sizes-shown w Top t)) A B e;
       first = λ C. of-shown (λ t. equivalentTo t C) (λ t. compare-shown Top t C) A B e;
       second = λ a b C c. sym (compare-shown-second Top C A c a) ∙ ap (compareEncodings false Top C) e ∙ compare-shown-second Top C B c b;
       texts = λ s. of-shown (λ t. equivalentToStr t s) (λ t. ap isEmpty (expect-shown Top t (stripLeadingQualifiers s))) A B e;

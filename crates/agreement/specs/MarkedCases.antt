@@ -9,7 +9,7 @@ use Rattle.kinds.specs.Compare.{equivalentTo}
 use Rattle.kinds.specs.Expect.{equivalentToStr}
 use Rattle.kinds.specs.Parse as P
 use Rattle.kinds.specs.Parse.{Whole, tree, treeThen, fromStr, fromStartOfStr}
-use Rattle.kinds.specs.Primitive.{kindOf}
+use Rattle.kinds.specs.Primitive.{kindOf, widths}
 use Rattle.kinds.specs.Print.{print}
 use Rattle.kinds.specs.Refusal.{number, place, refusedByte, refusedContainer}
 use Rattle.kinds.specs.Size.{size}
@@ -39,7 +39,7 @@ pub data Case : Type 0 where
   -- Whole-text reading gives the tree, or refuses.
   reads : List ℕ → Trees → Case
   refuses : List ℕ → Refused → Case
-  -- The tree has the size, or none.
+  -- The tree has the size, or none, on the machine of 01, which is row 0.
   hasSize : Trees → Option ℕ → Case
   -- The tree is compared with a text, or with a tree.
   againstText : Trees → List ℕ → Bool → Case
@@ -56,7 +56,7 @@ IsTree t = isOne t ≡ true
 abbrev pub Holds : Case → Type 0
 Holds (reads s t) = readTree s ≡ t
 Holds (refuses s r) = refusalOf (fromStr s) ≡ some r
-Holds (hasSize t n) = IsTree t × (size t ≡ n)
+Holds (hasSize t n) = IsTree t × (size (widths 0) t ≡ n)
 Holds (againstText t s answer) = IsTree t × (equivalentToStr t s ≡ answer)
 Holds (againstTree t u answer) = IsTree t × IsTree u × (equivalentTo t u ≡ answer)
 Holds (prints t s) = IsTree t × (print Top t ≡ s)

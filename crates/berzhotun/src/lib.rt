@@ -134,11 +134,16 @@ fn give_signature(reading: SignatureReading, values: &mut [u64; 3]) -> u64
 }
 
 #[no_mangle]
-pub extern "C" fn berzhotun_size(words: &[u64], names: &[u8], answer: &mut [u64; 2]) -> u64
-    ensures returns { λ r. ⌜ r ≡ sizeNumber (sizeAnswer (now (words .entry)) (now (names .entry))) ⌝ }
-    ensures answers { λ _. ⌜ now (answer .exit) ≡ sizeValues (sizeAnswer (now (words .entry)) (now (names .entry))) ⌝ }
+pub extern "C" fn berzhotun_size(
+    words: &[u64],
+    names: &[u8],
+    row: u64,
+    answer: &mut [u64; 2],
+) -> u64
+    ensures returns { λ r. ⌜ r ≡ sizeNumber (sizeAnswer row (now (words .entry)) (now (names .entry))) ⌝ }
+    ensures answers { λ _. ⌜ now (answer .exit) ≡ sizeValues (sizeAnswer row (now (words .entry)) (now (names .entry))) ⌝ }
 {
-    give_sized(encoding::size(words, names), answer)
+    give_sized(encoding::size(words, names, row), answer)
 }
 
 #[no_mangle]

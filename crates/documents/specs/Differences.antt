@@ -7,6 +7,7 @@ use mathlib.Core.Option.{Option, some, none}
 use Rattle.kinds.specs.Byte.{byte, bytes}
 use Rattle.kinds.specs.Compare.{equivalentTo}
 use Rattle.kinds.specs.Parse.{Whole, tree, refusal, fromStr}
+use Rattle.kinds.specs.Primitive.{widths}
 use Rattle.kinds.specs.Print.{print}
 use Rattle.kinds.specs.Refusal.{number}
 use Rattle.kinds.specs.Size.{size}
@@ -34,7 +35,7 @@ pub data Row : Type 0 where
   undefined : Types → List ℕ → List ℕ → Row
   -- No encoding of the guide's begins with the text's first byte; the crate reads the text as the tree and prints the second text.
   noCode : ℕ → List ℕ → Trees → List ℕ → Row
-  -- The guide's bits of a long, and the crate's bytes.
+  -- The guide's bits of a long, and the crate's bytes, which are those of row 0.
   longIs : ℕ → ℕ → Row
   -- The guide encodes the type as the text, which the crate refuses, with 01's number and the place.
   refusesType : Types → List ℕ → ℕ → ℕ → Row
@@ -61,7 +62,7 @@ Holds (alsoReads t g s) = (isType t ≡ true) × (encode zero t ≡ g) × (print
 Holds (noType t s u) = (isType t ≡ false) × (encode zero t ≡ s) × (readTree s ≡ u)
 Holds (undefined t s p) = (isType t ≡ false) × (readTree s ≡ trees t) × (print Top (trees t) ≡ p)
 Holds (noCode b s u p) = (begins b ≡ false) × (readTree (b ∷ s) ≡ u) × (print Top u ≡ p)
-Holds (longIs bits n) = (G.longBits ≡ bits) × (size (readTree (encode zero (only G.long))) ≡ some n)
+Holds (longIs bits n) = (G.longBits ≡ bits) × (size (widths 0) (readTree (encode zero (only G.long))) ≡ some n)
 Holds (refusesType t s n place) = (isType t ≡ true) × (encode zero t ≡ s) × Refuses s n place
 Holds (refuses d s n place) = (d ≡ s) × Refuses s n place
 Holds (differ s t) = (equivalentTo (readTree s) (readTree t) ≡ false) × (equivalentTo (readTree t) (readTree s) ≡ false)

@@ -28,9 +28,9 @@ pub fn equivalent_to_str(words: &[u64], names: &[u8], text: &[u8]) -> Compared
     expect::equivalent_to_str(words, names, text)
 }
 
-// The size of the tree in a sheet.
-pub fn size(words: &[u64], names: &[u8]) -> Sized
-    ensures { λ r. ⌜ r ≡ sizeAnswer (now (words .entry)) (now (names .entry)) ⌝ }
+// The size of the tree in a sheet, in a row: on 64-bit Apple ARM, the machine that the Rust's sizes are taken from, in row 0.
+pub fn size(words: &[u64], names: &[u8], row: u64) -> Sized
+    ensures { λ r. ⌜ r ≡ sizeAnswer row (now (words .entry)) (now (names .entry)) ⌝ }
 {
-    helper::size(words, names)
+    helper::size(words, names, row)
 }

@@ -1,19 +1,23 @@
 -- What the functions below the entry points answer: sizes cut off at 2^64 - 1, and the comparison of fields.
-use Prim.Native.Nat.{ℕ, _+_, _-_, _*_, max}
+use Prim.Native.Nat.{ℕ, _+_, _-_, _*_, _<_, max}
+use mathlib.Core.Path.{_≡_}
 use mathlib.Core.Bool.{Bool, cond, _||_}
 use mathlib.Core.List.{List}
 use mathlib.Core.Option.{Option, some, none}
 use lib.Dec.{leb, eqb}
+use lib.ListN.{getD}
 use Rattle.kinds.specs.Compare.{compareEncodings, levelFor}
 use Rattle.kinds.specs.Kind.{insideKind}
 use Rattle.kinds.specs.Level.{showsFields}
 use Rattle.kinds.specs.Parse.{maxU64}
-use Rattle.kinds.specs.Primitive.{primitiveSize}
+use Rattle.kinds.specs.Primitive.{Widths, primitiveSize, isRow, widths}
 use Rattle.kinds.specs.Sheet.{countAt, labelAt, trees, hasOneChild}
 use Rattle.kinds.specs.Size.{nodeSize, sizes, plus, larger, times, bitBytes, sum, largest}
 use Rattle.kinds.specs.Tree.{Trees, isEnd, inside}
 use Rattle.kinds.specs.declared.NestingLevel.{NestingLevel}
-use Rattle.kinds.specs.declared.Refusal.the-variants.{SizeTooLarge}
+use Rattle.kinds.specs.declared.NestingLevel.the-variants.{Top}
+use Rattle.kinds.specs.declared.Refusal.the-variants.{SizeTooLarge, NoSuchRow}
+use Rattle.helper.specs.Answer.{maxSize, sized}
 use Rattle.helper.specs.declared.Measured.{Measured}
 use Rattle.helper.specs.declared.Measured.the-variants.{Nothing, Bytes, TooLarge}
 use Rattle.helper.specs.declared.Sized.{Sized}
@@ -28,11 +32,11 @@ unfoldable pub clip : Option ℕ → Measured
 clip none = Nothing
 clip (some n) = fit n
 
--- A size as `size` hands it out.
-abbrev pub measured : Measured → Sized
-measured Nothing = S.Nothing
-measured (Bytes n) = S.Bytes n
-measured TooLarge = S.Refused SizeTooLarge
+-- A size as `size` hands it out, where sizes are at most `limit`.
+abbrev pub measured : ℕ → Measured → Sized
+measured limit Nothing = S.Nothing
+measured limit (Bytes n) = cond (leb n limit) (S.Bytes n) (S.Refused SizeTooLarge)
+measured limit TooLarge = S.Refused SizeTooLarge
 
 -- The sum of two sizes: none goes before too large.
 unfoldable pub plusMeasured : Measured → Measured → Measured
@@ -80,12 +84,29 @@ unfoldable pub isLeaf : ℕ → Bool
 isLeaf k = leb k 24 || (eqb k 26 || leb 31 k)
 
 -- The size of such a node with the second number `b`.
-unfoldable pub leafSize : ℕ → ℕ → Option ℕ
-leafSize k b = cond (leb k 23) (primitiveSize k) (cond (eqb k 24) (some (bitBytes b)) (cond (eqb k 26) (some 8) none))
+unfoldable pub leafSize : Widths → ℕ → ℕ → Option ℕ
+leafSize m k b = cond (leb k 23) (primitiveSize m k) (cond (eqb k 24) (some (bitBytes b)) (cond (eqb k 26) (some (m .pointer)) none))
+
+-- A number of the table: 0 for none.
+unfoldable pub entry : ℕ → Option ℕ
+entry n = cond (eqb n 0) none (some n)
+
+-- The size of such a node by a row of the table, in which a pointer's is that of the string.
+unfoldable pub leafEntry : List ℕ → ℕ → ℕ → Option ℕ
+leafEntry row k b = cond (leb k 23) (entry (getD row k 0)) (cond (eqb k 24) (some (bitBytes b)) (cond (eqb k 26) (entry (getD row 18 0)) none))
+
+-- The row has the sizes of a machine.
+pub record RowOf (row : List ℕ) (m : Widths) : Type 0 where
+  pub codes : (k : ℕ) → k < 24 → entry (getD row k 0) ≡ primitiveSize m k
+  pub pointers : entry (getD row 18 0) ≡ some (m .pointer)
 
 -- The size of the node at `at`.
-unfoldable pub sizeAt : List ℕ → List ℕ → ℕ → NestingLevel → Option ℕ
-sizeAt names w at v = nodeSize (labelAt names w at) v (sizes (inside (labelAt names w at) v) (trees names w (countAt w at - 1) (at + 4)))
+unfoldable pub sizeAt : Widths → List ℕ → List ℕ → ℕ → NestingLevel → Option ℕ
+sizeAt m names w at v = nodeSize m (labelAt names w at) v (sizes m (inside (labelAt names w at) v) (trees names w (countAt w at - 1) (at + 4)))
+
+-- The answer for the tree of the nodes `w`, as of `sizedIn`.
+unfoldable pub answerAt : ℕ → List ℕ → List ℕ → Sized
+answerAt row names w = cond (isRow row) (sized (maxSize row) (sizeAt (widths row) names w 0 Top)) (S.Refused NoSuchRow)
 
 -- ---- Comparison.
 

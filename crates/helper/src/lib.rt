@@ -7,13 +7,13 @@ ghost use mathlib.Core.List.{List, []};
 ghost use lib.ListN.{length, take, drop};
 ghost use Rattle.kinds.specs.Byte.{sameBytes};
 ghost use Rattle.kinds.specs.Compare.{compareLabels, levelFor};
-ghost use Rattle.kinds.specs.Primitive.{primitiveSize};
+ghost use Rattle.kinds.specs.Primitive.{Widths};
 ghost use Rattle.kinds.specs.Sheet.{label, labelAt, firstAt, secondAt, isContainerKind, trees};
 ghost use Rattle.kinds.specs.Size.{bitBytes};
-ghost use Rattle.kinds.specs.Tree.{inside};
+ghost use Rattle.kinds.specs.Tree.{inside, end, node, primitive};
 ghost use Rattle.kinds.specs.Walk.{NodeAt, TreesAt, KindAndName, KindsAndNames};
-ghost use Rattle.helper.specs.Answer.{sizeAnswer, compareAnswer};
-ghost use Rattle.helper.specs.Measure.{clip, plusMeasured, largerMeasured, timesMeasured, joinMeasured, fold, holdingMeasured, isLeaf, leafSize, sizeAt, compareFields, shownCount, levelAfter, measured};
+ghost use Rattle.helper.specs.Answer.{maxSize, sizedIn, sizeAnswer, compareAnswer};
+ghost use Rattle.helper.specs.Measure.{clip, plusMeasured, largerMeasured, timesMeasured, joinMeasured, fold, holdingMeasured, isLeaf, entry, leafEntry, RowOf, sizeAt, answerAt, compareFields, shownCount, levelAfter, measured};
 use kinds::ARRAY;
 use kinds::BIT_FIELD;
 use kinds::Compared;
@@ -23,7 +23,9 @@ use kinds::NestingLevel;
 use kinds::POINTER;
 use kinds::PRIMITIVES;
 use kinds::PrimitiveSize;
+use kinds::ROWS;
 use kinds::Refusal;
+use kinds::SIZES;
 use kinds::STRUCT;
 use kinds::TYPED_BIT_FIELD;
 use kinds::equivalent_kinds;
@@ -33,6 +35,12 @@ use sheet::Checked;
 use sheet::CheckedBoth;
 use sheet::check;
 use sheet::check_both;
+
+// The kind word of a primitive that is a pointer, by which a pointer's size is found in a row.
+const STRING: usize = 18;
+
+// The row in which pointers have 32 bits.
+const ROW_OF_32_BITS: u64 = 2;
 
 // A size: none, a count of bytes, or one above 2^64 - 1.
 pub enum Measured {
@@ -118,21 +126,28 @@ impl Measured {
         }
     }
 
-    fn of_primitive(kind: u64) -> Measured
-        ensures { λ r. ⌜ r ≡ clip (primitiveSize kind) ⌝ }
+    // A number of the table of sizes: 0 for none.
+    fn of_entry(n: u8) -> Measured
+        ensures { λ r. ⌜ r ≡ clip (entry n) ⌝ }
     {
-        match primitive_size(kind) {
-            PrimitiveSize::Nothing => Measured::Nothing,
-            PrimitiveSize::Bytes(n) => Measured::Bytes(n),
+        if n == 0 {
+            return Measured::Nothing;
         }
+        Measured::Bytes(n as u64)
     }
 
-    fn answer(self) -> Sized
-        ensures { λ r. ⌜ r ≡ measured self ⌝ }
+    // What a call answers where sizes are at most `limit`.
+    fn answer(self, limit: u64) -> Sized
+        ensures { λ r. ⌜ r ≡ measured limit self ⌝ }
     {
         match self {
             Measured::Nothing => Sized::Nothing,
-            Measured::Bytes(n) => Sized::Bytes(n),
+            Measured::Bytes(n) => {
+                if limit < n {
+                    return Sized::Refused(Refusal::SizeTooLarge);
+                }
+                Sized::Bytes(n)
+            }
             Measured::TooLarge => Sized::Refused(Refusal::SizeTooLarge),
         }
     }
@@ -215,32 +230,33 @@ fn is_leaf(kind: u64) -> bool
     NONE <= kind
 }
 
-fn leaf_size(kind: u64, bits: u64) -> Measured
-    ensures { λ r. ⌜ r ≡ clip (leafSize kind bits) ⌝ }
+// The size of such a node, by the row of sizes.
+fn leaf_size(sizes: &[u8; 24], kind: u64, bits: u64) -> Measured
+    ensures { λ r. ⌜ r ≡ clip (leafEntry (now (sizes .entry)) kind bits) ⌝ }
 {
     if kind < PRIMITIVES {
-        return Measured::of_primitive(kind);
+        return Measured::of_entry(sizes[kind as usize]);
     }
     if kind == BIT_FIELD {
         return Measured::Bytes(bit_bytes(bits));
     }
     if kind == POINTER {
-        return Measured::Bytes(8);
+        return Measured::of_entry(sizes[STRING]);
     }
     Measured::Nothing
 }
 
 // The size of the node at `at`, from the sizes of its children. Leaves among a container's fields need no call of their own.
-fn size_of(nodes: &[u64], at: usize, level: NestingLevel) -> Measured
+fn size_of(sizes: &[u8; 24], nodes: &[u64], at: usize, level: NestingLevel) -> Measured
     requires { ⌜ NodeAt (now nodes) at ⌝ }
-    ensures { λ r. ⌜ ((s : List ℕ) → r ≡ clip (sizeAt s (now (nodes .entry)) at level)) ⌝ }
+    ensures { λ r. ⌜ ((m : Widths) → RowOf (now (sizes .entry)) m → (s : List ℕ) → r ≡ clip (sizeAt m s (now (nodes .entry)) at level)) ⌝ }
 {
     let kind = nodes[at];
     if is_leaf(kind) {
-        return leaf_size(kind, nodes[at + 2]);
+        return leaf_size(sizes, kind, nodes[at + 2]);
     }
     if kind < STRUCT {
-        let item = size_of(&nodes[0..], at + 4, level.inside(kind));
+        let item = size_of(sizes, &nodes[0..], at + 4, level.inside(kind));
         return item.held_by(kind, nodes[at + 1], nodes[at + 2]);
     }
     let Fields::Included(inner) = level.container_include_fields() else {
@@ -252,7 +268,7 @@ fn size_of(nodes: &[u64], at: usize, level: NestingLevel) -> Measured
     while 0 < left {
         let field = nodes[child];
         if field < TYPED_BIT_FIELD {
-            all = all.join(kind, leaf_size(field, nodes[child + 2]));
+            all = all.join(kind, leaf_size(sizes, field, nodes[child + 2]));
             child += 4;
             left -= 1;
             continue;
@@ -263,9 +279,9 @@ fn size_of(nodes: &[u64], at: usize, level: NestingLevel) -> Measured
             left -= 1;
             continue;
         }
-        let mut item = leaf_size(field, nodes[child + 2]);
+        let mut item = leaf_size(sizes, field, nodes[child + 2]);
         if !is_leaf(field) {
-            item = size_of(&nodes[0..], child, inner);
+            item = size_of(sizes, &nodes[0..], child, inner);
         }
         all = all.join(kind, item);
         let count = nodes[child + 3] as usize;
@@ -461,13 +477,54 @@ fn compare_fields(
 }
 
 // The size of the tree in a sheet.
-pub fn size(words: &[u64], names: &[u8]) -> Sized
-    ensures { λ r. ⌜ r ≡ sizeAnswer (now (words .entry)) (now (names .entry)) ⌝ }
+// The largest size in a row.
+fn max_size(row: u64) -> u64
+    ensures { λ r. ⌜ r ≡ maxSize row ⌝ }
+{
+    if row == ROW_OF_32_BITS {
+        return 4294967295;
+    }
+    18446744073709551615
+}
+
+// The size in a row of the tree of the nodes. The row is looked up once: a constant table is put on the stack wherever it is indexed.
+fn nodes_size(row: u64, nodes: &[u64]) -> Sized
+    requires { ⌜ NodeAt (now nodes) 0 ⌝ }
+    ensures { λ r. ⌜ ((s : List ℕ) → r ≡ answerAt row s (now (nodes .entry))) ⌝ }
+{
+    if ROWS <= row {
+        return Sized::Refused(Refusal::NoSuchRow);
+    }
+    let table = SIZES;
+    let sizes = &table[row as usize];
+    let kind = nodes[0];
+    if is_leaf(kind) {
+        return leaf_size(sizes, kind, nodes[2]).answer(max_size(row));
+    }
+    size_of(sizes, &nodes[0..], 0, NestingLevel::new()).answer(max_size(row))
+}
+
+// The size in a row of a tree that is one code.
+fn code_size(row: u64, kind: u64) -> Sized
+    ensures { λ r. ⌜ r ≡ sizedIn row (node (primitive kind) end end) ⌝ }
+{
+    if ROWS <= row {
+        return Sized::Refused(Refusal::NoSuchRow);
+    }
+    match primitive_size(row, kind) {
+        PrimitiveSize::Nothing => Sized::Nothing,
+        PrimitiveSize::Bytes(n) => Sized::Bytes(n),
+    }
+}
+
+// The size of the tree in a sheet in a row.
+pub fn size(words: &[u64], names: &[u8], row: u64) -> Sized
+    ensures { λ r. ⌜ r ≡ sizeAnswer row (now (words .entry)) (now (names .entry)) ⌝ }
 {
     match check(words, names) {
         Checked::Refused(why) => Sized::Refused(why),
-        Checked::Code(_, kind) => Measured::of_primitive(kind).answer(),
-        Checked::Nodes(first, _) => size_of(&words[first..], 0, NestingLevel::new()).answer(),
+        Checked::Code(_, kind) => code_size(row, kind),
+        Checked::Nodes(first, _) => nodes_size(row, &words[first..]),
     }
 }
 

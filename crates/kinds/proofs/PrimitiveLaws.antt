@@ -1,14 +1,15 @@
 -- Laws of the codes and sizes of primitives.
 use Prim.Native.Nat.{ℕ, suc, zero, _≤_, _<_}
-use mathlib.Core.Path.{_≡_, refl, ap, sym, _∙_}
-use mathlib.Core.Bool.{Bool, true, false, false≢true}
+use native.Mathlib.Omega.{arith}
+use mathlib.Core.Path.{_≡_, refl, ap, sym, _∙_, subst}
+use mathlib.Core.Bool.{Bool, true, false, cond, false≢true}
 use mathlib.Core.List.{List, [], _∷_, map}
-use mathlib.Core.Option.{Option, some, none}
-use lib.Dec.{eqb}
-use borrow.Author.Tests.{eq-eqb, ne-eqb, eqb-true}
+use mathlib.Core.Option.{Option, some, none, Option·getD}
+use lib.Dec.{eqb, leb, ltb}
+use borrow.Author.Tests.{eq-eqb, ne-eqb, eqb-true, lt-leb, leb-true, ltb-true, ltb-false}
 use lib.ListN.{getD, List·getD-eq-default}
 use Rattle.kinds.specs.Byte.{byte, bytes, sameBytes}
-use Rattle.kinds.specs.Primitive.{codes, code, appleArm, width, primitives, primitiveSize}
+use Rattle.kinds.specs.Primitive.{codes, code, width, primitives, primitiveSize, isRow, widths, sizeIn, sizeRows}
 use Rattle.kinds.proofs.TableLaws.{everyBelow, passBelow, same-bytes}
 
 -- The two tables of the code.
@@ -52,15 +53,20 @@ code-beyond k h = List·getD-eq-default codes [] h
 
 -- ---- Sizes.
 
-pub size-beyond : (k : ℕ) → 24 ≤ k → primitiveSize k ≡ none
-unfolding primitiveSize
-size-beyond k h = List·getD-eq-default (map (width appleArm) primitives) none h
+pub size-beyond : (row k : ℕ) → 24 ≤ k → sizeIn row k ≡ none
+unfolding sizeIn primitiveSize
+size-beyond row k h = go (isRow row)
+  where
+    go : (t : Bool) → cond t (getD (map (width (widths row)) primitives) k none) none ≡ none
+    go true = List·getD-eq-default (map (width (widths row)) primitives) none h
+    go false = refl
 
--- The table of the code; 0 for none.
-abbrev sizes : List ℕ
-sizes = 1 ∷ 2 ∷ 4 ∷ 8 ∷ 8 ∷ 1 ∷ 2 ∷ 4 ∷ 8 ∷ 8 ∷ 4 ∷ 8 ∷ 8 ∷ 8 ∷ 16 ∷ 16 ∷ 1 ∷ 0 ∷ 8 ∷ 8 ∷ 8 ∷ 8 ∷ 8 ∷ 0 ∷ []
+pub no-row : (row k : ℕ) → 3 ≤ row → sizeIn row k ≡ none
+unfolding sizeIn
+no-row row k h = rw (lt-leb row 2 h)
 
-unfoldable positive : ℕ → Option ℕ
+-- A number of the table; 0 for none.
+positive : ℕ → Option ℕ
 positive zero = none
 positive (suc n) = some (suc n)
 
@@ -77,25 +83,56 @@ same-size none (some b) h = absurd (false≢true h)
 same-size (some a) none h = absurd (false≢true h)
 same-size (some a) (some b) h = ap some (eqb-true a b h)
 
-sized-right : ℕ → Bool
-sized-right k = same (positive (getD sizes k 0)) (primitiveSize k)
+sized-right : ℕ → ℕ → Bool
+sized-right row k = same (positive (getD (getD sizeRows row []) k 0)) (sizeIn row k)
 
-all-sized : everyBelow sized-right 24 ≡ true
-unfolding everyBelow sized-right same positive primitiveSize
+row-right : ℕ → Bool
+row-right row = everyBelow (sized-right row) 24
+
+all-sized : everyBelow row-right 3 ≡ true
+unfolding everyBelow row-right sized-right same positive sizeIn primitiveSize
 all-sized = refl
 
-table-size : (k : ℕ) → k < 24 → positive (getD sizes k 0) ≡ primitiveSize k
-unfolding sized-right
-table-size k h = same-size (positive (getD sizes k 0)) (primitiveSize k) (passBelow sized-right 24 all-sized k h)
+table-size : (row k : ℕ) → row < 3 → k < 24 → positive (getD (getD sizeRows row []) k 0) ≡ sizeIn row k
+unfolding sized-right row-right
+table-size row k g h = same-size (positive (getD (getD sizeRows row []) k 0)) (sizeIn row k)
+    (passBelow (sized-right row) 24 (passBelow row-right 3 all-sized row g) k h)
 
-pub size-none : (k : ℕ) → k < 24 → getD sizes k 0 ≡ 0 → none ≡ primitiveSize k
+pub size-none : (row k : ℕ) → row < 3 → k < 24 → getD (getD sizeRows row []) k 0 ≡ 0 → none ≡ sizeIn row k
 unfolding positive
-size-none k h e = sym (ap positive e) ∙ table-size k h
+size-none row k g h e = sym (ap positive e) ∙ table-size row k g h
 
-pub size-some : (k : ℕ) → k < 24 → (getD sizes k 0 ≡ 0 → ⊥) → some (getD sizes k 0) ≡ primitiveSize k
+pub size-some : (row k : ℕ) → row < 3 → k < 24 → (getD (getD sizeRows row []) k 0 ≡ 0 → ⊥) → some (getD (getD sizeRows row []) k 0) ≡ sizeIn row k
 unfolding positive
-size-some k h e = go (getD sizes k 0) e ∙ table-size k h
+size-some row k g h e = go (getD (getD sizeRows row []) k 0) e ∙ table-size row k g h
   where
     go : (n : ℕ) → (n ≡ 0 → ⊥) → some n ≡ positive n
-    go zero p = absurd (p refl)
-    go (suc n) p = refl
+    go zero e = absurd (e refl)
+    go (suc n) e = refl
+
+-- No primitive has more than 32 bytes.
+small : ℕ → ℕ → Bool
+small row k = leb (Option·getD (sizeIn row k) 0) 32
+
+row-small : ℕ → Bool
+row-small row = everyBelow (small row) 24
+
+all-small : everyBelow row-small 3 ≡ true
+unfolding everyBelow row-small small sizeIn primitiveSize
+all-small = refl
+
+pub size-small : (row k n : ℕ) → some n ≡ sizeIn row k → n ≤ 32
+unfolding small row-small
+size-small row k n e = go (ltb row 3) refl (ltb k 24) refl
+  where
+    not-some : sizeIn row k ≡ none → ⊥
+    not-some f = let z : _≡_ {A = ℕ} 0 1 = cc in absurd (omega arith)
+
+    up-to : row < 3 → k < 24 → n ≤ 32
+    up-to g h = subst (λ x. Option·getD x 0 ≤ 32) (sym e)
+        (leb-true (Option·getD (sizeIn row k) 0) 32 (passBelow (small row) 24 (passBelow row-small 3 all-small row g) k h))
+
+    go : (t : Bool) → ltb row 3 ≡ t → (u : Bool) → ltb k 24 ≡ u → n ≤ 32
+    go true p true q = up-to (ltb-true row 3 p) (ltb-true k 24 q)
+    go true p false q = absurd (not-some (size-beyond row k (ltb-false k 24 q)))
+    go false p u q = absurd (not-some (no-row row k (ltb-false row 3 p)))

@@ -1,9 +1,9 @@
 -- Primitives (helper.rs, `Primitive`): their kind words in a sheet (01, "The sheet"), codes, equivalents and sizes.
 use Prim.Native.Nat.{ℕ, _*_}
-use mathlib.Core.Bool.{Bool, _&&_, _||_}
+use mathlib.Core.Bool.{Bool, cond, _&&_, _||_}
 use mathlib.Core.List.{List, [], _∷_, map}
-use mathlib.Core.Option.{Option, some, none}
-use lib.Dec.{eqb}
+use mathlib.Core.Option.{Option, some, none, Option·getD}
+use lib.Dec.{eqb, leb}
 use lib.ListN.{getD}
 use Rattle.kinds.specs.Byte.{bytes, among}
 use Rattle.kinds.specs.declared.Code.{Code}
@@ -72,12 +72,8 @@ pub record Widths : Type 0 where
   pub pointer : ℕ
   pub long-double : ℕ
 
--- Those of 64-bit Apple ARM.
-abbrev pub appleArm : Widths
-appleArm = record { long = 8; pointer = 8; long-double = 8 }
-
--- Char and bool 1, short 2, int and float 4, long, long long, double, long double and pointers 8, complex twice its part; void and
--- Unknown have none (01, "Sizes").
+-- Char and bool 1, short 2, int and float 4, long long and double 8, complex twice its part; long, pointers and long double are the
+-- machine's; void and Unknown have none (01, "Sizes"; 02, N5).
 abbrev pub width : Widths → Primitive → Option ℕ
 width w P.Char = some 1
 width w P.UChar = some 1
@@ -113,8 +109,34 @@ primitives =
     ∷ P.Bool ∷ P.Void ∷ P.String ∷ P.Object ∷ P.Block ∷ P.Class ∷ P.Sel ∷ P.Unknown ∷ []
 
 -- The size of the primitive of kind `p`; other kinds have none.
-unfoldable pub primitiveSize : ℕ → Option ℕ
-primitiveSize p = getD (map (width appleArm) primitives) p none
+unfoldable pub primitiveSize : Widths → ℕ → Option ℕ
+primitiveSize w p = getD (map (width w) primitives) p none
+
+-- The machines in the order of their row numbers (02, N5): 64-bit Apple ARM, the machine of 01; x86_64; 32-bit ARM.
+abbrev pub machines : List Widths
+machines =
+    record { long = 8; pointer = 8; long-double = 8 }
+    ∷ record { long = 8; pointer = 8; long-double = 16 }
+    ∷ record { long = 4; pointer = 4; long-double = 8 } ∷ []
+
+-- Whether there is a row of this number.
+abbrev pub isRow : ℕ → Bool
+isRow row = leb row 2
+
+-- The widths of a row. A number that is no row's is turned away by the calls; here it has those of row 0.
+abbrev pub widths : ℕ → Widths
+widths row = getD machines row (record { long = 8; pointer = 8; long-double = 8 })
+
+-- The size of the primitive of kind `p` in a row; a number that is no row's has none.
+unfoldable pub sizeIn : ℕ → ℕ → Option ℕ
+sizeIn row p = cond (isRow row) (primitiveSize (widths row) p) none
+
+-- A machine's row of sizes in the order of `Primitive`, 0 for none, and the rows of all machines.
+abbrev pub sizeRow : Widths → List ℕ
+sizeRow w = map (λ p. Option·getD (width w p) 0) primitives
+
+abbrev pub sizeRows : List (List ℕ)
+sizeRows = map sizeRow machines
 
 -- A size as the functions hand it out.
 abbrev pub sizeOf : PrimitiveSize → Option ℕ

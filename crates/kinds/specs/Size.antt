@@ -1,11 +1,11 @@
--- `size` (helper.rs), in numbers of any length. `none` is no size.
+-- `size` (helper.rs) on a machine (02, N5), in numbers of any length. `none` is no size.
 use Prim.Native.Nat.{ℕ, zero, suc, _+_, _*_, _/_, max}
 use mathlib.Core.Bool.{cond}
 use mathlib.Core.List.{List, [], _∷_}
 use mathlib.Core.Option.{Option, some, none, Option·getD}
 use lib.Dec.{leb}
 use Rattle.kinds.specs.Level.{showsFields}
-use Rattle.kinds.specs.Primitive.{appleArm, primitiveSize}
+use Rattle.kinds.specs.Primitive.{Widths, primitiveSize}
 use Rattle.kinds.specs.Tree as T
 use Rattle.kinds.specs.Tree.{Label, Trees, end, node, primitive, bitField, typedBitField, pointer, atomic, array, struct, union, inside}
 use Rattle.kinds.specs.declared.NestingLevel.{NestingLevel}
@@ -50,22 +50,22 @@ only [] = none
 only (a ∷ s) = a
 
 -- A node's size from its children's sizes.
-unfoldable pub nodeSize : Label → NestingLevel → List (Option ℕ) → Option ℕ
-nodeSize (primitive p) v xs = primitiveSize p
-nodeSize (bitField n) v xs = some (bitBytes n)
-nodeSize (typedBitField o n) v xs = some (max (bitBytes n) (Option·getD (only xs) 0))
-nodeSize pointer v xs = some (appleArm .pointer)
-nodeSize atomic v xs = only xs
-nodeSize (array n) v xs = times n (only xs)
-nodeSize (struct s) v xs = cond (showsFields v) (sum xs) none
-nodeSize (union s) v xs = cond (showsFields v) (largest xs) none
-nodeSize T.none v xs = none
+unfoldable pub nodeSize : Widths → Label → NestingLevel → List (Option ℕ) → Option ℕ
+nodeSize w (primitive p) v xs = primitiveSize w p
+nodeSize w (bitField n) v xs = some (bitBytes n)
+nodeSize w (typedBitField o n) v xs = some (max (bitBytes n) (Option·getD (only xs) 0))
+nodeSize w pointer v xs = some (w .pointer)
+nodeSize w atomic v xs = only xs
+nodeSize w (array n) v xs = times n (only xs)
+nodeSize w (struct s) v xs = cond (showsFields v) (sum xs) none
+nodeSize w (union s) v xs = cond (showsFields v) (largest xs) none
+nodeSize w T.none v xs = none
 
 -- The size of each of the trees.
-unfoldable pub sizes : NestingLevel → Trees → List (Option ℕ)
-sizes v end = []
-sizes v (node l cs ts) = nodeSize l v (sizes (inside l v) cs) ∷ sizes v ts
+unfoldable pub sizes : Widths → NestingLevel → Trees → List (Option ℕ)
+sizes w v end = []
+sizes w v (node l cs ts) = nodeSize w l v (sizes w (inside l v) cs) ∷ sizes w v ts
 
 -- The size of a tree.
-unfoldable pub size : Trees → Option ℕ
-size t = only (sizes Top t)
+unfoldable pub size : Widths → Trees → Option ℕ
+size w t = only (sizes w Top t)

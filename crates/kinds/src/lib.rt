@@ -3,7 +3,7 @@ ghost use mathlib.Core.Path.{_≡_};
 ghost use Rattle.kinds.specs.Kind.{containerOf, isIndirection, insideKind, childrenLevel};
 ghost use Rattle.kinds.specs.Level.{indirection, containerIncludeFields};
 ghost use Rattle.kinds.specs.Name.{isNameByte, verifyName};
-ghost use Rattle.kinds.specs.Primitive.{kindOf, codeBytes, code, isObject, equivalent, sizeOf, primitiveSize};
+ghost use Rattle.kinds.specs.Primitive.{kindOf, codeBytes, code, isObject, equivalent, sizeOf, sizeIn, sizeRows};
 ghost use Rattle.kinds.specs.Container.{startByte, endByte, prefixByte};
 ghost use Rattle.kinds.specs.Sheet.{isContainerKind};
 ghost use Rattle.kinds.specs.Parse.{unknownDigit};
@@ -120,7 +120,7 @@ pub enum ErrorKind {
 }
 
 // Why an input is turned away: document 01's 1 to 6, and 7 to 15 with their place; of signatures 16 and 17 with their place, and 18; of strict reading 19
-// with its place.
+// with its place; of size 20.
 pub enum Refusal {
     TextTooLong,
     ListTooShort,
@@ -132,6 +132,7 @@ pub enum Refusal {
     ExpectedOffset(usize),
     OffsetTooLarge(usize),
     EmptySignature,
+    NoSuchRow,
 }
 
 // What a comparison answers.
@@ -296,6 +297,7 @@ impl Refusal {
             Refusal::ExpectedOffset(at) => [16, at as u64, 0, 0],
             Refusal::OffsetTooLarge(at) => [17, at as u64, 0, 0],
             Refusal::EmptySignature => [18, 0, 0, 0],
+            Refusal::NoSuchRow => [20, 0, 0, 0],
         }
     }
 
@@ -374,10 +376,11 @@ impl Primitive {
         equivalent_kinds(self.kind(), other.kind())
     }
 
-    pub fn size(self) -> PrimitiveSize
-        ensures { λ r. ⌜ sizeOf r ≡ primitiveSize (kindOf self) ⌝ }
+    // Its size in a row.
+    pub fn size(self, row: u64) -> PrimitiveSize
+        ensures { λ r. ⌜ sizeOf r ≡ sizeIn row (kindOf self) ⌝ }
     {
-        primitive_size(self.kind())
+        primitive_size(row, self.kind())
     }
 }
 
@@ -403,9 +406,15 @@ pub fn primitive_code(kind: u64) -> Code
     Code::Two(a, b)
 }
 
-// The sizes on 64-bit Apple ARM, in the order of `Primitive`; 0 for none.
-const SIZES: [u8; 24] =
-    *b"\x01\x02\x04\x08\x08\x01\x02\x04\x08\x08\x04\x08\x08\x08\x10\x10\x01\x00\x08\x08\x08\x08\x08\x00";
+// The rows of sizes: 0 is 64-bit Apple ARM, 1 is x86_64, 2 is 32-bit ARM.
+pub const ROWS: u64 = 3;
+
+// The sizes of the primitives in each row, in the order of `Primitive`; 0 for none.
+pub const SIZES: [[u8; 24]; 3] = [
+    *b"\x01\x02\x04\x08\x08\x01\x02\x04\x08\x08\x04\x08\x08\x08\x10\x10\x01\x00\x08\x08\x08\x08\x08\x00",
+    *b"\x01\x02\x04\x08\x08\x01\x02\x04\x08\x08\x04\x08\x10\x08\x10\x20\x01\x00\x08\x08\x08\x08\x08\x00",
+    *b"\x01\x02\x04\x04\x08\x01\x02\x04\x04\x08\x04\x08\x08\x08\x10\x10\x01\x00\x04\x04\x04\x04\x04\x00",
+];
 
 fn wide(x: u8) -> u64
     ensures { λ r. ⌜ r ≡ x ⌝ }
@@ -413,15 +422,17 @@ fn wide(x: u8) -> u64
     x as u64
 }
 
-// `Primitive::size` on kind words.
-pub fn primitive_size(kind: u64) -> PrimitiveSize
-    ensures { λ r. ⌜ sizeOf r ≡ primitiveSize kind ⌝ }
+// `Primitive::size` on kind words. Neither a row nor a kind beyond the table has one.
+pub fn primitive_size(row: u64, kind: u64) -> PrimitiveSize
+    ensures { λ r. ⌜ sizeOf r ≡ sizeIn row kind ⌝ }
 {
-    if PRIMITIVES <= kind {
-        return PrimitiveSize::Nothing; // beyond the table
+    if ROWS <= row {
+        return PrimitiveSize::Nothing;
     }
-    let k = kind as usize;
-    let n = wide(SIZES[k]);
+    if PRIMITIVES <= kind {
+        return PrimitiveSize::Nothing;
+    }
+    let n = wide(SIZES[row as usize][kind as usize]);
     if n == 0 {
         return PrimitiveSize::Nothing;
     }

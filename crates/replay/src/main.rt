@@ -157,9 +157,10 @@ fn answer_signature(text: &[u8], list: &mut [u64], out: &mut [u8]) -> usize {
     }
 }
 
-fn answer_size(words: &[u64], names: &[u8], out: &mut [u8]) -> usize {
-    match encoding::size(words, names) {
-        Sized::Refused(why) => put_refused(out, b"refused ", why),
+// The size in a row; a refusal begins with `word`.
+fn answer_size(row: u64, word: &[u8], words: &[u64], names: &[u8], out: &mut [u8]) -> usize {
+    match encoding::size(words, names, row) {
+        Sized::Refused(why) => put_refused(out, word, why),
         Sized::Nothing => lines::put_bytes(out, 0, b"none"),
         Sized::Bytes(n) => {
             let at = lines::put_bytes(out, 0, b"bytes ");
@@ -281,7 +282,7 @@ fn answer_one(
     out: &mut [u8],
 ) -> usize {
     if check::same(question, b"size") {
-        return answer_size(words, names, out);
+        return answer_size(0, b"refused ", words, names, out);
     }
     if check::same(question, b"length") {
         return answer_length(words, names, out);
@@ -304,6 +305,29 @@ fn answer_tree(
         Loaded::Unread(why) => put_refused(out, b"unread ", why),
         Loaded::Bad => put_bad_line(out),
         Loaded::Tree => answer_one(question, words, names, text, out),
+    }
+}
+
+// A row's number in decimal, then a tree.
+fn answer_size_in(
+    arguments: &[u8],
+    text: &mut [u8],
+    words: &mut [u64],
+    names: &mut [u8],
+    out: &mut [u8],
+) -> usize {
+    let mut row = [0u64; 1];
+    let digits = lines::field(arguments, b' ');
+    if digits.len() == 0 {
+        return put_bad_line(out);
+    }
+    let Decoded::Items(_) = lines::decode_words(digits, &mut row) else {
+        return put_bad_line(out);
+    };
+    match load_tree(lines::rest(arguments, b' '), text, words, names) {
+        Loaded::Unread(why) => put_refused(out, b"unread ", why),
+        Loaded::Bad => put_bad_line(out),
+        Loaded::Tree => answer_size(row[0], b"no ", words, names, out),
     }
 }
 
@@ -381,6 +405,9 @@ fn answer(
     }
     if check::same(question, b"text") {
         return answer_matching(arguments, text, aw, an, out);
+    }
+    if check::same(question, b"size-in") {
+        return answer_size_in(arguments, text, aw, an, out);
     }
     if is_comparison(question) {
         return answer_trees(question, arguments, text, aw, an, bw, bn, out);

@@ -9,9 +9,9 @@ use lib.Dec.{ltb}
 use lib.ListN.{length}
 use Rattle.kinds.specs.Compare.{compareEncodings, equivalentTo}
 use Rattle.kinds.specs.Expect.{equivalentToStr}
+use Rattle.kinds.specs.Primitive.{widths}
 use Rattle.kinds.specs.Print.{print}
 use Rattle.kinds.specs.Sheet.{maxText}
-use Rattle.kinds.specs.Size.{size}
 use Rattle.kinds.specs.Tree.{Trees, shown}
 use Rattle.kinds.specs.declared.Compared.{Compared}
 use Rattle.kinds.specs.declared.Compared.the-variants as C
@@ -19,7 +19,7 @@ use Rattle.kinds.specs.declared.NestingLevel.the-variants.{Top}
 use Rattle.kinds.specs.declared.Refusal.the-variants as R
 use Rattle.sheet.specs.Answer.{Held, refused, holding, held, ofHeld, ofSheet, paired, heldBoth, ofHeldBoth, ofSheets}
 use Rattle.expect.specs.Answer.{compared}
-use Rattle.helper.specs.Answer.{sized, sizeAnswer, compareAnswer}
+use Rattle.helper.specs.Answer.{sizedIn, sizeAnswer, compareAnswer}
 use Rattle.static_str.specs.Answer.{fitted, placed, encodingLen, encodingArray, encodingOutput}
 use Rattle.static_str.specs.declared.Printed.the-variants.{Bytes}
 use Rattle.agreement.specs.ShownAlike.{ShownAlike}
@@ -48,9 +48,9 @@ module _ {w s : List ℕ} {t : Trees} (h : SheetOf w s t) where
   unfolding encodingOutput ofSheet
   print-output out = rw (h .holds)
 
-  size-answer : sizeAnswer w s ≡ sized (size t)
+  size-answer : (row : ℕ) → sizeAnswer row w s ≡ sizedIn row t
   unfolding sizeAnswer ofSheet
-  size-answer = rw (h .holds)
+  size-answer row = rw (h .holds)
 
   text-answer : (text : List ℕ) → compared w s text ≡ againstText text (equivalentToStr t text)
   unfolding compared ofSheet againstText
@@ -99,13 +99,17 @@ module _ {aw an bw bn : List ℕ} {t u : Trees} (a : SheetOf aw an t) (b : Sheet
   alike : ShownAlike t u
   alike = shown-alike t u e
 
+  same-size : (row : ℕ) → sizedIn row t ≡ sizedIn row u
+  unfolding sizedIn
+  same-size row = rw (alike .sizes (widths row))
+
   pub answers-alike : SheetsAlike aw an bw bn
   unfolding equivalentTo
   answers-alike = record {
     lengths = length-answer a ∙ ap (λ (x : List ℕ). Bytes (length x)) (alike .prints) ∙ sym (length-answer b);
     prints = λ room. print-answer a room ∙ ap (λ (x : List ℕ). fitted x room) (alike .prints) ∙ sym (print-answer b room);
     outputs = λ out. print-output a out ∙ ap (λ (x : List ℕ). placed x out) (alike .prints) ∙ sym (print-output b out);
-    sizes = size-answer a ∙ ap sized (alike .sizes) ∙ sym (size-answer b);
+    sizes = λ row. size-answer a row ∙ same-size row ∙ sym (size-answer b row);
     first = λ cw cn. compare-first a false cw cn
         ∙ same-against (compareEncodings false Top t) (compareEncodings false Top u) (held cw cn) (λ c _. alike .first c)
         ∙ sym (compare-first b false cw cn);

@@ -24,7 +24,7 @@ use Rattle.sheet_agreement.proofs.AnswerLaws.{print-answer, print-outpu
 pub sheets-answered : (words names : List ℕ) (t : Trees) → SheetOf words names t → Answered words names t
 sheets-answered words names t h = answers h
 
--- Two sheets without bad names and with equal shown parts give equal prints, sizes and level comparisons.
+-- Two sheets without bad names and with equal shown parts give equal prints, sizes in every row and level comparisons.
 pub sheets-alike : (aw an bw bn : List ℕ) (t u : Trees) → SheetOf aw an t → SheetOf bw bn u → shown Top t ≡ shown Top u → SheetsAlike aw an bw bn
 sheets-alike aw an bw bn t u a b e = answers-alike a b e
 

@@ -8,13 +8,12 @@ use Rattle.kinds.specs.Compare.{compareEncodings}
 use Rattle.kinds.specs.Expect.{equivalentToStr}
 use Rattle.kinds.specs.Print.{print}
 use Rattle.kinds.specs.Sheet.{maxText}
-use Rattle.kinds.specs.Size.{size}
 use Rattle.kinds.specs.Tree.{Trees}
 use Rattle.kinds.specs.declared.Compared.the-variants.{Decided}
 use Rattle.kinds.specs.declared.NestingLevel.the-variants.{Top}
 use Rattle.sheet.specs.Answer.{held, holding}
 use Rattle.expect.specs.Answer.{compared}
-use Rattle.helper.specs.Answer.{sized, sizeAnswer, compareAnswer}
+use Rattle.helper.specs.Answer.{sizedIn, sizeAnswer, compareAnswer}
 use Rattle.static_str.specs.Answer.{fitted, placed, encodingLen, encodingArray, encodingOutput}
 use Rattle.static_str.specs.declared.Printed.the-variants.{Bytes}
 use Rattle.agreement.specs.Sound.{sound}
@@ -33,7 +32,8 @@ pub record Answered (words names : List ℕ) (t : Trees) : Type 0 where
   pub lengths : encodingLen words names ≡ Bytes (length (print Top t))
   pub prints : (room : ℕ) → encodingArray words names room ≡ fitted (print Top t) room
   pub outputs : (out : List ℕ) → encodingOutput words names out ≡ placed (print Top t) out
-  pub sizes : sizeAnswer words names ≡ sized (size t)
+  -- In every row, and where the number is no row's.
+  pub sizes : (row : ℕ) → sizeAnswer row words names ≡ sizedIn row t
   -- By levels and with all fields, with another sheet on either side.
   pub trees : (all : Bool) (cw cn : List ℕ) (u : Trees) → SheetOf cw cn u
       → (compareAnswer all words names cw cn ≡ Decided (compareEncodings all Top t u)) × (compareAnswer all cw cn words names ≡ Decided (compareEncodings all Top u t))
@@ -44,7 +44,8 @@ pub record SheetsAlike (aw an bw bn : List ℕ) : Type 0 where
   pub lengths : encodingLen aw an ≡ encodingLen bw bn
   pub prints : (room : ℕ) → encodingArray aw an room ≡ encodingArray bw bn room
   pub outputs : (out : List ℕ) → encodingOutput aw an out ≡ encodingOutput bw bn out
-  pub sizes : sizeAnswer aw an ≡ sizeAnswer bw bn
+  -- In every row.
+  pub sizes : (row : ℕ) → sizeAnswer row aw an ≡ sizeAnswer row bw bn
   -- By levels, with any lists on the other side.
   pub first : (cw cn : List ℕ) → compareAnswer false aw an cw cn ≡ compareAnswer false bw bn cw cn
   pub second : (cw cn : List ℕ) → compareAnswer false cw cn aw an ≡ compareAnswer false cw cn bw bn

@@ -4,17 +4,21 @@ use native.Mathlib.Nat.{add-zero}
 use native.Mathlib.Omega.{arith}
 use native.Mathlib.Numerals.{add-one}
 use mathlib.Core.Path.{_≡_, refl, ap, sym, _∙_}
-use mathlib.Core.Bool.{Bool, true, false, cond, _||_}
+use mathlib.Core.Bool.{Bool, true, false, cond, _&&_, _||_}
 use mathlib.Core.List.{List, [], _∷_, _++_}
-use lib.Dec.{eqb}
+use lib.Dec.{leb, eqb}
 use lib.ListN.{take, drop, length, getD}
 use lib.Seq.{take-nil, sets}
 use borrow.Author.Tests.{le-leb, lt-leb, lt-ltb, le-ltb, eq-eqb, ne-eqb, eqb-false}
 use Rattle.kinds.proofs.ListLaws.{unread, unread-end}
-use Rattle.lines.specs.Answer.{until, decimals}
+use Rattle.kinds.specs.Byte.{bytes}
+use Rattle.lines.specs.Answer.{until, decimals, isDecimals, decimalsAnswer}
+use Rattle.lines.specs.declared.Decoded.{Decoded}
+use Rattle.lines.specs.declared.Decoded.the-variants.{Items, Bad}
 use Rattle.lines.proofs.PutLaws.{sets-out}
 use Rattle.kinds.specs.Print.{decimal}
 use Rattle.tool.specs.Answer.{countOf, shownByte, times, holders, depthOf, lineOf, countText, kindNames, valuesText, rightText, nodeText, columnText, entryText}
+use Rattle.tool.specs.Answer.{isNumber, limitText}
 use Rattle.tool.specs.Answer.{byteText, containerText, shownText, shownOrCut, markText, namedText, refusedBy}
 use Rattle.tool.specs.Answer.{before, after, compoundNames, kindText, placeText, unitText, valueText, differenceBy, differenceText}
 
@@ -140,6 +144,47 @@ pub entry-is : (text list piece : List ℕ) (k m n v : ℕ) → piece ≡ take n
     → rightText k 1000 ++ (columnText m 10000 ++ (columnText n 100000 ++ (columnText v 1000000000 ++ ((32 ∷ 32 ∷ []) ++ shownText piece)))) ≡ entryText text list k
 unfolding entryText
 entry-is text list piece k m n v o p q r = rw (o, p, q, r)
+
+-- ---- Sizes and the number of a row by cases.
+
+pub limit-small : (row : ℕ) → row ≡ 2 → bytes "above 2^32 - 1 bytes" ≡ limitText row
+unfolding limitText
+limit-small row e = sym (rw (eq-eqb row 2 e))
+
+pub limit-large : (row : ℕ) → (row ≡ 2 → ⊥) → bytes "above 2^64 - 1 bytes" ≡ limitText row
+unfolding limitText
+limit-large row e = sym (rw (ne-eqb row 2 e))
+
+module _ (s : List ℕ) where
+  pub number-none : length s ≡ 0 → false ≡ isNumber s
+  unfolding isNumber
+  number-none h = let k : length s ≤ 0 = omega arith in sym (rw (le-ltb 0 (length s) k))
+
+  pub number-long : 20 < length s → false ≡ isNumber s
+  unfolding isNumber
+  number-long h = let k : 0 < length s = omega arith in sym (rw (lt-ltb 0 (length s) k, lt-leb (length s) 20 h))
+
+  -- With 1 to 20 bytes the text is a number exactly if reading it into a list of one word is not refused.
+  module _ (h : length s ≡ 0 → ⊥) (k : length s ≤ 20) where
+    is-read : isDecimals 0 s && leb (length (decimals 0 s)) 1 ≡ isNumber s
+    unfolding isNumber
+    is-read = let j : 0 < length s = omega (arith, h) in sym (rw (lt-ltb 0 (length s) j, le-leb (length s) 20 k))
+
+    pub number-read : (d : Decoded) (n : ℕ) → d ≡ Items n → d ≡ decimalsAnswer s 1 → true ≡ isNumber s
+    unfolding decimalsAnswer
+    number-read d n e f = go (isDecimals 0 s && leb (length (decimals 0 s)) 1) (sym e ∙ f) ∙ is-read
+      where
+        go : (t : Bool) → Items n ≡ cond t (Items (length (decimals 0 s))) Bad → true ≡ t
+        go true p = refl
+        go false p = cc
+
+    pub number-bad : (d : Decoded) → d ≡ Bad → d ≡ decimalsAnswer s 1 → false ≡ isNumber s
+    unfolding decimalsAnswer
+    number-bad d e f = go (isDecimals 0 s && leb (length (decimals 0 s)) 1) (sym e ∙ f) ∙ is-read
+      where
+        go : (t : Bool) → Bad ≡ cond t (Items (length (decimals 0 s))) Bad → false ≡ t
+        go true p = cc
+        go false p = refl
 
 -- ---- The texts of a refusal by cases.
 

@@ -1,12 +1,14 @@
 -- What the calls answer: what is shown of texts and trees.
 use Prim.Native.Nat.{ℕ, zero, suc, _+_, _-_, _*_}
-use mathlib.Core.Bool.{cond, _&&_, _||_}
+use mathlib.Core.Bool.{Bool, cond, _&&_, _||_}
 use mathlib.Core.List.{List, [], _∷_, _++_}
 use lib.Dec.{leb, ltb, eqb}
 use lib.ListN.{length, take, drop, getD}
 use Rattle.kinds.specs.Byte.{byte, bytes}
 use Rattle.kinds.specs.Print.{decimal}
-use Rattle.lines.specs.Answer.{until, each, decimals}
+use Rattle.helper.specs.declared.Sized.{Sized}
+use Rattle.helper.specs.declared.Sized.the-variants as S
+use Rattle.lines.specs.Answer.{until, each, decimals, isDecimals}
 use Rattle.reason.specs.Reason as R
 
 -- How often a byte stands in a text.
@@ -87,6 +89,28 @@ entryText text list k =
     ++ (bytes "  "
     ++ shownText (take (getD list (3 * k + 1) 0) (drop (getD list (3 * k) 0) text))))))
 
+-- That a size is above the largest of its row.
+unfoldable pub limitText : ℕ → List ℕ
+limitText row = cond (eqb row 2) (bytes "above 2^32 - 1 bytes") (bytes "above 2^64 - 1 bytes")
+
+-- A size in a row. A tree that was read is refused in a row of the table only for its size.
+unfoldable pub sizeText : ℕ → Sized → List ℕ
+sizeText row (S.Refused why) = limitText row
+sizeText row S.Nothing = bytes "no size"
+sizeText row (S.Bytes n) = countText n (bytes "byte")
+
+-- The machines, a line for each row.
+unfoldable pub machineNames : List ℕ
+machineNames = bytes "  64-bit Apple ARM  \n  x86_64            \n  32-bit ARM        "
+
+-- The line of a row: its number, its machine and the size there.
+unfoldable pub sizeLine : ℕ → Sized → List ℕ
+sizeLine row s = rightText row 100 ++ (lineOf row machineNames ++ sizeText row s)
+
+-- One number of 1 to 20 digits that is below 2^64.
+unfoldable pub isNumber : List ℕ → Bool
+isNumber s = ltb 0 (length s) && (leb (length s) 20 && (isDecimals 0 s && leb (length (decimals 0 s)) 1))
+
 -- The byte that a refusal names: itself, or its number where it does not show.
 unfoldable pub byteText : ℕ → List ℕ
 byteText b = cond (ltb 32 b && ltb b 127) (b ∷ []) (bytes "byte " ++ decimal b)
@@ -103,11 +127,12 @@ shownOrCut text = cond (leb (length text) 2000) (shownText text) (shownText (tak
 unfoldable pub refusals : List ℕ
 refusals =
     bytes "-\n- the text has more than 2,000 bytes\n- the lists are too short for the tree\n- the lists hold no tree\n"
-    ++ (bytes "- a name is neither ? nor letters, digits and underscores\n- the output is too short for the text\n- the size is above 2^64 - 1 bytes\n"
+    ++ (bytes "- a name is neither ? nor letters, digits and underscores\n- the output is too short for the text\n- the size is above 2^64 - 1 bytes, or in row 2 above 2^32 - 1\n"
     ++ (bytes "^ the text ends where another byte must stand\nb no type starts with \nb f, d or D must follow j, not \n^ a digit must stand here\n"
     ++ (bytes "^ a number is above 2^64 - 1, or a bitfield's size above 255\n^ no ] follows the array's item\n"
     ++ (bytes "c the text ends inside the \nc neither ? nor letters, digits and underscores name the \n^ bytes remain after the type\n"
-    ++ bytes "^ no digit follows the type\n^ the number is above 4294967295\n- the signature is empty\n^ the number starts with a surplus zero"))))
+    ++ (bytes "^ no digit follows the type\n^ the number is above 4294967295\n- the signature is empty\n^ the number starts with a surplus zero\n"
+    ++ bytes "- there is no row of that number: they are 0, 1 and 2")))))
 
 -- A line with a mark under the place, unless the refusal has none.
 unfoldable pub markText : ℕ → ℕ → List ℕ

@@ -5,6 +5,7 @@ mod show;
 use helper::Sized;
 use kinds::Compared;
 use kinds::MAX_TEXT;
+use kinds::ROWS;
 use libc::STDERR_FILENO;
 use libc::STDIN_FILENO;
 use libc::STDOUT_FILENO;
@@ -45,7 +46,7 @@ fn say_usage(to: i32) {
             \x20      berzhotun read-strict TEXT  the same, but a number with a surplus zero is refused\n\
             \x20      berzhotun start TEXT        the tree of the type at the start of TEXT, and the rest\n\
             \x20      berzhotun print TEXT        the printed text of the tree\n\
-            \x20      berzhotun size TEXT         its size on 64-bit Apple ARM\n\
+            \x20      berzhotun size TEXT [ROW]   its size on each machine, or in one row: 0 is 64-bit Apple ARM, 1 x86_64, 2 32-bit ARM\n\
             \x20      berzhotun compare A B       whether the trees of A and B are equivalent, by levels, or where they differ\n\
             \x20      berzhotun compare-all A B   the same with all fields\n\
             \x20      berzhotun reason A B        the same for programs: yes, or the first difference in bytes\n\
@@ -179,22 +180,64 @@ fn answer_print(text: &[u8]) {
     }
 }
 
-fn say_size(n: u64) {
+fn say_bytes(n: u64) {
     let mut out = [0u8; 64];
     let at = show::put_count(&mut out, 0, n, b"byte");
     say_line(&mut out, at);
 }
 
-fn answer_size(text: &[u8]) {
+fn say_size(text: &[u8], words: &[u64], names: &[u8], row: u64) {
+    match encoding::size(words, names, row) {
+        Sized::Refused(why) => say_refused(text, &why.words()),
+        Sized::Nothing => say(b"no size\n"),
+        Sized::Bytes(n) => say_bytes(n),
+    }
+}
+
+fn answer_size(text: &[u8], row: u64) {
     let mut words = [0u64; MAX_WORDS];
     let mut names = [0u8; MAX_TEXT];
     if reads(text, &mut words, &mut names) {
-        match encoding::size(&words, &names) {
-            Sized::Refused(why) => say_refused(text, &why.words()),
-            Sized::Nothing => say(b"no size\n"),
-            Sized::Bytes(n) => say_size(n),
-        }
+        say_size(text, &words, &names, row);
     }
+}
+
+fn say_row(words: &[u64], names: &[u8], row: u64) {
+    let mut out = [0u8; MAX_LINE];
+    let at = show::put_size_line(&mut out, row, encoding::size(words, names, row));
+    say_line(&mut out, at);
+}
+
+// A table of all rows; its head has the columns of `show::put_size_line`.
+fn say_rows(words: &[u64], names: &[u8]) {
+    say(b"row  machine           size\n");
+    let mut row = 0;
+    while row < ROWS {
+        say_row(words, names, row);
+        row += 1;
+    }
+}
+
+fn answer_sizes(text: &[u8]) {
+    let mut words = [0u64; MAX_WORDS];
+    let mut names = [0u8; MAX_TEXT];
+    if reads(text, &mut words, &mut names) {
+        say_rows(&words, &names);
+    }
+}
+
+// A text's size in the row whose number is given, or in all rows.
+fn answer_size_command(texts: usize, text: &[u8], row: &[u8]) {
+    if texts == 1 {
+        return answer_sizes(text);
+    }
+    if texts == 2 {
+        if show::is_number(row) {
+            return answer_size(text, show::number_of(row));
+        }
+        return complain(row, b"' is no row's number\n");
+    }
+    complain(b"size", b"' takes one text, and a row's number if wanted\n");
 }
 
 // The second text is not read: it is held against the tree.
@@ -272,7 +315,7 @@ fn answer_signature(text: &[u8]) {
     }
 }
 
-// How many texts a command takes; 0 where there is no such command.
+// How many texts a command takes, a row's number aside; 0 where there is no such command.
 fn texts_of(command: &[u8]) -> usize {
     if check::same(command, b"read") {
         return 1;
@@ -310,7 +353,7 @@ fn texts_of(command: &[u8]) -> usize {
     0
 }
 
-// Answers a command that `texts_of` knows, whose texts stand in `a` and `b`.
+// Answers a command that `texts_of` knows, other than `size`, whose texts stand in `a` and `b`.
 fn answer_known(command: &[u8], a: &[u8], b: &[u8]) {
     if check::same(command, b"read") {
         answer_read(false, a);
@@ -320,8 +363,6 @@ fn answer_known(command: &[u8], a: &[u8], b: &[u8]) {
         answer_start(a);
     } else if check::same(command, b"print") {
         answer_print(a);
-    } else if check::same(command, b"size") {
-        answer_size(a);
     } else if check::same(command, b"compare") {
         answer_compare(false, true, a, b);
     } else if check::same(command, b"compare-all") {
@@ -342,6 +383,9 @@ fn answer(command: &[u8], texts: usize, a: &[u8], b: &[u8]) {
     let wanted = texts_of(command);
     if wanted == 0 {
         return complain(command, b"' is no command\n");
+    }
+    if check::same(command, b"size") {
+        return answer_size_command(texts, a, b);
     }
     if wanted == texts {
         return answer_known(command, a, b);

@@ -1,11 +1,13 @@
-// What is shown of a tree, of a signature, of a refusal and of the reason for a no, put into a lent output from a place on; each answers the next place.
+// What is shown of a tree, of its sizes, of a signature, of a refusal and of the reason for a no, put into a lent output from a place on; each answers the next place.
 ghost use mathlib.Core.Path.{_≡_};
 ghost use mathlib.Core.List.{[], _∷_};
 ghost use lib.ListN.{take, drop, getD};
 ghost use Rattle.lines.specs.Answer.{Put, decimals};
 ghost use Rattle.tool.specs.Answer.{countOf, shownByte, shownText, times, depthOf, lineOf, countText, kindNames, valuesText, rightText, nodeText, columnText, entryText};
 ghost use Rattle.tool.specs.Answer.{byteText, containerText, shownOrCut, markText, namedText, refusedBy, refusedText};
+ghost use Rattle.tool.specs.Answer.{isNumber, limitText, sizeText, sizeLine};
 ghost use Rattle.tool.specs.Answer.{kindText, placeText, unitText, valueText, differenceBy, differenceText};
+use helper::Sized;
 use kinds::ARRAY;
 use kinds::BIT_FIELD;
 use kinds::MAX_TEXT;
@@ -13,6 +15,7 @@ use kinds::PRIMITIVES;
 use kinds::STRUCT;
 use kinds::TYPED_BIT_FIELD;
 use kinds::UNION;
+use lines::Decoded;
 
 // At most `n` items of `s` from `from` on.
 fn part(s: &[u8], from: usize, n: usize) -> &[u8]
@@ -201,6 +204,37 @@ pub fn put_entry(out: &mut [u8], text: &[u8], list: &[u64], k: u16) -> usize
     put_shown(out, to, part(text, first as usize, size as usize))
 }
 
+// That a size is above the largest of its row.
+fn put_limit(out: &mut [u8], at: usize, row: u64) -> usize
+    ensures { λ r. ⌜ Put (now (out .entry)) at (limitText row) (now (out .exit)) r ⌝ }
+{
+    if row == 2 {
+        return lines::put_bytes(out, at, b"above 2^32 - 1 bytes");
+    }
+    lines::put_bytes(out, at, b"above 2^64 - 1 bytes")
+}
+
+// A size in a row. A tree that was read is refused in a row of the table only for its size.
+fn put_size(out: &mut [u8], at: usize, row: u64, size: Sized) -> usize
+    ensures { λ r. ⌜ Put (now (out .entry)) at (sizeText row size) (now (out .exit)) r ⌝ }
+{
+    match size {
+        Sized::Refused(_) => put_limit(out, at, row),
+        Sized::Nothing => lines::put_bytes(out, at, b"no size"),
+        Sized::Bytes(n) => put_count(out, at, n, b"byte"),
+    }
+}
+
+// The line of a row: its number, its machine and the size there.
+pub fn put_size_line(out: &mut [u8], row: u64, size: Sized) -> usize
+    ensures { λ r. ⌜ Put (now (out .entry)) 0 (sizeLine row size) (now (out .exit)) r ⌝ }
+{
+    let machines = b"  64-bit Apple ARM  \n  x86_64            \n  32-bit ARM        ";
+    let number = put_right(out, 0, row, 100);
+    let machine = lines::put_bytes(out, number, line_of(machines, row));
+    put_size(out, machine, row, size)
+}
+
 // The byte that a refusal names: itself, or its number where it does not show.
 fn put_byte(out: &mut [u8], at: usize, byte: u64) -> usize
     ensures { λ r. ⌜ Put (now (out .entry)) at (byteText byte) (now (out .exit)) r ⌝ }
@@ -293,7 +327,7 @@ pub fn put_refused(out: &mut [u8], text: &[u8], why: &[u64; 4]) -> usize
         - the lists hold no tree\n\
         - a name is neither ? nor letters, digits and underscores\n\
         - the output is too short for the text\n\
-        - the size is above 2^64 - 1 bytes\n\
+        - the size is above 2^64 - 1 bytes, or in row 2 above 2^32 - 1\n\
         ^ the text ends where another byte must stand\n\
         b no type starts with \n\
         b f, d or D must follow j, not \n\
@@ -306,12 +340,30 @@ pub fn put_refused(out: &mut [u8], text: &[u8], why: &[u64; 4]) -> usize
         ^ no digit follows the type\n\
         ^ the number is above 4294967295\n\
         - the signature is empty\n\
-        ^ the number starts with a surplus zero";
+        ^ the number starts with a surplus zero\n\
+        - there is no row of that number: they are 0, 1 and 2";
     put_refused_by(out, text, why, line_of(refusals, why[0]))
 }
 
+// Whether a text is one number of 1 to 20 digits that is below 2^64.
+pub fn is_number(s: &[u8]) -> bool
+    ensures { λ r. ⌜ r ≡ isNumber (now (s .entry)) ⌝ }
+{
+    let mut list = [0u64; 1];
+    if s.len() == 0 {
+        return false;
+    }
+    if 20 < s.len() {
+        return false;
+    }
+    match lines::decode_words(s, &mut list) {
+        Decoded::Items(_) => true,
+        Decoded::Bad => false,
+    }
+}
+
 // The number at the front of a text; 0 where there is none.
-fn number_of(s: &[u8]) -> u64
+pub fn number_of(s: &[u8]) -> u64
     ensures { λ r. ⌜ r ≡ getD (decimals 0 (now (s .entry))) 0 0 ⌝ }
 {
     let mut list = [0u64; 1];

@@ -1,12 +1,12 @@
-//! Takes a method's signature apart, and measures each of its types.
+//! Takes a method's signature of 64-bit Apple ARM apart, and measures each of its types.
 
-use berzhotun::{parse, parse_signature, Refusal};
+use berzhotun::{parse, parse_signature, Refusal, Row};
 
 fn show(signature: &str) -> Result<(), Refusal> {
     println!("{signature}");
     for entry in parse_signature(signature.as_bytes())? {
         let size = parse(entry.encoding)?
-            .size()?
+            .size(Row::AppleArm64)?
             .map_or("no size".to_string(), |bytes| format!("{bytes} bytes"));
         let encoding = String::from_utf8_lossy(entry.encoding);
         println!("  {encoding:<12} {size:<9} {:>2}", entry.offset);

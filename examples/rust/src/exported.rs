@@ -130,6 +130,7 @@ extern "C" {
         words_len: usize,
         names: *const u8,
         names_len: usize,
+        row: u64,
         answer: *mut [u64; 2],
     ) -> u64;
     pub fn berzhotun_static_encoding_str_len(

@@ -3,8 +3,10 @@
 //! A call needs up to 512 KiB of stack for the deepest of texts.
 //!
 //! ```
+//! use berzhotun::Row;
+//!
 //! let rate = berzhotun::parse(b"{Rate=id}").unwrap();
-//! assert_eq!(rate.size(), Ok(Some(12)));
+//! assert_eq!(rate.size(Row::AppleArm64), Ok(Some(12)));
 //! assert!(rate.equivalent_to(&berzhotun::parse(b"{Rate}").unwrap()));
 //! assert_eq!(rate.to_bytes(), b"{Rate=id}");
 //!
@@ -16,14 +18,20 @@
 //! let reason = rate.reason(&berzhotun::parse(b"{Rate=if}").unwrap()).unwrap();
 //! assert_eq!(reason.as_bytes(), b"1:kind 2:11 2:10");
 //! assert_eq!(reason.to_string(), "item 1 differs in kind: 11 and 10");
+//!
+//! let machines = berzhotun::parse(b"{R=l^vD}").unwrap();
+//! let sizes = Row::ALL.map(|row| machines.size(row));
+//! assert_eq!(sizes, [Ok(Some(24)), Ok(Some(32)), Ok(Some(16))]);
 //! ```
 
 mod exported;
 mod reason;
 mod refusal;
+mod row;
 
 pub use reason::{Difference, Reason};
 pub use refusal::{Container, Refusal};
+pub use row::Row;
 
 /// The most bytes of a text.
 pub const MAX_TEXT: usize = 2000;
@@ -275,8 +283,8 @@ impl Tree {
         accepted(number, answer[0] == 1)
     }
 
-    /// The bytes that the type takes on 64-bit Apple ARM without padding, if it has a size.
-    pub fn size(&self) -> Result<Option<u64>, Refusal> {
+    /// The bytes that the type takes on the row's machine without padding, if it has a size.
+    pub fn size(&self, row: Row) -> Result<Option<u64>, Refusal> {
         let mut answer = [0; 2];
         // SAFETY: as in `compare`.
         let number = unsafe {
@@ -285,6 +293,7 @@ impl Tree {
                 self.words.len(),
                 self.names.as_ptr(),
                 self.names.len(),
+                row.number(),
                 &mut answer,
             )
         };

@@ -24,7 +24,7 @@ pub enum Refusal {
     /// 5: the output is shorter than the printed length, or than the reason for a no. This crate
     /// always lends enough.
     OutputTooShort,
-    /// 6: the size is above 2^64 - 1.
+    /// 6: the size is above 2^64 - 1, or on 32-bit ARM above 2^32 - 1.
     SizeTooLarge,
     /// 7: a needed byte is missing at the text's end.
     UnexpectedEnd { place: usize },
@@ -54,6 +54,9 @@ pub enum Refusal {
     /// 19: in a strict reading the number that begins at the place has more than one digit and
     /// starts with 0.
     SurplusZero { place: usize },
+    /// 20: no row of sizes has this number. This crate has a [`Row`](crate::Row) only for those that
+    /// there are.
+    NoSuchRow,
 }
 
 impl Refusal {
@@ -86,6 +89,7 @@ impl Refusal {
             17 => Refusal::OffsetTooLarge { place },
             18 => Refusal::EmptySignature,
             19 => Refusal::SurplusZero { place },
+            20 => Refusal::NoSuchRow,
             _ => unreachable!("the library has no refusal {number}"),
         }
     }
@@ -112,6 +116,7 @@ impl Refusal {
             Refusal::OffsetTooLarge { .. } => 17,
             Refusal::EmptySignature => 18,
             Refusal::SurplusZero { .. } => 19,
+            Refusal::NoSuchRow => 20,
         }
     }
 }
@@ -171,7 +176,8 @@ impl Refusal {
             | Refusal::SizeTooLarge
             | Refusal::ExpectedOffset { .. }
             | Refusal::OffsetTooLarge { .. }
-            | Refusal::EmptySignature => Ok(()),
+            | Refusal::EmptySignature
+            | Refusal::NoSuchRow => Ok(()),
         }
     }
 }
@@ -184,7 +190,9 @@ impl fmt::Display for Refusal {
             Refusal::BadSheet => write!(f, "the lists are no sheet"),
             Refusal::BadName => write!(f, "a struct or union has a name that is none"),
             Refusal::OutputTooShort => write!(f, "the output is too short"),
-            Refusal::SizeTooLarge => write!(f, "the size is above 2^64 - 1"),
+            Refusal::SizeTooLarge => {
+                write!(f, "the size is above 2^64 - 1, or on 32-bit ARM 2^32 - 1")
+            }
             Refusal::ExpectedOffset { place } => {
                 write!(f, "a number must follow the type at {place}")
             }
@@ -192,6 +200,7 @@ impl fmt::Display for Refusal {
                 write!(f, "the number before {place} is above 4,294,967,295")
             }
             Refusal::EmptySignature => write!(f, "the signature has no byte"),
+            Refusal::NoSuchRow => write!(f, "there is no such row of sizes"),
             _ => self.fmt_type(f),
         }
     }

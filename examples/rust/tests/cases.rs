@@ -1,8 +1,8 @@
-//! Cases of the scope document, of signatures, of strict reading and of reasons, through the wrapper.
+//! Cases of the scope document, of signatures, of strict reading, of reasons and of rows of sizes, through the wrapper.
 
 use berzhotun::{
     parse, parse_signature, parse_start, parse_strict, Container, Difference, Entry, Reason,
-    Refusal, Tree, MAX_REASON, MAX_TEXT,
+    Refusal, Row, Tree, MAX_REASON, MAX_TEXT,
 };
 
 fn tree(text: &str) -> Tree {
@@ -60,7 +60,7 @@ fn sizes() {
         ("b0", Some(1)),
     ];
     for (text, size) in sizes {
-        assert_eq!(tree(text).size(), Ok(size), "{text}");
+        assert_eq!(tree(text).size(Row::AppleArm64), Ok(size), "{text}");
     }
     for (text, size) in [
         ("b255", Some(32)),
@@ -68,13 +68,112 @@ fn sizes() {
         ("A{R=i}", None),
         ("[0v]", None),
     ] {
-        assert_eq!(tree(text).size(), Ok(size), "{text}");
+        assert_eq!(tree(text).size(Row::AppleArm64), Ok(size), "{text}");
     }
     assert_eq!(
-        tree("[2[9223372036854775808c]]").size(),
+        tree("[2[9223372036854775808c]]").size(Row::AppleArm64),
         Err(Refusal::SizeTooLarge)
     );
-    assert_eq!(tree("[0[2[9223372036854775808c]]]").size(), Ok(Some(0)));
+    assert_eq!(
+        tree("[0[2[9223372036854775808c]]]").size(Row::AppleArm64),
+        Ok(Some(0))
+    );
+}
+
+/// The codes in the order of `Primitive`.
+const CODES: [&str; 24] = [
+    "c", "s", "i", "l", "q", "C", "S", "I", "L", "Q", "f", "d", "D", "jf", "jd", "jD", "B", "v",
+    "*", "@", "@?", "#", ":", "?",
+];
+
+/// Their sizes in each row, 0 for none.
+#[rustfmt::skip]
+const SIZES: [[u64; 24]; 3] = [
+    [1, 2, 4, 8, 8, 1, 2, 4, 8, 8, 4, 8, 8, 8, 16, 16, 1, 0, 8, 8, 8, 8, 8, 0],
+    [1, 2, 4, 8, 8, 1, 2, 4, 8, 8, 4, 8, 16, 8, 16, 32, 1, 0, 8, 8, 8, 8, 8, 0],
+    [1, 2, 4, 4, 8, 1, 2, 4, 4, 8, 4, 8, 8, 8, 16, 16, 1, 0, 4, 4, 4, 4, 4, 0],
+];
+
+#[test]
+fn codes_in_each_row() {
+    for (row, sizes) in Row::ALL.into_iter().zip(SIZES) {
+        for (code, size) in CODES.into_iter().zip(sizes) {
+            let size = (size != 0).then_some(size);
+            assert_eq!(tree(code).size(row), Ok(size), "{code} {row:?}");
+        }
+    }
+}
+
+#[test]
+fn sizes_in_each_row() {
+    let sizes = [
+        ("{R=i^v}", [Some(12), Some(12), Some(8)]),
+        ("{R=lLDjD}", [Some(40), Some(64), Some(32)]),
+        ("(U=vD)", [Some(8), Some(16), Some(8)]),
+        ("(U=d^v)", [Some(8), Some(8), Some(8)]),
+        ("[3^[9c]]", [Some(24), Some(24), Some(12)]),
+        ("A^{R}", [Some(8), Some(8), Some(4)]),
+        ("b0l3", [Some(8), Some(8), Some(4)]),
+        ("b0l33", [Some(8), Some(8), Some(8)]),
+        ("b0L3", [Some(8), Some(8), Some(4)]),
+        ("b33", [Some(8), Some(8), Some(8)]),
+        ("{x=}", [Some(0), Some(0), Some(0)]),
+        ("(x=)", [None, None, None]),
+        ("{R=lv}", [None, None, None]),
+        ("[0v]", [None, None, None]),
+        ("", [None, None, None]),
+    ];
+    for (text, sizes) in sizes {
+        for (row, size) in Row::ALL.into_iter().zip(sizes) {
+            assert_eq!(tree(text).size(row), Ok(size), "{text} {row:?}");
+        }
+    }
+}
+
+#[test]
+fn what_is_too_large_in_row_2_alone() {
+    let sizes = [
+        ("[4294967295c]", Some(4294967295)),
+        ("[1073741823^v]", Some(4294967292)),
+        ("[0[4294967296c]]", Some(0)),
+        ("{R=v[4294967296c]}", None),
+        ("{R=[4294967296c]v}", None),
+        ("(U=v[4294967295c])", Some(4294967295)),
+        ("^[4294967296c]", Some(4)),
+    ];
+    for (text, size) in sizes {
+        assert_eq!(tree(text).size(Row::Arm32), Ok(size), "{text}");
+    }
+    let wide = [
+        ("[4294967296c]", 4294967296),
+        ("[1073741824^v]", 8589934592),
+        ("{R=[4294967295c]c}", 4294967296),
+        ("(U=c[4294967296c])", 4294967296),
+        ("A[4294967296c]", 4294967296),
+        ("[18446744073709551615c]", 18446744073709551615),
+    ];
+    for (text, size) in wide {
+        let tree = tree(text);
+        assert_eq!(tree.size(Row::Arm32), Err(Refusal::SizeTooLarge), "{text}");
+        for row in [Row::AppleArm64, Row::X86_64] {
+            assert_eq!(tree.size(row), Ok(Some(size)), "{text} {row:?}");
+        }
+    }
+}
+
+#[test]
+fn what_is_too_large_in_other_rows() {
+    let too_large = tree("[2[9223372036854775808c]]");
+    for row in Row::ALL {
+        assert_eq!(too_large.size(row), Err(Refusal::SizeTooLarge), "{row:?}");
+    }
+    let long_doubles = tree("[1152921504606846976D]");
+    assert_eq!(
+        long_doubles.size(Row::AppleArm64),
+        Ok(Some(9223372036854775808))
+    );
+    assert_eq!(long_doubles.size(Row::X86_64), Err(Refusal::SizeTooLarge));
+    assert_eq!(long_doubles.size(Row::Arm32), Err(Refusal::SizeTooLarge));
 }
 
 #[test]
@@ -538,5 +637,7 @@ fn the_longest_print() {
     words.extend([29, 0, 2000, 1]);
     let tree = Tree::from_sheet(words, vec![b'R'; 2000]).unwrap();
     assert_eq!(tree.to_bytes().len(), 50003);
-    assert_eq!(tree.size(), Ok(Some(32)));
+    for row in Row::ALL {
+        assert_eq!(tree.size(row), Ok(Some(32)));
+    }
 }

@@ -21,22 +21,22 @@ use Prim.Native.Nat.{_+_, _-_, _≤_}
 use mathlib.Core.List.{[]}
 use mathlib.Core.Logic.{⊎-elim}
 use Rattle.kinds.specs.Sheet.{kindAt, countAt, trees}
-use Rattle.kinds.specs.Size.{sizes}
+use Rattle.kinds.specs.Size as S
 use Rattle.kinds.proofs.KindLaws.{inside-kind, container-kind, included}
 use Rattle.kinds.proofs.ListLaws.{whole}
 use Rattle.kinds.proofs.NodeLaws.{node-inner, child-count, node-child}
 use Rattle.helper.specs.Measure.{clip, holdingMeasured, fold, sizeAt}
 use Rattle.helper.proofs.SizeLaws.{clip-holding, join-unit}
-use Rattle.helper.proofs.NodeSizeLaws.{Gathered, gathered-end, gathered-node, gathered-within, gathered-turn, gathered-code, gathered-inner, low-leaf, size-leaf, not-leaf, size-held, size-dropped, size-included}
+use Rattle.helper.proofs.NodeSizeLaws.{Gathered, gathered-end, gathered-node, gathered-within, gathered-turn, gathered-code, gathered-inner, low-leaf, size-leaf, leaf-entry, not-leaf, size-held, size-dropped, size-included}
 
-abbrev μ-size-of : Measures 1 size-of-kinds.ps ℕ
-μ-size-of κs a = countAt (a .0 .now) (a .1 .0)
+abbrev μ-size-of : Measures 2 size-of-kinds.ps ℕ
+μ-size-of κs a = countAt (a .1 .0 .now) (a .1 .1 .0)
 
-abbrev asked : ℕ → In 1 size-of-kinds.ps
-asked t = and 1 size-of-kinds.ps (is 1 size-of-kinds.ps μ-size-of t) size-of.Pre
+abbrev asked : ℕ → In 2 size-of-kinds.ps
+asked t = and 2 size-of-kinds.ps (is 2 size-of-kinds.ps μ-size-of t) size-of.Pre
 
-abbrev below : ℕ → In 1 size-of-kinds.ps
-below t = and 1 size-of-kinds.ps (falls 1 size-of-kinds.ps _<_ μ-size-of t) size-of.Pre
+abbrev below : ℕ → In 2 size-of-kinds.ps
+below t = and 2 size-of-kinds.ps (falls 2 size-of-kinds.ps _<_ μ-size-of t) size-of.Pre
 
 abbrev claims : ℕ → size-of-lts.Claims
 claims t = (
@@ -59,16 +59,16 @@ claims t = (
 )
 
 abbrev Inv-loop : size-of-lts.InvT-loop
-Inv-loop nodes at kind inner child₀ left₀ all₀ child left all = (left < countAt nodes at) × Gathered kind inner nodes child left all
-    (λ s. fold kind (sizes inner (trees s nodes (countAt nodes at - 1) (at + 4))))
+Inv-loop sizes nodes at kind inner child₀ left₀ all₀ child left all = (left < countAt nodes at) × Gathered sizes kind inner nodes child left all
+    (λ m s. fold kind (S.sizes m inner (trees s nodes (countAt nodes at - 1) (at + 4))))
 
 abbrev μ-loop : size-of-lts.MeasureT-loop
-μ-loop nodes at kind inner child₀ left₀ all₀ child left all = left
+μ-loop sizes nodes at kind inner child₀ left₀ all₀ child left all = left
 
 size-of-returns : (t : ℕ) → size-of-lts.Need-returns (claims t) (asked t) size-of.Post Inv-loop μ-loop
 size-of-returns t c =
     let a = c .before .before .before .before .before .before .args in
-    λ s. c .leaf-size .ensures ∙ sym (ap clip (size-leaf s (a .nodes .now) (a .at) (a .level)
+    λ m o s. c .leaf-size .ensures ∙ ap clip (leaf-entry o _ _) ∙ sym (ap clip (size-leaf m s (a .nodes .now) (a .at) (a .level)
     (sym (c .before .before .before .is-leaf .ensures) ∙ c .before .before .if1 .taken)))
 
 size-of-size-of-requires : (t : ℕ) → size-of-lts.Need-size-of-requires (claims t) (asked t) size-of.Post Inv-loop μ-loop
@@ -89,11 +89,11 @@ size-of-returns-2 t c =
     ∙ c .before .before .before .before .before .before .before .if1 .left) in
     let lo : 25 ≤ kindAt (a .nodes .now) (a .at) = omega arith in
     let hi : kindAt (a .nodes .now) (a .at) ≤ 28 = omega arith in
-    λ s. c .held-by .ensures
-    ∙ ap (holdingMeasured _ _ _) ((rw whole at (c .before .before .before .size-of .ensures s))
-    ∙ ap (λ v. clip (sizeAt s (a .nodes .now) (a .at + 4) v)) (c .before .before .before .before .inside .ensures ∙ sym (inside-kind s _ _ _ _)))
+    λ m o s. c .held-by .ensures
+    ∙ ap (holdingMeasured _ _ _) ((rw whole at (c .before .before .before .size-of .ensures m o s))
+    ∙ ap (λ v. clip (sizeAt m s (a .nodes .now) (a .at + 4) v)) (c .before .before .before .before .inside .ensures ∙ sym (inside-kind s _ _ _ _)))
     ∙ clip-holding _ _ _ _
-    ∙ sym (ap clip (size-held s (a .nodes .now) (a .at) (pre .1) lo hi (a .level) (n .2)))
+    ∙ sym (ap clip (size-held m s (a .nodes .now) (a .at) (pre .1) lo hi (a .level) (n .2)))
 
 size-of-returns-3 : (t : ℕ) → size-of-lts.Need-returns-3 (claims t) (asked t) size-of.Post Inv-loop μ-loop
 unfolding clip
@@ -101,15 +101,21 @@ size-of-returns-3 t c =
     let a = c .before .before .before .before .before .before .before .before .args in
     let n = not-leaf (kindAt (a .nodes .now) (a .at)) (sym (c .before .before .before .before .before .is-leaf .ensures)
     ∙ c .before .before .before .before .if1 .left) in
-    λ s. sym (ap clip (size-dropped s (a .nodes .now) (a .at) (a .level) (container-kind (kindAt (a .nodes .now) (a .at)) (omega arith) (omega arith))
+    λ m o s. sym (ap clip (size-dropped m s (a .nodes .now) (a .at) (a .level) (container-kind (kindAt (a .nodes .now) (a .at)) (omega arith) (omega arith))
     (sym (c .before .before .container-include-fields .ensures) ∙ c .enum-told .given .1)))
 
 size-of-loop-holds : (t : ℕ) → size-of-lts.Need-loop-holds (claims t) (asked t) size-of.Post Inv-loop μ-loop
 size-of-loop-holds t c =
     let pre = c .before .before .before .before .before .before .before .before .before .before .before .pre in
     let a = c .before .before .before .before .before .before .before .before .before .before .before .args in
-    let o = pre .1 .some-node in
-    (omega arith, record { there = node-inner _ _ (pre .1); rest = λ s. (fold (kindAt (a .nodes .now) (a .at)) [], c .of-no-fields .ensures, join-unit _ _) })
+    let o = pre .1 .some-node in (
+      omega arith,
+      record {
+        there = node-inner _ _ (pre .1);
+        rest = λ m o s.
+            (fold (kindAt (a .nodes .now) (a .at)) [], c .of-no-fields .ensures, join-unit _ _);
+      },
+    )
 
 size-of-mul-field : (t : ℕ) → size-of-lts.Need-mul-field (claims t) (asked t) size-of.Post Inv-loop μ-loop
 size-of-mul-field t c = let b = gathered-within (c .before .loop .inv .1) (c .loop-test .taken) in omega arith
@@ -147,8 +153,8 @@ size-of-loop-again t c =
       omega arith,
       gathered-code (c .before .before .before .before .before .before .loop .inv .1) (c .before .before .before .before .before .loop-test .taken) k
           (c .before .leaf-size2 .result)
-          (λ s. c .before .leaf-size2 .ensures ∙ sym (ap clip
-          (size-leaf s (a .nodes .now) (c .before .before .before .before .before .before .loop .child) _ (low-leaf _ k)))) (c .join .ensures),
+          (λ m o s. c .before .leaf-size2 .ensures ∙ ap clip (leaf-entry o _ _) ∙ sym (ap clip
+          (size-leaf m s (a .nodes .now) (c .before .before .before .before .before .before .loop .child) _ (low-leaf _ k)))) (c .join .ensures),
     )
 
 size-of-add-child-3 : (t : ℕ) → size-of-lts.Need-add-child-3 (claims t) (asked t) size-of.Post Inv-loop μ-loop
@@ -229,8 +235,9 @@ size-of-loop-again-3 t c =
       omega arith,
       gathered-turn (c .before .before .before .before .before .before .before .before .before .before .loop .inv .1)
           (c .before .before .before .before .before .before .before .before .before .loop-test .taken) (c .before .before .if5 .item)
-          (λ s. ⊎-elim (λ j. j .3 ∙ (rw whole at (j .2 .ensures s))) (λ j. j .1 ∙ c .before .before .before .before .leaf-size3 .ensures
-          ∙ sym (ap clip (size-leaf s (a .nodes .now) (c .before .before .before .before .before .before .before .before .before .before .loop .child) _
+          (λ m o s. ⊎-elim (λ j. j .3 ∙ (rw whole at (j .2 .ensures m o s)))
+          (λ j. j .1 ∙ c .before .before .before .before .leaf-size3 .ensures ∙ ap clip (leaf-entry o _ _)
+          ∙ sym (ap clip (size-leaf m s (a .nodes .now) (c .before .before .before .before .before .before .before .before .before .before .loop .child) _
           (sym (c .before .before .before .is-leaf2 .ensures) ∙ not-false _ (j .0 .left))))) (c .before .before .if5 .came)) (c .before .join2 .ensures),
     )
 
@@ -239,8 +246,8 @@ size-of-returns-4 t c =
     let a = c .before .before .before .before .before .before .before .before .before .before .before .before .before .args in
     let n = not-leaf (kindAt (a .nodes .now) (a .at)) (sym (c .before .before .before .before .before .before .before .before .before .before .is-leaf .ensures)
     ∙ c .before .before .before .before .before .before .before .before .before .if1 .left) in
-    λ s. gathered-end (c .before .loop .inv .1) (c .loop-test .left) s
-    ∙ ap clip (size-included s (a .nodes .now) (a .at) (a .level) (container-kind (kindAt (a .nodes .now) (a .at)) (omega arith) (omega arith)) _
+    λ m o s. gathered-end (c .before .loop .inv .1) (c .loop-test .left) m o s
+    ∙ ap clip (size-included m s (a .nodes .now) (a .at) (a .level) (container-kind (kindAt (a .nodes .now) (a .at)) (omega arith) (omega arith)) _
     (sym (c .before .before .before .before .before .before .before .container-include-fields .ensures)
     ∙ c .before .before .before .before .before .inner .given .1))
 

@@ -1,4 +1,3 @@
-use mathlib.Core.Path.{_∙_}
 use native.Mathlib.Omega.{arith}
 use Rattle.sheet.proofs.GivenLaws.{given-refused, given-code, given-nodes, nodes-part}
 use Rattle.helper.proofs.AnswerLaws.{size-refused, size-code, size-nodes}
@@ -6,71 +5,51 @@ use borrow.Author.Needs.{needs}
 use Rattle.helper.proofs.size.Statement.{statement}
 use Rattle.helper.proofs.size.Tie as tie
 
-mul-size-of : tie.Need-mul-size-of
-mul-size-of c =
-    let p1 = c .before in
-    let p3 = p1 .before .before in
-    let p6 = p3 .before .before .before in
-    let a = p6 .args in
-    let g = given-nodes (a .words .now) (a .names .now) (p3 .check .ensures .1 .0) (p1 .first .given .1) in
-    let s = g .starts in
-    omega arith
+mul-nodes-size : tie.Need-mul-nodes-size
+mul-nodes-size c =
+    let c3 = c .before .before .before in
+    let c6 = c3 .before .before .before in
+    let s = given-nodes (c6 .args .words .now) (c6 .args .names .now) (c3 .check .ensures .1 .0) (c .before .first .given .1) .starts in omega arith
 
-sub-size-of : tie.Need-sub-size-of
-sub-size-of c =
-    let p1 = c .before in
-    let p3 = p1 .before .before in
-    let p6 = p3 .before .before .before in
-    let a = p6 .args in
-    let g = given-nodes (a .words .now) (a .names .now) (p3 .check .ensures .1 .0) (p1 .first .given .1) in
-    let s = g .starts in
-    omega arith
+sub-nodes-size : tie.Need-sub-nodes-size
+sub-nodes-size c =
+    let c3 = c .before .before .before in
+    let c6 = c3 .before .before .before in
+    let s = given-nodes (c6 .args .words .now) (c6 .args .names .now) (c3 .check .ensures .1 .0) (c .before .first .given .1) .starts in omega arith
 
-part-size-of-start : tie.Need-part-size-of-start
-part-size-of-start c =
-    let p1 = c .before in
-    let p3 = p1 .before .before in
-    let p6 = p3 .before .before .before in
-    let a = p6 .args in
-    let g = given-nodes (a .words .now) (a .names .now) (p3 .check .ensures .1 .0) (p1 .first .given .1) in
-    let s = g .starts in
-    omega arith
+part-nodes-size-start : tie.Need-part-nodes-size-start
+part-nodes-size-start c =
+    let c3 = c .before .before .before in
+    let c6 = c3 .before .before .before in
+    let s = given-nodes (c6 .args .words .now) (c6 .args .names .now) (c3 .check .ensures .1 .0) (c .before .first .given .1) .starts in omega arith
 
-size-of-requires : tie.Need-size-of-requires
-size-of-requires c κs =
-    let p3 = c .before .before .before in
-    let p5 = p3 .before .before in
-    let p8 = p5 .before .before .before in
-    let a = p8 .args in
-    let g = given-nodes (a .words .now) (a .names .now) (p5 .check .ensures .1 .0) (p3 .first .given .1) in
-    nodes-part g .root
+nodes-size-requires : tie.Need-nodes-size-requires
+nodes-size-requires c κs =
+    let c2 = c .before .before in
+    let c4 = c2 .before .before in
+    let c7 = c4 .before .before .before in
+    nodes-part (given-nodes (c7 .args .words .now) (c7 .args .names .now) (c4 .check .ensures .1 .0) (c2 .first .given .1)) .root
 
 returns : tie.Need-returns
 returns c =
-    let p1 = c .before in
-    let p3 = p1 .before .before in
-    let p6 = p3 .before .before .before in
-    let a = p6 .args in size-refused _ _ (given-refused (a .words .now) (a .names .now) (p3 .check .ensures .1 .0) (p1 .why .given .1))
+    let c3 = c .before .before .before in
+    let c6 = c3 .before .before .before in
+    size-refused _ _ _ (given-refused (c6 .args .words .now) (c6 .args .names .now) (c3 .check .ensures .1 .0) (c .before .why .given .1))
 
 returns-2 : tie.Need-returns-2
 returns-2 c =
-    let p1 = c .before in
-    let p3 = p1 .before .before in
-    let p5 = p3 .before .before in
-    let p8 = p5 .before .before .before in
-    let a = p8 .args in
-    c .answer .ensures ∙ size-code _ _ (given-code (a .words .now) (a .names .now) (p5 .check .ensures .1 .0) (p3 .kind .given .1)) (p1 .of-primitive .ensures)
+    let c2 = c .before .before in
+    let c4 = c2 .before .before in
+    let c7 = c4 .before .before .before in
+    size-code _ _ _ (given-code (c7 .args .words .now) (c7 .args .names .now) (c4 .check .ensures .1 .0) (c2 .kind .given .1)) (c .code-size .ensures)
 
 returns-3 : tie.Need-returns-3
 returns-3 c =
-    let p1 = c .before in
-    let p2 = p1 .before in
-    let p5 = p2 .before .before .before in
-    let p7 = p5 .before .before in
-    let p10 = p7 .before .before .before in
-    let a = p10 .args in
-    let g = given-nodes (a .words .now) (a .names .now) (p7 .check .ensures .1 .0) (p5 .first .given .1) in
-    c .answer2 .ensures ∙ size-nodes _ _ (nodes-part g) (p2 .new .ensures) (p1 .size-of .ensures (a .names .now))
+    let c3 = c .before .before .before in
+    let c5 = c3 .before .before in
+    let c8 = c5 .before .before .before in
+    let g = given-nodes (c8 .args .words .now) (c8 .args .names .now) (c5 .check .ensures .1 .0) (c3 .first .given .1) in
+    size-nodes _ _ _ (nodes-part g) (c .nodes-size .ensures (c8 .args .names .now))
 
 pub size-spec : {M : Type 1} → statement M
 size-spec =
@@ -80,15 +59,12 @@ size-spec =
     (λ c. search needs)
     (λ c. search needs)
     (λ c κs. search needs)
-    (λ c κs. search needs)
     (λ c. search needs)
-    mul-size-of
-    sub-size-of
-    part-size-of-start
+    mul-nodes-size
+    sub-nodes-size
+    part-nodes-size-start
     (λ c. search needs)
-    (λ c κs. search needs)
-    size-of-requires
-    (λ c κs. search needs)
+    nodes-size-requires
     returns
     returns-2
     returns-3)

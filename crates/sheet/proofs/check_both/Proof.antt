@@ -28,8 +28,8 @@ returns-2 : tie.Need-returns-2
 returns-2 c =
     let a = c .before .before .before .before .before .before .before .before .before .before .before .before .before .args in
     both-gives (a .aw .now) (a .an .now) (a .bw .now) (a .bn .now) (c .both-of .ensures)
-    (rw (whole, whole) at (c .before .before .before .before .check .ensures .0))
-    (rw (whole, whole) at (c .before .check2 .ensures .0))
+    (rw (whole, whole) at (c .before .before .before .before .check-sheet .ensures))
+    (rw (whole, whole) at (c .before .check-sheet2 .ensures))
 
 pub check-both-spec : {M : Type 1} → statement M
 check-both-spec =

@@ -32,6 +32,9 @@ returns-9 c = rw (c .before .self3 .given .1)
 returns-10 : tie.Need-returns-10
 returns-10 c = rw (c .enum-told7 .given .1)
 
+returns-11 : tie.Need-returns-11
+returns-11 c = rw (c .enum-told8 .given .1)
+
 pub words-spec : {M : Type 1} → statement M
 words-spec =
     tie.close
@@ -47,6 +50,7 @@ words-spec =
     (λ c. search needs)
     (λ c. search needs)
     (λ c. search needs)
+    (λ c. search needs)
     returns
     returns-2
     returns-3
@@ -56,4 +60,5 @@ words-spec =
     returns-7
     returns-8
     returns-9
-    returns-10)
+    returns-10
+    returns-11)

@@ -1,0 +1,144 @@
+//! Sizes in every row, against the driver's own (rows.rs) and against the crate where that can be asked.
+
+use crate::ask;
+use crate::damage;
+use crate::grow_sizes;
+use crate::library::{self, reply, Reply, Sheet};
+use crate::plain;
+use crate::random::Random;
+use crate::report::{expect, refusal_name, Case, Difference, Lent, Tally};
+use crate::rows::{self, Answer, LARGEST, ROWS, TOO_LARGE};
+use crate::texts;
+use crate::trees::{Arena, Tree};
+use crate::EncodingBox;
+
+/// Row numbers that are none, such as would be one if a part of their bits were looked at.
+const NO_ROWS: [u64; 6] = [3, 4, 256, 1 << 32, (1 << 32) + 2, u64::MAX];
+
+/// For the counts.
+const ROW_NAMES: [&str; ROWS] = ["size, row 0", "size, row 1", "size, row 2"];
+
+/// What short trees are made of: each outcome occurs in each row that has it.
+const TOKENS: [&str; 20] = [
+    "c", "l", "D", "jD", "v", "*", "b65", "b0L3", "[0", "[2", "[4294967295", "[2305843009213693952",
+    "[18446744073709551615", "]", "{R=", "}", "(U=", ")", "^", "A",
+];
+
+/// Every text of up to `most` tokens that can be read.
+pub fn short_inputs(most: usize) -> impl Iterator<Item = Case> {
+    let mut random = Random::new(0);
+    let trees = texts::every(&TOKENS, most).filter_map(|text| text.parse::<EncodingBox>().ok());
+    trees.map(move |tree| Case { a: Tree::from_box(&tree), extra: random.next(), ..Case::default() })
+}
+
+pub fn inputs(seed: u64, count: u64) -> impl Iterator<Item = Case> {
+    let mut random = Random::new(seed);
+    (0..count).map(move |_| {
+        let a = grow_sizes::tree(&mut random);
+        Case { a, extra: random.next(), ..Case::default() }
+    })
+}
+
+/// What is used again from case to case.
+#[derive(Default)]
+pub struct Check {
+    arena: Arena,
+    lent: Lent,
+}
+
+impl Check {
+    pub fn case(&mut self, case: &Case, tally: &mut Tally) -> Result<(), Difference> {
+        let mut random = Random::new(case.extra);
+        self.lent.fill(&case.a, &mut random);
+        let sheet = self.lent.sheet();
+        let mut sized = 0;
+        for row in 0..ROWS {
+            let (refusal, answer) = check_size(&mut self.arena, &case.a, sheet, row, tally)?;
+            sized += usize::from(refusal == TOO_LARGE || answer[0] == 1);
+        }
+        if sized != 0 && sized != ROWS {
+            return Err("size: in one row and not in another".to_string());
+        }
+        check_no_rows(sheet, random.next(), tally)?;
+        self.lent.is_unchanged()?;
+        if random.below(4) == 0 {
+            self.spoilt(&case.a, &mut random, tally)?;
+        }
+        Ok(())
+    }
+
+    /// The tree's sheet with a damage or a bad name, if that is refused.
+    fn spoilt(&mut self, tree: &Tree, random: &mut Random, tally: &mut Tally) -> Result<(), Difference> {
+        let raw = damage::of(random, tree);
+        let verdict = plain::verdict(&raw.words, &raw.names);
+        if verdict == 0 {
+            return Ok(());
+        }
+        self.lent.fill_raw(&raw.words, &raw.names);
+        check_refused(verdict, self.lent.sheet(), tally)?;
+        self.lent.is_unchanged()
+    }
+}
+
+/// One row of a valid sheet without bad names; the library's reply.
+pub fn check_size(
+    arena: &mut Arena,
+    tree: &Tree,
+    sheet: Sheet,
+    row: usize,
+    tally: &mut Tally,
+) -> Result<Reply, Difference> {
+    let measured = rows::measure(tree, row);
+    match ask::size_in(arena, tree, row, &measured) {
+        None => tally.add(ROW_NAMES[row], "outside the crate's domain"),
+        Some(bytes) if bytes == measured.bytes => {}
+        Some(bytes) => return Err(format!("row {row}: the driver's size {:?}, the crate's {bytes:?}", measured.bytes)),
+    }
+    let answer = rows::handed_out(measured.bytes, row);
+    count(answer, measured.bytes, row, tally);
+    let wanted = match answer {
+        Answer::None => reply(0, &[0, 0]),
+        Answer::Bytes(bytes) => reply(0, &[1, bytes]),
+        Answer::Refused(number) => reply(number, &[0, 0]),
+    };
+    let got = library::size(sheet, row as u64);
+    expect(ROW_NAMES[row], got, wanted)?;
+    Ok(got)
+}
+
+fn count(answer: Answer, bytes: Option<u128>, row: usize, tally: &mut Tally) {
+    let outcome = match answer {
+        Answer::None => "none",
+        Answer::Bytes(_) => "bytes",
+        Answer::Refused(number) => refusal_name(number),
+    };
+    tally.add(ROW_NAMES[row], outcome);
+    if bytes == Some(LARGEST[row]) {
+        tally.add(ROW_NAMES[row], "bytes, the most");
+    }
+    if bytes == Some(LARGEST[row] + 1) {
+        tally.add(ROW_NAMES[row], "refused 06, one byte too many");
+    }
+}
+
+/// A valid sheet without bad names in rows that are none, and in one of any number.
+fn check_no_rows(sheet: Sheet, any: u64, tally: &mut Tally) -> Result<(), Difference> {
+    for row in NO_ROWS.into_iter().chain([any.max(ROWS as u64)]) {
+        tally.add("size, no such row", refusal_name(rows::NO_SUCH_ROW));
+        expect("size, no such row", library::size(sheet, row), reply(rows::NO_SUCH_ROW, &[0, 0]))?;
+    }
+    Ok(())
+}
+
+/// Lists that are no sheet, or have a bad name: that goes before the number of the row.
+pub fn check_refused(verdict: u64, sheet: Sheet, tally: &mut Tally) -> Result<(), Difference> {
+    for (row, name) in ROW_NAMES.into_iter().enumerate() {
+        tally.add(name, refusal_name(verdict));
+        expect(name, library::size(sheet, row as u64), reply(verdict, &[0, 0]))?;
+    }
+    for row in NO_ROWS {
+        tally.add("size, no such row", refusal_name(verdict));
+        expect("size, no such row", library::size(sheet, row), reply(verdict, &[0, 0]))?;
+    }
+    Ok(())
+}
