@@ -8,10 +8,9 @@
 
 /* Whether a type's size can be held against the row of its target, where sizes are without padding. */
 enum {
-    EXACT,    /* no padding on any target here */
-    EXTENDED, /* the same, with long doubles */
-    PADDED,   /* padding or shared bytes of bitfields, or no size at all */
-    FOREIGN,  /* a type that the crate does not know: its text is refused */
+    EXACT,   /* no padding on any target here */
+    PADDED,  /* padding or shared bytes of bitfields, or no size at all */
+    FOREIGN, /* a type that the crate does not know: its text is refused */
 };
 
 /* For an int before a double: on armv7, for iOS, doubles stand at multiples of 4, so that there is no padding. */
@@ -249,8 +248,8 @@ typedef float Vector __attribute__((vector_size(16)));
 #define TYPES(X) \
     X(Char, EXACT) X(SignedChar, EXACT) X(Short, EXACT) X(Int, EXACT) X(Long, EXACT) \
     X(LongLong, EXACT) X(UChar, EXACT) X(UShort, EXACT) X(UInt, EXACT) X(ULong, EXACT) \
-    X(ULongLong, EXACT) X(Float, EXACT) X(Double, EXACT) X(LongDouble, EXTENDED) \
-    X(FloatComplex, EXACT) X(DoubleComplex, EXACT) X(LongDoubleComplex, EXTENDED) \
+    X(ULongLong, EXACT) X(Float, EXACT) X(Double, EXACT) X(LongDouble, EXACT) \
+    X(FloatComplex, EXACT) X(DoubleComplex, EXACT) X(LongDoubleComplex, EXACT) \
     X(Boolean, EXACT) X(String, EXACT) X(ConstString, EXACT) X(Octets, EXACT) X(Object, EXACT) \
     X(Conforming, EXACT) X(Instance, EXACT) X(ClassObject, EXACT) X(Selector, EXACT) X(Cover, EXACT) \
     X(Anything, EXACT) X(ConstAnything, EXACT) X(Ints, EXACT) X(ConstInts, EXACT) X(ConstPointer, EXACT) \

@@ -476,7 +476,6 @@ fn compare_fields(
     left == more
 }
 
-// The size of the tree in a sheet.
 // The largest size in a row.
 fn max_size(row: u64) -> u64
     ensures { λ r. ⌜ r ≡ maxSize row ⌝ }

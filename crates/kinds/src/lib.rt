@@ -422,15 +422,15 @@ fn wide(x: u8) -> u64
     x as u64
 }
 
-// `Primitive::size` on kind words. Neither a row nor a kind beyond the table has one.
+// `Primitive::size` on kind words.
 pub fn primitive_size(row: u64, kind: u64) -> PrimitiveSize
     ensures { λ r. ⌜ sizeOf r ≡ sizeIn row kind ⌝ }
 {
     if ROWS <= row {
-        return PrimitiveSize::Nothing;
+        return PrimitiveSize::Nothing; // no such row
     }
     if PRIMITIVES <= kind {
-        return PrimitiveSize::Nothing;
+        return PrimitiveSize::Nothing; // no primitive
     }
     let n = wide(SIZES[row as usize][kind as usize]);
     if n == 0 {

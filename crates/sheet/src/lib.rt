@@ -406,11 +406,12 @@ pub fn check_both(aw: &[u64], an: &[u8], bw: &[u64], bn: &[u8]) -> CheckedBoth
         if lone_code(bw) {
             return CheckedBoth::Codes(aw[HEADER], bw[HEADER]);
         }
+        return both_of(
+            Checked::Code(HEADER, aw[HEADER]),
+            check_sheet(&bw[0..], &bn[0..]),
+        );
     }
-    both_of(
-        check_sheet(&aw[0..], &an[0..]),
-        check_sheet(&bw[0..], &bn[0..]),
-    )
+    both_of(check_sheet(&aw[0..], &an[0..]), check(&bw[0..], &bn[0..]))
 }
 
 // Node `n` of the words from the first node on. Does nothing where there is no room for it.

@@ -24,12 +24,23 @@ returns c =
     (good-code _ _ (lone-good _ _ l) (l .kind))
     (good-code _ _ (lone-good _ _ m) (m .kind))
 
+shared-slice-read-t12 : tie.Need-shared-slice-read-t12
+shared-slice-read-t12 c = let r = c .before .before .before .before .lone-code .ensures (c .before .before .before .if1 .taken) .room in omega arith
+
 returns-2 : tie.Need-returns-2
 returns-2 c =
     let a = c .before .before .before .before .before .before .before .before .before .before .before .before .before .args in
+    let l = c .before .before .before .before .before .before .before .before .lone-code .ensures (c .before .before .before .before .before .before .before .if1 .taken) in
     both-gives (a .aw .now) (a .an .now) (a .bw .now) (a .bn .now) (c .both-of .ensures)
-    (rw (whole, whole) at (c .before .before .before .before .check-sheet .ensures))
-    (rw (whole, whole) at (c .before .check-sheet2 .ensures))
+    (good-code _ _ (lone-good _ _ l) (l .kind))
+    (rw (whole, whole) at (c .before .check-sheet .ensures))
+
+returns-3 : tie.Need-returns-3
+returns-3 c =
+    let a = c .before .before .before .before .before .before .before .before .before .before .before .before .before .args in
+    both-gives (a .aw .now) (a .an .now) (a .bw .now) (a .bn .now) (c .both-of2 .ensures)
+    (rw (whole, whole) at (c .before .before .before .before .check-sheet2 .ensures))
+    (rw (whole, whole) at (c .before .check .ensures .0))
 
 pub check-both-spec : {M : Type 1} → statement M
 check-both-spec =
@@ -40,6 +51,16 @@ check-both-spec =
     shared-slice-read-t8
     shared-slice-read-t10
     returns
+    shared-slice-read-t12
+    (λ c. search needs)
+    (λ c. search needs)
+    (λ c. search needs)
+    (λ c. search needs)
+    (λ c. search needs)
+    (λ c. search needs)
+    (λ c κs. search needs)
+    (λ c κs. search needs)
+    returns-2
     (λ c. search needs)
     (λ c. search needs)
     (λ c. search needs)
@@ -55,4 +76,4 @@ check-both-spec =
     (λ c. search needs)
     (λ c κs. search needs)
     (λ c κs. search needs)
-    returns-2)
+    returns-3)
