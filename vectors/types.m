@@ -8,7 +8,7 @@
 
 /* Whether a type's size can be held against the row of its target, where sizes are without padding. */
 enum {
-    EXACT,   /* no padding on any target here */
+    EXACT,   /* no padding on this target */
     PADDED,  /* padding or shared bytes of bitfields, or no size at all */
     FOREIGN, /* a type that the crate does not know: its text is refused */
 };
