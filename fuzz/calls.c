@@ -432,7 +432,7 @@ uint64_t call_matches(uint64_t *answer) {
     return refusal;
 }
 
-uint64_t call_size(uint64_t row, int *has_one) {
+uint64_t call_size(uint64_t row, struct size *size) {
     uint64_t *lent = lend_marked(&answer_room, 2 * sizeof(uint64_t));
     uint64_t refusal;
     running = SIZE;
@@ -442,17 +442,28 @@ uint64_t call_size(uint64_t row, int *has_one) {
     if (lent[0] == 0 && lent[1] != 0) {
         fail("gave bytes of what has no size");
     }
-    if (row > BERZHOTUN_ROW_ARM32 && (refusal == 0 || refusal == BERZHOTUN_SIZE_TOO_LARGE)) {
+    if (row > BERZHOTUN_ROW_GUIDE && (refusal == 0 || refusal == BERZHOTUN_SIZE_TOO_LARGE)) {
         fail("took a row that is none");
     }
-    if (row <= BERZHOTUN_ROW_ARM32 && refusal == BERZHOTUN_NO_SUCH_ROW) {
+    if (row <= BERZHOTUN_ROW_GUIDE && refusal == BERZHOTUN_NO_SUCH_ROW) {
         fail("refused a row");
     }
     if (row == BERZHOTUN_ROW_ARM32 && lent[1] > UINT32_MAX) {
         fail("gave a size that the row does not have");
     }
-    *has_one = refusal == BERZHOTUN_SIZE_TOO_LARGE || lent[0] == 1;
+    size->is_there = refusal == BERZHOTUN_SIZE_TOO_LARGE || lent[0] == 1;
+    size->bytes = refusal == BERZHOTUN_SIZE_TOO_LARGE ? UINT64_MAX : lent[1];
     return refusal;
+}
+
+int first_has(uint64_t kind) {
+    uint64_t node;
+    for (node = 0; node < words[0][0]; node++) {
+        if (words[0][4 + 4 * node] == kind) {
+            return 1;
+        }
+    }
+    return 0;
 }
 
 uint64_t call_length(uint64_t *answer) {

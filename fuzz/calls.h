@@ -43,8 +43,15 @@ uint64_t call_reason(enum function function, size_t room, uint64_t *answer);
 
 uint64_t call_matches(uint64_t *answer);
 
-/* Whether there is a size is put in `has_one`; one that is too large counts. */
-uint64_t call_size(uint64_t row, int *has_one);
+/* Whether there is a size, and its bytes: the most that a number can hold if it is too large, 0 if there is none. */
+struct size {
+    int is_there;
+    uint64_t bytes;
+};
+uint64_t call_size(uint64_t row, struct size *size);
+
+/* Whether the first sheet, which was accepted, has a node of that kind. */
+int first_has(uint64_t kind);
 
 uint64_t call_length(uint64_t *answer);
 

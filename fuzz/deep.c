@@ -25,7 +25,7 @@ static uint64_t row;
 /* One call of a function with what is lent; whether it was accepted. */
 static uint64_t call(enum function function) {
     uint64_t answer, reason[2];
-    int has_size;
+    struct size size;
     switch (function) {
     case FROM_STR:
     case FROM_STRICT:
@@ -46,7 +46,7 @@ static uint64_t call(enum function function) {
     case MATCHES:
         return call_matches(&answer);
     case SIZE:
-        return call_size(row, &has_size);
+        return call_size(row, &size);
     case LENGTH:
         return call_length(&answer);
     default:
@@ -146,7 +146,7 @@ static void run_tree(void) {
     size_t i;
     run_pair(BERZHOTUN_MAX_NODES - 1);
     lend_sheet(0, &tree);
-    for (row = 0; row <= BERZHOTUN_ROW_ARM32; row++) {
+    for (row = 0; row <= BERZHOTUN_ROW_GUIDE; row++) {
         if (call_on_stack(SIZE) != 0) {
             fail("refused to measure a deep tree");
         }

@@ -124,20 +124,37 @@ static void take_signature(void) {
 
 /* Mostly a row or the first number that is none. */
 static uint64_t random_row(void) {
-    return random_below(8) != 0 ? random_below(4) : random_word() >> random_below(64);
+    return random_below(8) != 0 ? random_below(BERZHOTUN_ROW_GUIDE + 2) : random_word() >> random_below(64);
+}
+
+/* Row 3 is row 0 with `l` half as wide: of a tree without one the answer is the same, of any other the size is at most
+   that in row 0 and at least half of it. */
+static void check_guide(uint64_t refusal, struct size in_row_0, uint64_t there, struct size in_row_3) {
+    int is_same = there == refusal && in_row_3.bytes == in_row_0.bytes;
+    if (!first_has(BERZHOTUN_LONG) && !is_same) {
+        fail("is not the size in row 0, though there is no l");
+    }
+    if ((there != 0 && refusal == 0) || in_row_3.bytes > in_row_0.bytes ||
+        in_row_0.bytes - in_row_3.bytes > in_row_3.bytes) {
+        fail("is more than the size in row 0, or less than half of it");
+    }
 }
 
 /* In any row, and in row 0: 3 and 4 do not depend on the row, nor does whether there is a size. */
 static void measure_first(void) {
-    int has_one, has_one_there;
-    uint64_t row = random_row(), refusal = call_size(BERZHOTUN_ROW_APPLE_ARM64, &has_one);
-    uint64_t there = call_size(row, &has_one_there), due = refusal == BERZHOTUN_SIZE_TOO_LARGE ? 0 : refusal;
-    if (due == 0 && row > BERZHOTUN_ROW_ARM32) {
+    struct size size, size_there;
+    uint64_t row = random_row(), refusal = call_size(BERZHOTUN_ROW_APPLE_ARM64, &size);
+    uint64_t there = call_size(row, &size_there), due = refusal == BERZHOTUN_SIZE_TOO_LARGE ? 0 : refusal;
+    int is_due = size.is_there;
+    if (due == 0 && row > BERZHOTUN_ROW_GUIDE) {
         due = BERZHOTUN_NO_SUCH_ROW;
-        has_one = 0;
+        is_due = 0;
     }
-    if ((there == BERZHOTUN_SIZE_TOO_LARGE ? 0 : there) != due || has_one_there != has_one) {
+    if ((there == BERZHOTUN_SIZE_TOO_LARGE ? 0 : there) != due || size_there.is_there != is_due) {
         fail("does not go with the size in row 0");
+    }
+    if (row == BERZHOTUN_ROW_GUIDE && due == 0) {
+        check_guide(refusal, size, there, size_there);
     }
 }
 

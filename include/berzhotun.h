@@ -116,10 +116,11 @@ extern "C" {
 #define BERZHOTUN_UNION 30u               /* (Name=ii), or (Name) */
 #define BERZHOTUN_NONE 31u                /* no type at all: no byte */
 
-/* The rows of sizes: the machine that a type is measured for. Other numbers are refused, by 20. */
+/* The rows of sizes: the widths that a type is measured with. Other numbers are refused, by 20. */
 #define BERZHOTUN_ROW_APPLE_ARM64 0u /* 64-bit Apple ARM, as the Rust crate measures there */
 #define BERZHOTUN_ROW_X86_64 1u      /* x86_64, as Intel Macs: long double is wider */
-#define BERZHOTUN_ROW_ARM32 2u       /* 32-bit ARM: long and pointers are narrower */
+#define BERZHOTUN_ROW_ARM32 2u       /* 32-bit ARM: long, unsigned long and pointers are narrower */
+#define BERZHOTUN_ROW_GUIDE 3u       /* row 0 after Apple's guide: long is narrower */
 
 /* The refusals. Those up to 6, 18 and 20 carry only their number; the others also a place, which is
    named. */
@@ -164,7 +165,7 @@ extern "C" {
 #define BERZHOTUN_EMPTY_SIGNATURE 18u
 /* In a strict reading a number has more than one digit and starts with 0. Place: that of the 0. */
 #define BERZHOTUN_SURPLUS_ZERO 19u
-/* The number of the row of sizes is above 2. */
+/* The number of the row of sizes is above 3. */
 #define BERZHOTUN_NO_SUCH_ROW 20u
 
 /*
@@ -370,13 +371,18 @@ uint64_t berzhotun_equivalent_to_str(const uint64_t *words, size_t words_len, co
                                      uint64_t answer[1]);
 
 /*
- * Measures a tree in bytes, without padding, with the widths of the machine whose row is named:
+ * Measures a tree in bytes, without padding, with the widths of the row that is named:
  *
- *     row                             long   strings, objects, blocks,      long double
- *                                            classes, selectors, pointers
- *     BERZHOTUN_ROW_APPLE_ARM64 (0)   8      8                              8
- *     BERZHOTUN_ROW_X86_64      (1)   8      8                              16
- *     BERZHOTUN_ROW_ARM32       (2)   4      4                              8
+ *     row                             long   unsigned   strings, objects, blocks,      long
+ *                                            long       classes, selectors, pointers   double
+ *     BERZHOTUN_ROW_APPLE_ARM64 (0)   8      8          8                              8
+ *     BERZHOTUN_ROW_X86_64      (1)   8      8          8                              16
+ *     BERZHOTUN_ROW_ARM32       (2)   4      4          4                              8
+ *     BERZHOTUN_ROW_GUIDE       (3)   4      8          8                              8
+ *
+ * Rows 0 to 2 are those of machines. Row 3 is for a caller that follows Apple's guide, which states
+ * 32 bits for `l` in 64-bit programs and nothing about `L`; in memory a long has the width that its
+ * machine's row gives.
  *
  * In every row char and bool have 1; short 2; int and float 4; long long and double 8; a complex
  * number twice its part; a bitfield its bits raised to a power of two, at least 8, divided by 8, or
@@ -389,12 +395,13 @@ uint64_t berzhotun_equivalent_to_str(const uint64_t *words, size_t words_len, co
  * Reads   the sheet as far as its first four words say.
  * Writes  answer[0 .. 2].
  * 0       answer is 1 and the bytes, or 0 and 0 where the type has no size.
- * Refuses 3 if the lists are no sheet, then 4 if a name is bad, then 20 if row is above 2, then 6
+ * Refuses 3 if the lists are no sheet, then 4 if a name is bad, then 20 if row is above 3, then 6
  *         if the size is above 2^64 - 1, in row 2 above 2^32 - 1 (no size goes before too large,
  *         and 0 times too large is 0: only the whole tree's size must fit). answer is then 0 0.
  *
- * So `{R=i^v}` has 12 bytes in rows 0 and 1, and 8 in row 2; `[4294967296c]` has 4,294,967,296 in
- * rows 0 and 1, and is refused by 6 in row 2, where `[0[4294967296c]]` has 0.
+ * So `{R=i^v}` has 12 bytes in rows 0, 1 and 3, and 8 in row 2; `{R=lL}` has 16 in rows 0 and 1, 8
+ * in row 2 and 12 in row 3; `[4294967296c]` has 4,294,967,296 in rows 0, 1 and 3, and is refused by
+ * 6 in row 2, where `[0[4294967296c]]` has 0.
  */
 uint64_t berzhotun_size(const uint64_t *words, size_t words_len, const uint8_t *names,
                         size_t names_len, uint64_t row, uint64_t answer[2]);

@@ -211,7 +211,7 @@ pub fn size_in(arena: &mut Arena, tree: &Tree, row: usize, measured: &Measured) 
     (is_here && measured.fits()).then(|| arena.encoding_in_row(tree, row).size().map(|bytes| bytes as u128))
 }
 
-/// What size answers in a row: by the crate where it can be asked, else by request N5.
+/// What size answers in a row: by the crate where it can be asked, else by requests N5 and N6.
 pub fn sized(arena: &mut Arena, tree: &Tree, row: u64) -> Answer {
     if row >= rows::ROWS as u64 {
         return Answer::Refused(rows::NO_SUCH_ROW);

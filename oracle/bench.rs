@@ -122,8 +122,10 @@ fn bench_tree(name: &str, tree: &Tree) {
     line(name, "size", || black_box(a).size(), || library::size(black_box(sheet), 0).0);
     // The crate has no rows: on its side stands the tree with codes that here have that row's sizes.
     let mut third = Arena::default();
-    let narrow = third.encoding_in_row(tree, 2);
-    line(name, "size, row 2", || black_box(narrow).size(), || library::size(black_box(sheet), black_box(2)).0);
+    for (row, what) in [(2, "size, row 2"), (3, "size, row 3")] {
+        let made = third.encoding_in_row(tree, row as usize);
+        line(name, what, || black_box(made).size(), || library::size(black_box(sheet), black_box(row)).0);
+    }
     let theirs = || black_box(a).equivalent_to(black_box(b));
     line(name, "equivalent_to", theirs, || library::equivalent_to(black_box(sheet), black_box(sheet)).0);
     let theirs = || black_box(a).equivalent_to_box(black_box(&boxed));

@@ -56,10 +56,12 @@ fn mixed(random: &mut Random, depth: usize) -> Tree {
     }
 }
 
-/// A struct that has a size about a limit in some row, in fields of which some are arrays of char.
+/// A struct that has a size about a limit in some row, in fields of which some are arrays of char or a long.
 fn sum_about_limit(random: &mut Random) -> Tree {
     let row = random.below(rows::ROWS);
-    let mut left = limit(random) + random.below(7) as u128 - 4;
+    // Mostly the row's own limit; that of another must do nothing here.
+    let limited = if random.percent(70) { row } else { random.below(rows::ROWS) };
+    let mut left = rows::LARGEST[limited] + 1 + random.below(7) as u128 - 4;
     let mut fields = Vec::new();
     for _ in 0..random.below(5) {
         let field = mixed(random, 1);
@@ -72,11 +74,13 @@ fn sum_about_limit(random: &mut Random) -> Tree {
         }
     }
     while left > 0 {
+        let item = one(random.pick(&[0, 0, LONG, UNSIGNED_LONG]));
+        let bytes = rows::measure(&item, row).bytes.expect("a code that has a size");
         let part = if random.percent(50) { left } else { random.next().into() };
-        let part = part.min(left).min(u64::MAX.into());
-        left -= part;
+        let length = part.min(left).min(u64::MAX.into()) / bytes;
+        left -= length * bytes;
         let at = random.below(fields.len() + 1);
-        fields.insert(at, holder(ARRAY, part as u64, 0, &one(0)));
+        fields.insert(at, holder(ARRAY, length as u64, 0, &item));
     }
     container(random, STRUCT, &fields)
 }
@@ -94,7 +98,7 @@ fn product_about_limit(random: &mut Random) -> Tree {
         &[2; 64],
     ];
     let mut item = one(random.pick(&[0, 5, 16]));
-    let mut factors = random.pick(&FACTORS);
+    let mut factors = if random.percent(40) { FACTORS[6] } else { random.pick(&FACTORS) };
     if factors.len() == 64 {
         item = if random.percent(70) { one(code(random)) } else { leaf(random) };
         let bytes = rows::measure(&item, random.below(rows::ROWS)).bytes.unwrap_or(1);
@@ -148,15 +152,15 @@ fn code(random: &mut Random) -> u64 {
     if random.percent(30) {
         random.below(24) as u64
     } else {
-        random.pick(&[0, 2, 3, 3, 8, 8, 12, 12, 12, 15, 15, 17, 18, OBJECT, BLOCK, CLASS, 22])
+        random.pick(&[0, 2, 3, 3, 3, 3, 8, 8, 8, 8, 12, 12, 12, 15, 15, 17, 18, OBJECT, BLOCK, CLASS, 22])
     }
 }
 
 /// About 0, the limits, and what makes them when it is multiplied by a size.
 fn number(random: &mut Random) -> u64 {
-    const MIDDLES: [u64; 18] = [
+    const MIDDLES: [u64; 20] = [
         0, 0, 0, 1, 1, 2, 3, 16, 1 << 16, 1 << 28, 1 << 29, 1 << 30, 1 << 32, 1 << 32, 1 << 59, 1 << 60,
-        1 << 61, u64::MAX,
+        1 << 61, 1 << 62, 1 << 62, u64::MAX,
     ];
     let middle = random.pick(&MIDDLES);
     match random.below(3) {
@@ -164,11 +168,6 @@ fn number(random: &mut Random) -> u64 {
         1 => middle.saturating_sub(random.below(3) as u64),
         _ => middle.saturating_add(random.below(3) as u64),
     }
-}
-
-/// The first size that is above the largest of a row.
-fn limit(random: &mut Random) -> u128 {
-    random.pick(&rows::LARGEST[1..]) + 1
 }
 
 fn one(kind: u64) -> Tree {

@@ -19,7 +19,7 @@
 //!     reason-all TREE TREE         yes | no HEX              (the same with all fields)
 //!     text TREE TEXT               yes | no                  (equivalent_to_str)
 //!     size TREE                    bytes N | none | outside  (document 01's target)
-//!     size-in ROW TREE             bytes N | none | no NUMBER 0 0 0  (request N5, by its row number)
+//!     size-in ROW TREE             bytes N | none | no NUMBER 0 0 0  (requests N5 and N6, by its row number)
 //!     size-host TREE               bytes N | none            (as the crate answers on this machine)
 //!     length TREE                  N                         (static_encoding_str_len)
 //!     print TREE                   t:HEX                     (static_encoding_str_array)
@@ -31,7 +31,7 @@
 //!
 //!     unread NUMBER PLACE BYTE KIND    a text given as a tree could not be read
 //!     panic                            the crate panicked (a bad name that it came to)
-//!     bad sheet | bad utf8 | bad line  the question is not one for the crate
+//!     bad sheet | bad utf8 | bad line  the question is not one for the crate (`size-in`: no 3 for a bad sheet)
 
 use std::fmt::Write as _;
 use std::io::{BufRead, BufReader, BufWriter, Write};
@@ -40,12 +40,15 @@ use std::panic::{catch_unwind, set_hook, AssertUnwindSafe};
 use crate::ask::{self, Refusal};
 use crate::reason::Finder;
 use crate::rows::Answer;
-use crate::sheet::{is_container, names_are_good, BAD_NAME};
+use crate::sheet::{is_container, names_are_good, BAD_LAYOUT, BAD_NAME};
 use crate::trees::{Arena, Tree};
 use crate::EncodingBox;
 
 /// Above this many steps printing into an array takes seconds; Display's text stands in.
 const MOST_STEPS: u64 = 200_000_000;
+
+/// The answer for words and name bytes that are no sheet, except that sizes by rows have a refusal for it.
+const BAD_SHEET: &str = "bad sheet";
 
 pub fn run() -> i32 {
     set_hook(Box::new(|_| {}));
@@ -95,7 +98,7 @@ fn ask(line: &str) -> Result<String, String> {
         ("reason-all", [a, b]) => Ok(reason(&tree_of(a)?, &tree_of(b)?, true)),
         ("text", [tree, text]) => Ok(against_text(&tree_of(tree)?, &text_of(text)?)),
         ("size", [tree]) => Ok(size(&tree_of(tree)?)),
-        ("size-in", [row, tree]) => Ok(size_in(&tree_of(tree)?, row.parse().map_err(|_| bad_line())?)),
+        ("size-in", [row, tree]) => size_in(tree_of(tree), row.parse().map_err(|_| bad_line())?),
         ("size-host", [tree]) => Ok(size_here(&tree_of(tree)?)),
         ("length", [tree]) => Ok(length(&tree_of(tree)?)),
         ("print", [tree]) => Ok(print(&tree_of(tree)?)),
@@ -161,16 +164,20 @@ fn size(tree: &Tree) -> String {
     }
 }
 
-/// A bad name goes before the row's number, also where the crate would not come to it.
-fn size_in(tree: &Tree, row: u64) -> String {
-    if !names_are_good(&tree.words(), &tree.names) {
-        return format!("no {BAD_NAME} 0 0 0");
-    }
-    match ask::sized(&mut Arena::default(), tree, row) {
+/// A sheet that is none goes before the row's number, and so does a bad name, also where the crate would not
+/// come to it.
+fn size_in(tree: Result<Tree, String>, row: u64) -> Result<String, String> {
+    let answer = match tree {
+        Err(why) if why == BAD_SHEET => Answer::Refused(BAD_LAYOUT),
+        Err(why) => return Err(why),
+        Ok(tree) if !names_are_good(&tree.words(), &tree.names) => Answer::Refused(BAD_NAME),
+        Ok(tree) => ask::sized(&mut Arena::default(), &tree, row),
+    };
+    Ok(match answer {
         Answer::None => size_text(None),
         Answer::Bytes(bytes) => size_text(Some(bytes.into())),
         Answer::Refused(number) => format!("no {number} 0 0 0"),
-    }
+    })
 }
 
 fn size_here(tree: &Tree) -> String {
@@ -227,7 +234,7 @@ fn sheet_of(sheet: &str) -> Result<Tree, String> {
     let (words, names) = sheet.split_once(':').ok_or_else(bad_line)?;
     let words: Result<Vec<u64>, _> = words.split(',').map(str::parse).collect();
     let words = words.map_err(|_| bad_line())?;
-    let tree = Tree::from_sheet(&words, &bytes_of(names)?).ok_or("bad sheet")?;
+    let tree = Tree::from_sheet(&words, &bytes_of(names)?).ok_or(BAD_SHEET)?;
     // The crate holds each name as text, so a byte alone that is no text cannot be asked.
     let mut containers = tree.nodes.iter().filter(|node| is_container(node.kind));
     if containers.any(|node| std::str::from_utf8(tree.name(node)).is_err()) {

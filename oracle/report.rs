@@ -26,7 +26,7 @@ impl Tally {
 
     fn print(&self) {
         for ((what, outcome), count) in &self.counts {
-            println!("    {what:<20} {outcome:<32} {count:>9}");
+            println!("    {what:<27} {outcome:<37} {count:>9}");
         }
     }
 }

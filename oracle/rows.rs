@@ -1,11 +1,11 @@
-//! Sizes by rows, from request N5 and document 01's paragraph on sizes, in numbers of 128 bits. What has no place in
-//! these stays at the largest that has: that is above every limit, and 0 times it is 0.
+//! Sizes by rows, from requests N5 and N6 and document 01's paragraph on sizes, in numbers of 128 bits. What has no
+//! place in these stays at the largest that has: that is above every limit, and 0 times it is 0.
 
 use crate::plain::{children, inside, Level};
 use crate::sheet::*;
 use crate::trees::Tree;
 
-pub const ROWS: usize = 3;
+pub const ROWS: usize = 4;
 
 /// Refusals 6 and 20.
 pub const TOO_LARGE: u64 = 6;
@@ -15,19 +15,21 @@ pub const NO_SUCH_ROW: u64 = 20;
 #[derive(Clone, Copy)]
 struct Widths {
     long: u128,
+    unsigned_long: u128,
     pointer: u128,
     long_double: u128,
 }
 
-/// 64-bit Apple ARM, x86_64, ARM.
+/// 64-bit Apple ARM, x86_64, ARM, and 64-bit Apple ARM with the guide's long.
 const WIDTHS: [Widths; ROWS] = [
-    Widths { long: 8, pointer: 8, long_double: 8 },
-    Widths { long: 8, pointer: 8, long_double: 16 },
-    Widths { long: 4, pointer: 4, long_double: 8 },
+    Widths { long: 8, unsigned_long: 8, pointer: 8, long_double: 8 },
+    Widths { long: 8, unsigned_long: 8, pointer: 8, long_double: 16 },
+    Widths { long: 4, unsigned_long: 4, pointer: 4, long_double: 8 },
+    Widths { long: 4, unsigned_long: 8, pointer: 8, long_double: 8 },
 ];
 
 /// The largest size of each row.
-pub const LARGEST: [u128; ROWS] = [u64::MAX as u128, u64::MAX as u128, u32::MAX as u128];
+pub const LARGEST: [u128; ROWS] = [u64::MAX as u128, u64::MAX as u128, u32::MAX as u128, u64::MAX as u128];
 
 /// A tree's size, and the largest size, sum or product on the way to it.
 #[derive(Clone, Copy, Debug)]
@@ -115,7 +117,8 @@ impl Walk<'_> {
             0 | 5 | 16 => Some(1),
             1 | 6 => Some(2),
             2 | 7 | 10 => Some(4),
-            3 | 8 => Some(self.widths.long),
+            LONG => Some(self.widths.long),
+            UNSIGNED_LONG => Some(self.widths.unsigned_long),
             4 | 9 | 11 => Some(8),
             12 => Some(self.widths.long_double),
             13 => Some(2 * 4),

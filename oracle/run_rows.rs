@@ -8,20 +8,22 @@ use crate::plain;
 use crate::random::Random;
 use crate::report::{expect, refusal_name, Case, Difference, Lent, Tally};
 use crate::rows::{self, Answer, LARGEST, ROWS, TOO_LARGE};
+use crate::sheet::{INT, LONG, UNSIGNED_LONG};
 use crate::texts;
 use crate::trees::{Arena, Tree};
 use crate::EncodingBox;
 
 /// Row numbers that are none, such as would be one if a part of their bits were looked at.
-const NO_ROWS: [u64; 6] = [3, 4, 256, 1 << 32, (1 << 32) + 2, u64::MAX];
+const NO_ROWS: [u64; 8] = [4, 7, 256, 256 + 3, 1 << 32, (1 << 32) + 3, (1 << 63) + 3, u64::MAX];
 
 /// For the counts.
-const ROW_NAMES: [&str; ROWS] = ["size, row 0", "size, row 1", "size, row 2"];
+const ROW_NAMES: [&str; ROWS] = ["size, row 0", "size, row 1", "size, row 2", "size, row 3"];
+const ROW_3_BY_ROW_0: &str = "row 3 as row 0 with i for l";
 
 /// What short trees are made of: each outcome occurs in each row that has it.
-const TOKENS: [&str; 20] = [
-    "c", "l", "D", "jD", "v", "*", "b65", "b0L3", "[0", "[2", "[4294967295", "[2305843009213693952",
-    "[18446744073709551615", "]", "{R=", "}", "(U=", ")", "^", "A",
+const TOKENS: [&str; 23] = [
+    "c", "l", "L", "D", "jD", "v", "*", "b65", "b0l3", "b0L3", "[0", "[2", "[4294967295", "[2305843009213693952",
+    "[4611686018427387904", "[18446744073709551615", "]", "{R=", "}", "(U=", ")", "^", "A",
 ];
 
 /// Every text of up to `most` tokens that can be read.
@@ -44,6 +46,7 @@ pub fn inputs(seed: u64, count: u64) -> impl Iterator<Item = Case> {
 pub struct Check {
     arena: Arena,
     lent: Lent,
+    with_ints: Lent,
 }
 
 impl Check {
@@ -51,20 +54,42 @@ impl Check {
         let mut random = Random::new(case.extra);
         self.lent.fill(&case.a, &mut random);
         let sheet = self.lent.sheet();
-        let mut sized = 0;
-        for row in 0..ROWS {
-            let (refusal, answer) = check_size(&mut self.arena, &case.a, sheet, row, tally)?;
-            sized += usize::from(refusal == TOO_LARGE || answer[0] == 1);
+        let mut replies = [reply(0, &[]); ROWS];
+        for (row, reply) in replies.iter_mut().enumerate() {
+            *reply = check_size(&mut self.arena, &case.a, sheet, row, tally)?;
         }
+        let sized = replies.iter().filter(|(refusal, answer)| *refusal == TOO_LARGE || answer[0] == 1).count();
         if sized != 0 && sized != ROWS {
             return Err("size: in one row and not in another".to_string());
         }
         check_no_rows(sheet, random.next(), tally)?;
         self.lent.is_unchanged()?;
+        self.row_3_by_row_0(&case.a, replies[0], replies[3], &mut random, tally)?;
         if random.below(4) == 0 {
             self.spoilt(&case.a, &mut random, tally)?;
         }
         Ok(())
+    }
+
+    /// Row 3 is row 0 of the tree with `i` for each `l`, and of the tree itself if that has none: the library
+    /// against itself.
+    fn row_3_by_row_0(
+        &mut self,
+        tree: &Tree,
+        row_0: Reply,
+        row_3: Reply,
+        random: &mut Random,
+        tally: &mut Tally,
+    ) -> Result<(), Difference> {
+        if !tree.has(LONG) {
+            tally.add(ROW_3_BY_ROW_0, "no l in the tree");
+            return expect(ROW_3_BY_ROW_0, row_3, row_0);
+        }
+        let outcome = if row_3 == row_0 { "l in the tree, as row 0" } else { "l in the tree, not as row 0" };
+        tally.add(ROW_3_BY_ROW_0, outcome);
+        self.with_ints.fill(&tree.with_code(INT, LONG), random);
+        expect(ROW_3_BY_ROW_0, row_3, library::size(self.with_ints.sheet(), 0))?;
+        self.with_ints.is_unchanged()
     }
 
     /// The tree's sheet with a damage or a bad name, if that is refused.
@@ -95,7 +120,7 @@ pub fn check_size(
         Some(bytes) => return Err(format!("row {row}: the driver's size {:?}, the crate's {bytes:?}", measured.bytes)),
     }
     let answer = rows::handed_out(measured.bytes, row);
-    count(answer, measured.bytes, row, tally);
+    count(tree, answer, measured.bytes, row, tally);
     let wanted = match answer {
         Answer::None => reply(0, &[0, 0]),
         Answer::Bytes(bytes) => reply(0, &[1, bytes]),
@@ -106,18 +131,31 @@ pub fn check_size(
     Ok(got)
 }
 
-fn count(answer: Answer, bytes: Option<u128>, row: usize, tally: &mut Tally) {
+/// At the limit of the row, also whether `l` and `L` are part of the size.
+fn count(tree: &Tree, answer: Answer, bytes: Option<u128>, row: usize, tally: &mut Tally) {
     let outcome = match answer {
         Answer::None => "none",
         Answer::Bytes(_) => "bytes",
         Answer::Refused(number) => refusal_name(number),
     };
     tally.add(ROW_NAMES[row], outcome);
-    if bytes == Some(LARGEST[row]) {
-        tally.add(ROW_NAMES[row], "bytes, the most");
-    }
-    if bytes == Some(LARGEST[row] + 1) {
-        tally.add(ROW_NAMES[row], "refused 06, one byte too many");
+    let [outcome, with_long, with_unsigned_long] = if bytes == Some(LARGEST[row]) {
+        ["bytes, the most", "bytes, the most, with l", "bytes, the most, with L"]
+    } else if bytes == Some(LARGEST[row] + 1) {
+        [
+            "refused 06, one byte too many",
+            "refused 06, one byte too many, with l",
+            "refused 06, one byte too many, with L",
+        ]
+    } else {
+        return;
+    };
+    tally.add(ROW_NAMES[row], outcome);
+    for (code, outcome) in [(LONG, with_long), (UNSIGNED_LONG, with_unsigned_long)] {
+        // With a code of one byte in its place the size is another.
+        if rows::measure(&tree.with_code(0, code), row).bytes != bytes {
+            tally.add(ROW_NAMES[row], outcome);
+        }
     }
 }
 

@@ -2,6 +2,8 @@
 
 /// The kinds that are spoken of by name; 0 to 23 are the primitives in the crate's order.
 pub const INT: u64 = 2;
+pub const LONG: u64 = 3;
+pub const UNSIGNED_LONG: u64 = 8;
 pub const DOUBLE: u64 = 11;
 pub const OBJECT: u64 = 19;
 pub const BLOCK: u64 = 20;

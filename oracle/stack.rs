@@ -4,6 +4,7 @@
 use std::thread::Builder;
 
 use crate::library::{self, Reader, Reply, Sheet};
+use crate::rows::ROWS;
 use crate::sheet::*;
 use crate::trees::{Node, Tree};
 
@@ -97,7 +98,7 @@ fn tree_fits(tree: &Tree) -> bool {
     let mut out = vec![0; 1 << 16];
     let length = library::static_encoding_str_len(sheet);
     let print = library::static_encoding_str_array(sheet, &mut out, 1 << 16);
-    let sized = (0..3).all(|row| accepted(library::size(sheet, row)));
+    let sized = (0..ROWS as u64).all(|row| accepted(library::size(sheet, row)));
     let pairs = [library::equivalent_to, library::equivalent_to_box, library::eq];
     let compared = pairs.iter().all(|pair| accepted(pair(sheet, sheet)));
     let matched = text_limit_holds(sheet, &out[..print.1[0] as usize]);

@@ -92,6 +92,19 @@ impl Tree {
         &self.names[node.first as usize..(node.first + node.second) as usize]
     }
 
+    pub fn has(&self, kind: u64) -> bool {
+        self.nodes.iter().any(|node| node.kind == kind)
+    }
+
+    /// The same tree with one code in the place of another.
+    pub fn with_code(&self, code: u64, other: u64) -> Tree {
+        let mut tree = self.clone();
+        for node in tree.nodes.iter_mut().filter(|node| node.kind == other) {
+            node.kind = code;
+        }
+        tree
+    }
+
     /// How many children the node at a place has.
     pub fn children(&self, at: usize) -> usize {
         let end = at + self.nodes[at].count as usize;
@@ -205,12 +218,14 @@ impl Arena {
     }
 }
 
-/// A code that here has the size that this one has in a row: of 64-bit Apple ARM (0), x86_64 (1) or ARM (2).
+/// A code that here has the size that this one has in a row: of 64-bit Apple ARM (0), x86_64 (1) or ARM (2), or
+/// with the guide's long (3).
 fn stand_in(kind: u64, row: Option<usize>) -> u64 {
     match (row, kind) {
-        (Some(0 | 2), 12) => 11,
-        (Some(0 | 2), 15) => 14,
-        (Some(2), 3 | 8 | 18..=22) => INT,
+        (Some(0 | 2 | 3), 12) => 11,
+        (Some(0 | 2 | 3), 15) => 14,
+        (Some(2 | 3), LONG) => INT,
+        (Some(2), UNSIGNED_LONG | 18..=22) => INT,
         _ => kind,
     }
 }

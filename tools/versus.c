@@ -26,8 +26,8 @@ typedef struct {
 } Build;
 
 static const char *const whats[] = {"whole-text reading", "reading from the start", "tree against tree", "with all fields",
-                                    "tree against text", "size", "size in row 2", "length", "print", "strict reading", "signature"};
-enum { TREE = 2, ALL, TEXT, SIZE, SIZE_ARM32, LENGTH, PRINT, STRICT, SIGNATURE, REASON_LEN, REASON_ALL_LEN, REASON, REASON_ALL, EXACT, EXACT_ALL };
+                                    "tree against text", "size", "size in row 2", "size in row 3", "length", "print", "strict reading", "signature"};
+enum { TREE = 2, ALL, TEXT, SIZE, SIZE_ARM32, SIZE_GUIDE, LENGTH, PRINT, STRICT, SIGNATURE, REASON_LEN, REASON_ALL_LEN, REASON, REASON_ALL, EXACT, EXACT_ALL };
 
 static uint8_t text[BERZHOTUN_MAX_TEXT + 1], printed[BERZHOTUN_MAX_PRINT], output[BERZHOTUN_MAX_PRINT];
 static size_t text_len, printed_len;
@@ -74,6 +74,7 @@ static uint64_t call(const Build *build, int what) {
     case TEXT: return build->equivalent_to_str(SHEET, printed, printed_len, answer) + answer[0];
     case SIZE: return build->size(SHEET, BERZHOTUN_ROW_APPLE_ARM64, answer) + answer[0];
     case SIZE_ARM32: return build->size(SHEET, BERZHOTUN_ROW_ARM32, answer) + answer[0];
+    case SIZE_GUIDE: return build->size(SHEET, BERZHOTUN_ROW_GUIDE, answer) + answer[0];
     case LENGTH: return build->len(SHEET, answer) + answer[0];
     case PRINT: return build->print(SHEET, output, sizeof output, answer) + answer[0];
     case STRICT: return build->strict(text, text_len, LENT, answer);
@@ -87,11 +88,21 @@ static uint64_t call(const Build *build, int what) {
     }
 }
 
-// Where a row number stands now, a build from before rows is lent the answer: given a place there, it writes yes or no to it.
-static int has_rows(const Build *build) {
-    uint64_t place[2] = {2, 2}, answer[2];
+// How many rows a build has, 0 if its size takes none. Where a row number stands, such a build is lent the answer: given a place
+// there, it writes yes or no to it.
+static uint64_t rows_of(const Build *build) {
+    uint64_t place[2] = {2, 2}, answer[2], rows = 0;
     build->size(SHEET, (uint64_t)(uintptr_t)place, answer);
-    return place[0] == 2;
+    while (place[0] == 2 && build->size(SHEET, rows, answer) != BERZHOTUN_NO_SUCH_ROW) rows++;
+    return rows;
+}
+
+// Whether builds with so many rows can be asked for it.
+static int is_had(int what, uint64_t rows) {
+    return what == SIZE         ? rows > BERZHOTUN_ROW_APPLE_ARM64
+           : what == SIZE_ARM32 ? rows > BERZHOTUN_ROW_ARM32
+           : what == SIZE_GUIDE ? rows > BERZHOTUN_ROW_GUIDE
+                                : 1;
 }
 
 static double batch(const Build *build, int what, int calls) {
@@ -290,15 +301,18 @@ int main(int count, char **given) {
     static Build builds[MOST_BUILDS];
     int rounds = count > 1 ? atoi(given[1]) : 0, each = (count - 2) / 2;
     if (rounds < 1 || each < 1 || 2 * each > MOST_BUILDS) fail("ROUNDS BEFORE.so.. AFTER.so..");
-    int last = STRICT, sized = 1;
+    int last = STRICT;
+    uint64_t rows = UINT64_MAX;
     for (int i = 0; i < 2 * each; i++) {
         builds[i] = load(given[2 + i]);
         if (!builds[i].strict) last = STRICT - 1;
         shape(0), read_into(&builds[i], words, names);
-        if (!has_rows(&builds[i])) sized = 0;
+        uint64_t had = rows_of(&builds[i]);
+        if (had < rows) rows = had;
     }
     if (last < STRICT) printf("one of the archives has no berzhotun_from_str_strict: strict reading is left out\n");
-    if (!sized) printf("one of the archives has a berzhotun_size without rows: sizes are left out\n");
+    if (rows == 0) printf("one of the archives has a berzhotun_size without rows: sizes are left out\n");
+    if (rows > 0 && !is_had(SIZE_GUIDE, rows)) printf("one of the archives has no row 3: sizes in it are left out\n");
     printf("%-14s %-22s %9s %9s  %5s %5s\n", "tree", "what", "before", "after", "mean", "least");
     for (int which = 0; which < SHAPES; which++) {
         const char *name = shape(which);
@@ -309,7 +323,7 @@ int main(int count, char **given) {
         if (builds[0].print(SHEET, printed, sizeof printed, answer)) fail("a tree that does not print");
         printed_len = answer[0];
         for (int what = 0; what <= last; what++) {
-            if (sized || (what != SIZE && what != SIZE_ARM32)) row(name, builds, each, rounds, what);
+            if (is_had(what, rows)) row(name, builds, each, rounds, what);
         }
     }
     // An empty record passes over the fields of these shapes.

@@ -31,7 +31,7 @@ static const struct {
 };
 
 static struct {
-    int rows, same, otherwise, refused, sizes[3], signatures, types, differences;
+    int rows, same, otherwise, refused, sizes[4], signatures, types, differences;
 } counts;
 
 static void differs(const char *what) {
@@ -93,14 +93,24 @@ static void check_print(void) {
     }
 }
 
-static void check_size(void) {
+static void check_size_in(unsigned machine) {
+    char what[40];
     uint64_t size[2];
+    counts.sizes[machine]++;
+    if (berzhotun_size(LENT(tree), machine, size) != 0 || size[0] != 1 || size[1] != strtoull(row.size, NULL, 10)) {
+        snprintf(what, sizeof what, "has another size in row %u", machine);
+        differs(what);
+    }
+}
+
+/* For 64-bit Apple ARM clang writes a long as `q`: its sizes are those of rows 0 and 3, which differ in `l` alone. */
+static void check_size(void) {
     if (strcmp(row.size, "-") == 0) {
         return;
     }
-    counts.sizes[row.machine]++;
-    if (berzhotun_size(LENT(tree), row.machine, size) != 0 || size[0] != 1 || size[1] != strtoull(row.size, NULL, 10)) {
-        differs("has another size");
+    check_size_in(row.machine);
+    if (row.machine == BERZHOTUN_ROW_APPLE_ARM64) {
+        check_size_in(BERZHOTUN_ROW_GUIDE);
     }
 }
 
@@ -170,7 +180,7 @@ int main(void) {
     }
     printf("%d texts of real compilers: %d print as they were, %d print otherwise, as expected, %d refused,\n",
            counts.rows, counts.same, counts.otherwise, counts.refused);
-    printf("%d, %d and %d sizes in rows 0, 1 and 2, %d signatures with %d types; %d differences\n", counts.sizes[0],
-           counts.sizes[1], counts.sizes[2], counts.signatures, counts.types, counts.differences);
+    printf("%d, %d, %d and %d sizes in rows 0 to 3, %d signatures with %d types; %d differences\n", counts.sizes[0],
+           counts.sizes[1], counts.sizes[2], counts.sizes[3], counts.signatures, counts.types, counts.differences);
     return counts.differences != 0 || unread != 0 || counts.rows == 0;
 }

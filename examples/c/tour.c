@@ -109,7 +109,7 @@ static void read_print_size(void) {
     }
 }
 
-/* A type's size on one of the machines, as a column of a table. */
+/* A type's size in one of the rows, as a column of a table. */
 static void show_column(const struct tree *tree, uint64_t row) {
     uint64_t size[2];
     uint64_t refusal = berzhotun_size(LENT(*tree), row, size);
@@ -123,17 +123,19 @@ static void show_column(const struct tree *tree, uint64_t row) {
 }
 
 static void measure_some(void) {
-    static const char *const texts[] = {"l", "^v", "D", "{R=i^v}", "b0l3", "v", "[4294967296c]", "[0[4294967296c]]"};
+    static const char *const texts[] = {
+        "l", "L", "^v", "D", "{R=i^v}", "{R=lL}", "b0l3", "v", "[4294967296c]", "[1073741824l]", "[0[4294967296c]]"};
     static struct tree tree;
     size_t i;
-    printf("\n%-18s %12s %12s %12s %12s\n", "bytes", "Apple ARM64", "x86_64", "32-bit ARM", "row 3");
+    printf("\n%-18s %12s %12s %12s %12s %12s\n", "bytes", "Apple ARM64", "x86_64", "32-bit ARM", "the guide", "row 4");
     for (i = 0; i < sizeof texts / sizeof texts[0]; i++) {
         if (read_text(texts[i], &tree)) {
             printf("%-18s", texts[i]);
             show_column(&tree, BERZHOTUN_ROW_APPLE_ARM64);
             show_column(&tree, BERZHOTUN_ROW_X86_64);
             show_column(&tree, BERZHOTUN_ROW_ARM32);
-            show_column(&tree, 3);
+            show_column(&tree, BERZHOTUN_ROW_GUIDE);
+            show_column(&tree, 4);
             printf("\n");
         }
     }

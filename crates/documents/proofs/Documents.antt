@@ -1,28 +1,33 @@
--- How our reading and printing agree with the two public documents: the statements, over the definitions written from them
+-- How our reading, printing and sizes agree with the two public documents: the statements, over the definitions written from them
 -- (specs/Guide.antt, specs/Gcc.antt) and those of kinds. specs/Translation.antt says which of our trees a document's type is.
-use Prim.Native.Nat.{ℕ, zero, _≤_, _<_}
+use Prim.Native.Nat.{ℕ, zero, _*_, _≤_, _<_}
 use mathlib.Core.Path.{_≡_, refl}
 use mathlib.Core.Bool.{true}
 use mathlib.Core.List.{List, [], _∷_, _++_, map}
 use mathlib.Core.Logic.{_↔_}
+use mathlib.Core.Option.{some, none}
 use Rattle.kinds.specs.Byte.{byte, bytes, among}
 use Rattle.kinds.specs.Parse.{maxU64, maxU8, qualifiers, isQualifier, stripLeadingQualifiers}
+use Rattle.kinds.specs.Primitive.{widths}
 use Rattle.kinds.specs.Print.{print}
+use Rattle.kinds.specs.Size.{size}
 use Rattle.kinds.specs.Tree.{Trees, end, node, primitive, pointer, struct, shown}
 use Rattle.kinds.specs.declared.NestingLevel.the-variants.{Top, Within}
+use Rattle.kinds.specs.declared.Primitive.{Primitive}
 use Rattle.kinds.specs.declared.Primitive.the-variants.{FloatComplex, DoubleComplex, LongDoubleComplex, LongDouble}
 use Rattle.agreement.specs.ReadTree.{readTree}
 use Rattle.documents.specs.Decimal.{digits, decimal}
 use Rattle.documents.specs.Differences.{AllHold, AllRefused, guideDifferences, gccDifferences, clangDifferences}
 use Rattle.documents.specs.Gcc as C
 use Rattle.documents.specs.Gcc.{Integral, complex, longDouble}
-use Rattle.documents.specs.Guide.{Meaning, Types, Qualifier, code, table, letter, letters, qualifierTable, encode, isType, pointerTo, example, exampleName, twelvePointers, rootObject}
-use Rattle.documents.specs.Translation.{one, label, trees, withoutLongDouble, countsFit, withoutBlock, MeantBy, GuideText, TextOf, bitFieldTree, olderBitFieldTree, gccExample, gccOlderExample}
+use Rattle.documents.specs.Guide.{Meaning, long, Types, Qualifier, code, table, bits, letter, letters, qualifierTable, encode, isType, pointerTo, example, exampleName, twelvePointers, rootObject}
+use Rattle.documents.specs.Translation.{meant, one, label, trees, withoutLongDouble, countsFit, withoutBlock, MeantBy, GuideText, TextOf, bitFieldTree, olderBitFieldTree, gccExample, gccOlderExample}
 use Rattle.documents.proofs.DifferencesHold.{guide-rows, gcc-rows, clang-rows}
 use Rattle.documents.proofs.GccLaws.{bit-field, older-bit-field, examples, complexes}
 use Rattle.documents.proofs.GuideCodes.{code-print, code-read, alone, type-read}
 use Rattle.documents.proofs.GuideExamples.{one-pointer, two-pointers, example-texts, other-texts}
 use Rattle.documents.proofs.GuidePrint.{type-print}
+use Rattle.documents.proofs.GuideWidths.{one-stated, stated-width, other-width}
 use Rattle.documents.proofs.GuideQualifiers.{qualifier-letter, letters-dropped, other-kept, qualified-read}
 
 -- ---- The guide's codes and types.
@@ -49,6 +54,20 @@ guide-prints = type-print
 pub guide-reads : (t : Types) → isType t ≡ true → withoutLongDouble t ≡ true → countsFit t ≡ true → withoutBlock (encode zero t) ≡ true
     → readTree (encode zero t) ≡ shown Top (trees t)
 guide-reads = type-read
+
+-- ---- The guide's widths.
+
+-- The guide states one width, that of a long.
+pub guide-bits : (m : Meaning) (n : ℕ) → (bits m ≡ some n) ↔ ((m ≡ long) × (n ≡ 32))
+guide-bits = one-stated
+
+-- Row 3 gives each code for which the guide states a width that width: 8 times its bytes are the bits.
+pub guide-width : (m : Meaning) (n : ℕ) → bits m ≡ some n → (b : ℕ) × (size (widths 3) (one (meant m)) ≡ some b) × (8 * b ≡ n)
+guide-width = stated-width
+
+-- It gives each other code, the crate's own included, what row 0 gives.
+pub guide-width-only : (p : Primitive) → ((m : Meaning) → p ≡ meant m → bits m ≡ none) → size (widths 3) (one p) ≡ size (widths 0) (one p)
+guide-width-only = other-width
 
 -- ---- The guide's qualifiers.
 

@@ -5,6 +5,7 @@ pub mod GccLaws
 pub mod GuideExamples
 pub mod GuideQualifiers
 pub mod GuideCodes
+pub mod GuideWidths
 pub mod GuideSound
 pub mod GuidePrint
 pub mod DecimalLaws

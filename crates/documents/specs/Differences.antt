@@ -19,7 +19,7 @@ use Rattle.kinds.specs.declared.Refusal.the-variants.{Parse}
 use Rattle.agreement.specs.ReadTree.{readTree}
 use Rattle.documents.specs.Gcc as C
 use Rattle.documents.specs.Guide as G
-use Rattle.documents.specs.Guide.{Types, only, pointerTo, encode, begins, isType, letters}
+use Rattle.documents.specs.Guide.{Meaning, Types, only, pointerTo, encode, begins, isType, letters}
 use Rattle.documents.specs.Translation.{one, trees}
 
 pub data Row : Type 0 where
@@ -35,8 +35,8 @@ pub data Row : Type 0 where
   undefined : Types → List ℕ → List ℕ → Row
   -- No encoding of the guide's begins with the text's first byte; the crate reads the text as the tree and prints the second text.
   noCode : ℕ → List ℕ → Trees → List ℕ → Row
-  -- The guide's bits of a long, and the crate's bytes, which are those of row 0.
-  longIs : ℕ → ℕ → Row
+  -- The bits that the guide states for the code; its bytes in row 0, which are the crate's, and in row 3, which are the guide's.
+  width : Meaning → ℕ → ℕ → ℕ → Row
   -- The guide encodes the type as the text, which the crate refuses, with 01's number and the place.
   refusesType : Types → List ℕ → ℕ → ℕ → Row
   -- What the document's definitions give is the text, which the crate refuses.
@@ -62,7 +62,7 @@ Holds (alsoReads t g s) = (isType t ≡ true) × (encode zero t ≡ g) × (print
 Holds (noType t s u) = (isType t ≡ false) × (encode zero t ≡ s) × (readTree s ≡ u)
 Holds (undefined t s p) = (isType t ≡ false) × (readTree s ≡ trees t) × (print Top (trees t) ≡ p)
 Holds (noCode b s u p) = (begins b ≡ false) × (readTree (b ∷ s) ≡ u) × (print Top u ≡ p)
-Holds (longIs bits n) = (G.longBits ≡ bits) × (size (widths 0) (readTree (encode zero (only G.long))) ≡ some n)
+Holds (width m bits a b) = (G.bits m ≡ some bits) × (size (widths 0) (readTree (encode zero (only m))) ≡ some a) × (size (widths 3) (readTree (encode zero (only m))) ≡ some b)
 Holds (refusesType t s n place) = (isType t ≡ true) × (encode zero t ≡ s) × Refuses s n place
 Holds (refuses d s n place) = (d ≡ s) × Refuses s n place
 Holds (differ s t) = (equivalentTo (readTree s) (readTree t) ≡ false) × (equivalentTo (readTree t) (readTree s) ≡ false)
@@ -100,7 +100,7 @@ guideDifferences =
     ∷ undefined (structure (bytes "x") (pointerTo (structure (bytes "y") (only G.int)))) (bytes "{x=^{y=i}}") (bytes "{x=^{y}}")
     ∷ writes (pointerTo (pointerTo (G.union (bytes "x") (only G.int) G.none))) (bytes "^^(x)") (bytes "^^(x)")
     ∷ writes (pointerTo (pointerTo (G.array 2 (structure (bytes "x") (only G.int)) G.none))) (bytes "^^[2{x}]") (bytes "^^[2{x}]")
-    ∷ longIs 32 8
+    ∷ width G.long 32 8 4
     -- Texts that the guide writes otherwise: without the class name, without `=` at the top, with fields behind two pointers, with surplus zeros.
     ∷ alsoReads (only G.object) (bytes "@") (bytes "@\"\"")
     ∷ alsoReads (structure (bytes "x") G.none) (bytes "{x=}") (bytes "{x}")

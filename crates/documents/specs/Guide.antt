@@ -2,6 +2,8 @@
 use Prim.Native.Nat.{ℕ, zero, suc}
 use mathlib.Core.Bool.{Bool, true, false, _&&_, _||_, not}
 use mathlib.Core.List.{List, [], _∷_, _++_, map}
+use mathlib.Core.Option as O
+use mathlib.Core.Option.{Option}
 use lib.Dec.{leb, eqb}
 use Rattle.kinds.specs.Byte.{byte, bytes, among}
 use Rattle.documents.specs.Decimal.{decimal}
@@ -63,9 +65,27 @@ table =
     ∷ row float ∷ row double ∷ row bool ∷ row void ∷ row string
     ∷ row object ∷ row class ∷ row selector ∷ row unknown ∷ []
 
--- The table's remark on a long: its width in bits in 64-bit programs.
-abbrev pub longBits : ℕ
-longBits = 32
+-- The widths in bits, in 64-bit programs, that the table states: its remark on a long. It says nothing about any other, an unsigned long included.
+abbrev pub bits : Meaning → Option ℕ
+bits char = O.none
+bits int = O.none
+bits short = O.none
+bits long = O.some 32
+bits longLong = O.none
+bits unsignedChar = O.none
+bits unsignedInt = O.none
+bits unsignedShort = O.none
+bits unsignedLong = O.none
+bits unsignedLongLong = O.none
+bits float = O.none
+bits double = O.none
+bits bool = O.none
+bits void = O.none
+bits string = O.none
+bits object = O.none
+bits class = O.none
+bits selector = O.none
+bits unknown = O.none
 
 -- The bytes that begin an encoding: these codes, and those of the rows of arrays, structures, unions, bit fields and pointers.
 unfoldable pub begins : ℕ → Bool

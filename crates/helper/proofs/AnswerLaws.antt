@@ -64,32 +64,32 @@ measured-clip row (some n) = go (leb n maxU64) refl
     go false e = rw (lt-leb n (maxSize row) (above (leb-false n maxU64 e) (max-least row)))
 
 module _ (row : ℕ) where
-  pub no-row : 3 ≤ row → (s w : List ℕ) → S.Refused R.NoSuchRow ≡ answerAt row s w
+  pub no-row : 4 ≤ row → (s w : List ℕ) → S.Refused R.NoSuchRow ≡ answerAt row s w
   unfolding answerAt
-  no-row h s w = rw (lt-leb row 2 h)
+  no-row h s w = rw (lt-leb row 3 h)
 
   -- the walk's size, where there is the row
-  pub row-answer : row < 3 → (s w : List ℕ) {l : NestingLevel} → l ≡ Top → {m : Measured} → m ≡ clip (sizeAt (widths row) s w 0 l) → {n : ℕ} → n ≡ maxSize row
+  pub row-answer : row < 4 → (s w : List ℕ) {l : NestingLevel} → l ≡ Top → {m : Measured} → m ≡ clip (sizeAt (widths row) s w 0 l) → {n : ℕ} → n ≡ maxSize row
       → {r : Sized} → r ≡ measured n m → r ≡ answerAt row s w
   unfolding answerAt
   row-answer h s w {l} f e k d =
       d ∙ ap₂ measured k (e ∙ ap (λ (x : NestingLevel). clip (sizeAt (widths row) s w 0 x)) f)
       ∙ measured-clip row (sizeAt (widths row) s w 0 Top)
-      ∙ rw (le-leb row 2 (omega arith))
+      ∙ rw (le-leb row 3 (omega arith))
 
-  pub code-no-row : 3 ≤ row → (k : ℕ) → S.Refused R.NoSuchRow ≡ sizedIn row (node (primitive k) end end)
+  pub code-no-row : 4 ≤ row → (k : ℕ) → S.Refused R.NoSuchRow ≡ sizedIn row (node (primitive k) end end)
   unfolding sizedIn
-  code-no-row h k = rw (lt-leb row 2 h)
+  code-no-row h k = rw (lt-leb row 3 h)
 
-  code-sized : row < 3 → (k : ℕ) → sizedIn row (node (primitive k) end end) ≡ sized (maxSize row) (sizeIn row k)
+  code-sized : row < 4 → (k : ℕ) → sizedIn row (node (primitive k) end end) ≡ sized (maxSize row) (sizeIn row k)
   unfolding sizedIn sizeIn size sizes nodeSize only
-  code-sized h k = rw (le-leb row 2 (omega arith))
+  code-sized h k = rw (le-leb row 3 (omega arith))
 
-  pub code-none : row < 3 → (k : ℕ) → none ≡ sizeIn row k → S.Nothing ≡ sizedIn row (node (primitive k) end end)
+  pub code-none : row < 4 → (k : ℕ) → none ≡ sizeIn row k → S.Nothing ≡ sizedIn row (node (primitive k) end end)
   unfolding sized
   code-none h k e = sym (code-sized h k ∙ ap (sized (maxSize row)) (sym e))
 
-  pub code-some : row < 3 → (k n : ℕ) → some n ≡ sizeIn row k → S.Bytes n ≡ sizedIn row (node (primitive k) end end)
+  pub code-some : row < 4 → (k n : ℕ) → some n ≡ sizeIn row k → S.Bytes n ≡ sizedIn row (node (primitive k) end end)
   unfolding sized
   code-some h k n e = sym (code-sized h k ∙ ap (sized (maxSize row)) (sym e)
       ∙ rw (le-leb n (maxSize row) (small (maxSize row) (size-small row k n e) (max-most row))))

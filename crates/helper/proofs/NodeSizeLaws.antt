@@ -9,7 +9,7 @@ use borrow.Author.Tests.{le-leb, lt-leb, leb-true, leb-false, ne-eqb, eqb-true, 
 use lib.Dec.{leb, eqb}
 use lib.ListN.{length, getD}
 use Rattle.kinds.specs.Level.{showsFields, containerIncludeFields}
-use Rattle.kinds.specs.Primitive.{Widths, primitiveSize, widths, sizeIn, sizeRows}
+use Rattle.kinds.specs.Primitive.{Widths, primitiveSize, widths, sizeIn, sizeRows, entry}
 use Rattle.kinds.specs.Sheet.{kindAt, firstAt, secondAt, countAt, labelAt, isContainerKind, read, trees}
 use Rattle.kinds.specs.Size.{bitBytes, plus, larger, times, sum, largest, only, nodeSize, sizes}
 use Rattle.kinds.specs.Tree.{Trees, inside}
@@ -18,11 +18,11 @@ use Rattle.kinds.specs.declared.Fields.the-variants.{Included, Dropped}
 use Rattle.kinds.specs.declared.NestingLevel.{NestingLevel}
 use Rattle.kinds.specs.declared.NestingLevel.the-variants.{Within, Bottom}
 use Rattle.kinds.proofs.KindLaws.{included, dropped}
-use Rattle.kinds.proofs.PrimitiveLaws.{size-none, size-some}
+use Rattle.kinds.proofs.PrimitiveLaws.{table-size}
 use Rattle.kinds.proofs.SheetLaws.{trees-step}
 use Rattle.kinds.proofs.NodeLaws.{leaf-count, node-inner, no-trees, child-count, node-child, first-some, first-within, first-node, other-trees, inner-count, inner-end, inner-trees, label-primitive}
 use Rattle.kinds.proofs.NodeLaws.{label-bits, label-typed, label-pointer, label-atomic, label-array, label-struct, label-union, label-none}
-use Rattle.helper.specs.Measure.{clip, joinMeasured, join, fold, holding, isLeaf, leafSize, entry, leafEntry, RowOf, sizeAt}
+use Rattle.helper.specs.Measure.{clip, joinMeasured, join, fold, holding, isLeaf, leafSize, leafEntry, RowOf, sizeAt}
 use Rattle.helper.specs.declared.Measured.{Measured}
 use Rattle.helper.proofs.SizeLaws.{clip-join, join-assoc, join-unit, fold-cons, larger-some}
 
@@ -141,18 +141,13 @@ string-size : (m : Widths) → primitiveSize m 18 ≡ some (m .pointer)
 unfolding primitiveSize
 string-size m = refl
 
-module _ (row : ℕ) (h : row < 3) where
+module _ (row : ℕ) (h : row < 4) where
   row-size : (k : ℕ) → sizeIn row k ≡ primitiveSize (widths row) k
   unfolding sizeIn
-  row-size k = rw (le-leb row 2 (omega arith))
+  row-size k = rw (le-leb row 3 (omega arith))
 
   row-codes : (k : ℕ) → k < 24 → entry (getD (getD sizeRows row []) k 0) ≡ primitiveSize (widths row) k
-  unfolding entry
-  row-codes k g = go (eqb (getD (getD sizeRows row []) k 0) 0) refl
-    where
-      go : (t : Bool) → eqb (getD (getD sizeRows row []) k 0) 0 ≡ t → cond t none (some (getD (getD sizeRows row []) k 0)) ≡ primitiveSize (widths row) k
-      go true e = size-none row k h g (eqb-true _ _ e) ∙ row-size k
-      go false e = size-some row k h g (eqb-false _ _ e) ∙ row-size k
+  row-codes k g = table-size row k h g ∙ row-size k
 
   -- The rows of the table have the sizes of their machines.
   pub table-row : RowOf (getD sizeRows row []) (widths row)

@@ -10,7 +10,7 @@ use Rattle.kinds.specs.Compare.{compareEncodings, levelFor}
 use Rattle.kinds.specs.Kind.{insideKind}
 use Rattle.kinds.specs.Level.{showsFields}
 use Rattle.kinds.specs.Parse.{maxU64}
-use Rattle.kinds.specs.Primitive.{Widths, primitiveSize, isRow, widths}
+use Rattle.kinds.specs.Primitive.{Widths, primitiveSize, isRow, widths, entry}
 use Rattle.kinds.specs.Sheet.{countAt, labelAt, trees, hasOneChild}
 use Rattle.kinds.specs.Size.{nodeSize, sizes, plus, larger, times, bitBytes, sum, largest}
 use Rattle.kinds.specs.Tree.{Trees, isEnd, inside}
@@ -86,10 +86,6 @@ isLeaf k = leb k 24 || (eqb k 26 || leb 31 k)
 -- The size of such a node with the second number `b`.
 unfoldable pub leafSize : Widths → ℕ → ℕ → Option ℕ
 leafSize m k b = cond (leb k 23) (primitiveSize m k) (cond (eqb k 24) (some (bitBytes b)) (cond (eqb k 26) (some (m .pointer)) none))
-
--- A number of the table: 0 for none.
-unfoldable pub entry : ℕ → Option ℕ
-entry n = cond (eqb n 0) none (some n)
 
 -- The size of such a node by a row of the table, in which a pointer's is that of the string.
 unfoldable pub leafEntry : List ℕ → ℕ → ℕ → Option ℕ

@@ -1,5 +1,5 @@
 -- Laws of the codes and sizes of primitives.
-use Prim.Native.Nat.{ℕ, suc, zero, _≤_, _<_}
+use Prim.Native.Nat.{ℕ, _≤_, _<_}
 use native.Mathlib.Omega.{arith}
 use mathlib.Core.Path.{_≡_, refl, ap, sym, _∙_, subst}
 use mathlib.Core.Bool.{Bool, true, false, cond, false≢true}
@@ -9,7 +9,7 @@ use lib.Dec.{eqb, leb, ltb}
 use borrow.Author.Tests.{eq-eqb, ne-eqb, eqb-true, lt-leb, leb-true, ltb-true, ltb-false}
 use lib.ListN.{getD, List·getD-eq-default}
 use Rattle.kinds.specs.Byte.{byte, bytes, sameBytes}
-use Rattle.kinds.specs.Primitive.{codes, code, width, primitives, primitiveSize, isRow, widths, sizeIn, sizeRows}
+use Rattle.kinds.specs.Primitive.{codes, code, width, primitives, primitiveSize, isRow, widths, sizeIn, sizeRows, entry}
 use Rattle.kinds.proofs.TableLaws.{everyBelow, passBelow, same-bytes}
 
 -- The two tables of the code.
@@ -61,14 +61,9 @@ size-beyond row k h = go (isRow row)
     go true = List·getD-eq-default (map (width (widths row)) primitives) none h
     go false = refl
 
-pub no-row : (row k : ℕ) → 3 ≤ row → sizeIn row k ≡ none
+pub no-row : (row k : ℕ) → 4 ≤ row → sizeIn row k ≡ none
 unfolding sizeIn
-no-row row k h = rw (lt-leb row 2 h)
-
--- A number of the table; 0 for none.
-positive : ℕ → Option ℕ
-positive zero = none
-positive (suc n) = some (suc n)
+no-row row k h = rw (lt-leb row 3 h)
 
 same : Option ℕ → Option ℕ → Bool
 same none none = true
@@ -84,31 +79,28 @@ same-size (some a) none h = absurd (false≢true h)
 same-size (some a) (some b) h = ap some (eqb-true a b h)
 
 sized-right : ℕ → ℕ → Bool
-sized-right row k = same (positive (getD (getD sizeRows row []) k 0)) (sizeIn row k)
+sized-right row k = same (entry (getD (getD sizeRows row []) k 0)) (sizeIn row k)
 
 row-right : ℕ → Bool
 row-right row = everyBelow (sized-right row) 24
 
-all-sized : everyBelow row-right 3 ≡ true
-unfolding everyBelow row-right sized-right same positive sizeIn primitiveSize
+all-sized : everyBelow row-right 4 ≡ true
+unfolding everyBelow row-right sized-right same entry sizeIn primitiveSize
 all-sized = refl
 
-table-size : (row k : ℕ) → row < 3 → k < 24 → positive (getD (getD sizeRows row []) k 0) ≡ sizeIn row k
+-- A number of the table is the size of its row and kind.
+pub table-size : (row k : ℕ) → row < 4 → k < 24 → entry (getD (getD sizeRows row []) k 0) ≡ sizeIn row k
 unfolding sized-right row-right
-table-size row k g h = same-size (positive (getD (getD sizeRows row []) k 0)) (sizeIn row k)
-    (passBelow (sized-right row) 24 (passBelow row-right 3 all-sized row g) k h)
+table-size row k g h = same-size (entry (getD (getD sizeRows row []) k 0)) (sizeIn row k)
+    (passBelow (sized-right row) 24 (passBelow row-right 4 all-sized row g) k h)
 
-pub size-none : (row k : ℕ) → row < 3 → k < 24 → getD (getD sizeRows row []) k 0 ≡ 0 → none ≡ sizeIn row k
-unfolding positive
-size-none row k g h e = sym (ap positive e) ∙ table-size row k g h
+pub size-none : (row k : ℕ) → row < 4 → k < 24 → getD (getD sizeRows row []) k 0 ≡ 0 → none ≡ sizeIn row k
+unfolding entry
+size-none row k g h e = sym (ap entry e) ∙ table-size row k g h
 
-pub size-some : (row k : ℕ) → row < 3 → k < 24 → (getD (getD sizeRows row []) k 0 ≡ 0 → ⊥) → some (getD (getD sizeRows row []) k 0) ≡ sizeIn row k
-unfolding positive
-size-some row k g h e = go (getD (getD sizeRows row []) k 0) e ∙ table-size row k g h
-  where
-    go : (n : ℕ) → (n ≡ 0 → ⊥) → some n ≡ positive n
-    go zero e = absurd (e refl)
-    go (suc n) e = refl
+pub size-some : (row k : ℕ) → row < 4 → k < 24 → (getD (getD sizeRows row []) k 0 ≡ 0 → ⊥) → some (getD (getD sizeRows row []) k 0) ≡ sizeIn row k
+unfolding entry
+size-some row k g h e = sym (rw (ne-eqb (getD (getD sizeRows row []) k 0) 0 e)) ∙ table-size row k g h
 
 -- No primitive has more than 32 bytes.
 small : ℕ → ℕ → Bool
@@ -117,22 +109,22 @@ small row k = leb (Option·getD (sizeIn row k) 0) 32
 row-small : ℕ → Bool
 row-small row = everyBelow (small row) 24
 
-all-small : everyBelow row-small 3 ≡ true
+all-small : everyBelow row-small 4 ≡ true
 unfolding everyBelow row-small small sizeIn primitiveSize
 all-small = refl
 
 pub size-small : (row k n : ℕ) → some n ≡ sizeIn row k → n ≤ 32
 unfolding small row-small
-size-small row k n e = go (ltb row 3) refl (ltb k 24) refl
+size-small row k n e = go (ltb row 4) refl (ltb k 24) refl
   where
     not-some : sizeIn row k ≡ none → ⊥
     not-some f = let z : _≡_ {A = ℕ} 0 1 = cc in absurd (omega arith)
 
-    up-to : row < 3 → k < 24 → n ≤ 32
+    up-to : row < 4 → k < 24 → n ≤ 32
     up-to g h = subst (λ x. Option·getD x 0 ≤ 32) (sym e)
-        (leb-true (Option·getD (sizeIn row k) 0) 32 (passBelow (small row) 24 (passBelow row-small 3 all-small row g) k h))
+        (leb-true (Option·getD (sizeIn row k) 0) 32 (passBelow (small row) 24 (passBelow row-small 4 all-small row g) k h))
 
-    go : (t : Bool) → ltb row 3 ≡ t → (u : Bool) → ltb k 24 ≡ u → n ≤ 32
-    go true p true q = up-to (ltb-true row 3 p) (ltb-true k 24 q)
+    go : (t : Bool) → ltb row 4 ≡ t → (u : Bool) → ltb k 24 ≡ u → n ≤ 32
+    go true p true q = up-to (ltb-true row 4 p) (ltb-true k 24 q)
     go true p false q = absurd (not-some (size-beyond row k (ltb-false k 24 q)))
-    go false p u q = absurd (not-some (no-row row k (ltb-false row 3 p)))
+    go false p u q = absurd (not-some (no-row row k (ltb-false row 4 p)))

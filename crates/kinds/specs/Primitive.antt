@@ -69,11 +69,12 @@ equivalent p q = eqb p q || (isObject p && isObject q)
 -- The widths, in bytes, that machines have of their own.
 pub record Widths : Type 0 where
   pub long : ℕ
+  pub unsigned-long : ℕ
   pub pointer : ℕ
   pub long-double : ℕ
 
--- Char and bool 1, short 2, int and float 4, long long and double 8, complex twice its part; long, pointers and long double are the
--- machine's; void and Unknown have none (01, "Sizes"; 02, N5).
+-- Char and bool 1, short 2, int and float 4, long long and double 8, complex twice its part; long, unsigned long, pointers and long double
+-- are the machine's; void and Unknown have none (01, "Sizes"; 02, N5 and N6).
 abbrev pub width : Widths → Primitive → Option ℕ
 width w P.Char = some 1
 width w P.UChar = some 1
@@ -84,7 +85,7 @@ width w P.Int = some 4
 width w P.UInt = some 4
 width w P.Float = some 4
 width w P.Long = some (w .long)
-width w P.ULong = some (w .long)
+width w P.ULong = some (w .unsigned-long)
 width w P.LongLong = some 8
 width w P.ULongLong = some 8
 width w P.Double = some 8
@@ -112,20 +113,21 @@ primitives =
 unfoldable pub primitiveSize : Widths → ℕ → Option ℕ
 primitiveSize w p = getD (map (width w) primitives) p none
 
--- The machines in the order of their row numbers (02, N5): 64-bit Apple ARM, the machine of 01; x86_64; 32-bit ARM.
+-- The machines in the order of their row numbers (02, N5 and N6): 64-bit Apple ARM, the machine of 01; x86_64; 32-bit ARM; the first with the guide's long.
 abbrev pub machines : List Widths
 machines =
-    record { long = 8; pointer = 8; long-double = 8 }
-    ∷ record { long = 8; pointer = 8; long-double = 16 }
-    ∷ record { long = 4; pointer = 4; long-double = 8 } ∷ []
+    record { long = 8; unsigned-long = 8; pointer = 8; long-double = 8 }
+    ∷ record { long = 8; unsigned-long = 8; pointer = 8; long-double = 16 }
+    ∷ record { long = 4; unsigned-long = 4; pointer = 4; long-double = 8 }
+    ∷ record { long = 4; unsigned-long = 8; pointer = 8; long-double = 8 } ∷ []
 
 -- Whether there is a row of this number.
 abbrev pub isRow : ℕ → Bool
-isRow row = leb row 2
+isRow row = leb row 3
 
 -- The widths of a row. A number that is no row's is turned away by the calls; here it has those of row 0.
 abbrev pub widths : ℕ → Widths
-widths row = getD machines row (record { long = 8; pointer = 8; long-double = 8 })
+widths row = getD machines row (record { long = 8; unsigned-long = 8; pointer = 8; long-double = 8 })
 
 -- The size of the primitive of kind `p` in a row; a number that is no row's has none.
 unfoldable pub sizeIn : ℕ → ℕ → Option ℕ
@@ -137,6 +139,10 @@ sizeRow w = map (λ p. Option·getD (width w p) 0) primitives
 
 abbrev pub sizeRows : List (List ℕ)
 sizeRows = map sizeRow machines
+
+-- The size that a number of such a row stands for.
+unfoldable pub entry : ℕ → Option ℕ
+entry n = cond (eqb n 0) none (some n)
 
 -- A size as the functions hand it out.
 abbrev pub sizeOf : PrimitiveSize → Option ℕ

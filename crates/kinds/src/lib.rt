@@ -3,7 +3,7 @@ ghost use mathlib.Core.Path.{_≡_};
 ghost use Rattle.kinds.specs.Kind.{containerOf, isIndirection, insideKind, childrenLevel};
 ghost use Rattle.kinds.specs.Level.{indirection, containerIncludeFields};
 ghost use Rattle.kinds.specs.Name.{isNameByte, verifyName};
-ghost use Rattle.kinds.specs.Primitive.{kindOf, codeBytes, code, isObject, equivalent, sizeOf, sizeIn, sizeRows};
+ghost use Rattle.kinds.specs.Primitive.{kindOf, codeBytes, code, isObject, equivalent, sizeOf, sizeIn};
 ghost use Rattle.kinds.specs.Container.{startByte, endByte, prefixByte};
 ghost use Rattle.kinds.specs.Sheet.{isContainerKind};
 ghost use Rattle.kinds.specs.Parse.{unknownDigit};
@@ -406,14 +406,15 @@ pub fn primitive_code(kind: u64) -> Code
     Code::Two(a, b)
 }
 
-// The rows of sizes: 0 is 64-bit Apple ARM, 1 is x86_64, 2 is 32-bit ARM.
-pub const ROWS: u64 = 3;
+// The rows of sizes: 0 is 64-bit Apple ARM, 1 is x86_64, 2 is 32-bit ARM, 3 is 0 with the long of Apple's guide.
+pub const ROWS: u64 = 4;
 
 // The sizes of the primitives in each row, in the order of `Primitive`; 0 for none.
-pub const SIZES: [[u8; 24]; 3] = [
+pub const SIZES: [[u8; 24]; 4] = [
     *b"\x01\x02\x04\x08\x08\x01\x02\x04\x08\x08\x04\x08\x08\x08\x10\x10\x01\x00\x08\x08\x08\x08\x08\x00",
     *b"\x01\x02\x04\x08\x08\x01\x02\x04\x08\x08\x04\x08\x10\x08\x10\x20\x01\x00\x08\x08\x08\x08\x08\x00",
     *b"\x01\x02\x04\x04\x08\x01\x02\x04\x04\x08\x04\x08\x08\x08\x10\x10\x01\x00\x04\x04\x04\x04\x04\x00",
+    *b"\x01\x02\x04\x04\x08\x01\x02\x04\x08\x08\x04\x08\x08\x08\x10\x10\x01\x00\x08\x08\x08\x08\x08\x00",
 ];
 
 fn wide(x: u8) -> u64

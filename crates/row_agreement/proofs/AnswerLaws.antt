@@ -21,8 +21,8 @@ use Rattle.sheet.specs.Answer.{Held, held, refused, holding, ofHeld, ofSheet}
 use Rattle.helper.specs.Answer.{maxSize, sized, sizedIn, sizeAnswer}
 use Rattle.helper.specs.declared.Sized.{Sized}
 use Rattle.helper.specs.declared.Sized.the-variants as S
-use Rattle.row_agreement.specs.Lacking.{sizeFrom, isNone, oneNone, noLongDouble}
-use Rattle.row_agreement.proofs.LongDoubleLaws.{size-alike}
+use Rattle.row_agreement.specs.Lacking.{sizeFrom, isNone, oneNone, noLongDouble, noLong, intsForLongs}
+use Rattle.row_agreement.proofs.CodeLaws.{without-long-double, without-long, ints-for-longs}
 use Rattle.row_agreement.proofs.NoneLaws.{size-none, struct-none, zero-items, none-is}
 
 -- ---- What is answered in a row.
@@ -137,7 +137,17 @@ module _ (words names : List ℕ) where
   unfolding size
   zero-answer row u t h e r = answer-bytes row words names h r 0 .1 (zero-items (widths row) u Top t end e, omega arith)
 
-pub answers-alike : (words names : List ℕ) {t : Trees} → held words names ≡ holding t → noLongDouble t ≡ true → sizeAnswer 1 words names ≡ sizeAnswer 0 words names
-unfolding sizedIn maxSize
-answers-alike words names {t} h e =
-    held-answer 1 words names h ∙ ap (sized maxU64) (size-alike (widths 1) (widths 0) refl refl t e) ∙ sym (held-answer 0 words names h)
+-- ---- Rows against row 0.
+
+module _ (words names : List ℕ) {t : Trees} (h : held words names ≡ holding t) where
+  pub intel-alike : noLongDouble t ≡ true → sizeAnswer 1 words names ≡ sizeAnswer 0 words names
+  unfolding sizedIn maxSize
+  intel-alike e = held-answer 1 words names h ∙ ap (sized maxU64) (without-long-double (widths 1) (widths 0) refl refl refl t e) ∙ sym (held-answer 0 words names h)
+
+  pub guide-alike : noLong t ≡ true → sizeAnswer 3 words names ≡ sizeAnswer 0 words names
+  unfolding sizedIn maxSize
+  guide-alike e = held-answer 3 words names h ∙ ap (sized maxU64) (without-long (widths 3) (widths 0) refl refl refl t e) ∙ sym (held-answer 0 words names h)
+
+  pub guide-ints : sizeAnswer 3 words names ≡ sizedIn 0 (intsForLongs t)
+  unfolding sizedIn maxSize
+  guide-ints = held-answer 3 words names h ∙ ap (sized maxU64) (ints-for-longs (widths 3) (widths 0) refl refl refl refl t)

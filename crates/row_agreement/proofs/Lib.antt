@@ -2,5 +2,5 @@
 pub mod Rows
 pub mod CasesHold
 pub mod AnswerLaws
-pub mod LongDoubleLaws
+pub mod CodeLaws
 pub mod NoneLaws

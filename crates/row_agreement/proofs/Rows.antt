@@ -16,13 +16,13 @@ use Rattle.kinds.specs.declared.NestingLevel.the-variants.{Within}
 use Rattle.kinds.specs.declared.Refusal.{Refusal}
 use Rattle.kinds.specs.declared.Refusal.the-variants as R
 use Rattle.sheet.specs.Answer.{held, refused, holding}
-use Rattle.helper.specs.Answer.{maxSize, sizeAnswer}
+use Rattle.helper.specs.Answer.{maxSize, sizedIn, sizeAnswer}
 use Rattle.helper.specs.declared.Sized.the-variants.{Refused, Nothing, Bytes}
 use Rattle.row_agreement.specs.Cases.{AllHold, cases, table}
-use Rattle.row_agreement.specs.Lacking.{sizeFrom, isNone, oneNone, allNone, noLongDouble}
-use Rattle.row_agreement.proofs.AnswerLaws.{refused-answer, no-row, from-no-row, answer-nothing, answer-bytes, answer-large, other-answer, struct-answer, zero-answer, answers-alike}
+use Rattle.row_agreement.specs.Lacking.{sizeFrom, isNone, oneNone, allNone, noLongDouble, noLong, intsForLongs}
+use Rattle.row_agreement.proofs.AnswerLaws.{refused-answer, no-row, from-no-row, answer-nothing, answer-bytes, answer-large, other-answer, struct-answer, zero-answer, intel-alike, guide-alike, guide-ints}
 use Rattle.row_agreement.proofs.CasesHold.{all-hold, table-holds}
-use Rattle.row_agreement.proofs.LongDoubleLaws.{size-alike}
+use Rattle.row_agreement.proofs.CodeLaws.{without-long-double, without-long, ints-for-longs}
 use Rattle.row_agreement.proofs.NoneLaws.{size-none, struct-none, union-none, zero-items}
 
 -- ---- Trees, on all machines.
@@ -43,9 +43,18 @@ module _ (w : Widths) (v : NestingLevel) where
   pub zero-times : (u : Widths) (t ts : Trees) → isNone (sizeFrom u v t) ≡ false → sizeFrom w v (node (array 0) t ts) ≡ some 0
   zero-times u = zero-items w u v
 
--- Two machines with the same long and pointers give the same sizes to trees without long double.
-pub long-double-alone : (w u : Widths) → w .long ≡ u .long → w .pointer ≡ u .pointer → (t : Trees) → noLongDouble t ≡ true → size w t ≡ size u t
-long-double-alone = size-alike
+module _ (w u : Widths) where
+  -- Two machines that differ in long double alone give the same sizes to trees without it.
+  pub long-double-alone : w .long ≡ u .long → w .unsigned-long ≡ u .unsigned-long → w .pointer ≡ u .pointer → (t : Trees) → noLongDouble t ≡ true → size w t ≡ size u t
+  long-double-alone = without-long-double w u
+
+  -- Two that differ in long alone give the same sizes to trees without it.
+  pub long-alone : w .unsigned-long ≡ u .unsigned-long → w .pointer ≡ u .pointer → w .long-double ≡ u .long-double → (t : Trees) → noLong t ≡ true → size w t ≡ size u t
+  long-alone = without-long w u
+
+  -- If the first of these two has a long of 4 bytes, it measures each tree as the other does with an int in the place of each long.
+  pub long-as-int : w .unsigned-long ≡ u .unsigned-long → w .pointer ≡ u .pointer → w .long-double ≡ u .long-double → w .long ≡ 4 → (t : Trees) → size w t ≡ size u (intsForLongs t)
+  long-as-int = ints-for-longs w u
 
 -- ---- The call, for all lists.
 
@@ -86,12 +95,20 @@ module _ (words names : List ℕ) where
 
   -- Rows 0 and 1 answer alike for trees without long double.
   pub intel-as-arm : {t : Trees} → held words names ≡ holding t → noLongDouble t ≡ true → sizeAnswer 1 words names ≡ sizeAnswer 0 words names
-  intel-as-arm = answers-alike words names
+  intel-as-arm = intel-alike words names
+
+  -- Rows 0 and 3 answer alike for trees without long.
+  pub guide-as-arm : {t : Trees} → held words names ≡ holding t → noLong t ≡ true → sizeAnswer 3 words names ≡ sizeAnswer 0 words names
+  guide-as-arm = guide-alike words names
+
+  -- Row 3 answers for each tree as row 0 does for the tree with an int in the place of each long.
+  pub guide-long : {t : Trees} → held words names ≡ holding t → sizeAnswer 3 words names ≡ sizedIn 0 (intsForLongs t)
+  guide-long = guide-ints words names
 
 -- Refusal 6 begins above 2^64 - 1, in row 2 above 2^32 - 1.
-pub largest-sizes : (maxSize 0 ≡ maxU64) × (maxSize 1 ≡ maxU64) × (maxSize 2 ≡ maxU32)
+pub largest-sizes : (maxSize 0 ≡ maxU64) × (maxSize 1 ≡ maxU64) × (maxSize 2 ≡ maxU32) × (maxSize 3 ≡ maxU64)
 unfolding maxSize
-largest-sizes = (refl, refl, refl)
+largest-sizes = (refl, refl, refl, refl)
 
 -- ---- The table of sizes is what the widths give, and each case holds.
 

@@ -9,6 +9,7 @@ use Rattle.rows.specs.Answer.{spaced, rowText, rowsText, tableText}
 pub printed : tableText
     ≡ bytes "1 2 4 8 8 1 2 4 8 8 4 8 8 8 16 16 1 0 8 8 8 8 8 0\n"
     ++ (bytes "1 2 4 8 8 1 2 4 8 8 4 8 16 8 16 32 1 0 8 8 8 8 8 0\n"
-    ++ bytes "1 2 4 4 8 1 2 4 4 8 4 8 8 8 16 16 1 0 4 4 4 4 4 0\n")
+    ++ (bytes "1 2 4 4 8 1 2 4 4 8 4 8 8 8 16 16 1 0 4 4 4 4 4 0\n"
+    ++ bytes "1 2 4 4 8 1 2 4 8 8 4 8 8 8 16 16 1 0 8 8 8 8 8 0\n"))
 unfolding tableText rowsText rowText spaced each spaceNumber decimal digits
 printed = refl

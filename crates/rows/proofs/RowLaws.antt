@@ -8,7 +8,7 @@ use Rattle.kinds.specs.Byte.{bytes}
 use Rattle.kinds.specs.Primitive.{Widths, sizeRow, widths}
 use Rattle.kinds.specs.Print.{decimal}
 use Rattle.lines.specs.Answer.{each, spaceNumber}
-use Rattle.rows.specs.Answer.{three, spaced, rowText}
+use Rattle.rows.specs.Answer.{four, spaced, rowText}
 
 pub spaced-none : (s : List ℕ) → length s ≡ 0 → spaced s ≡ []
 unfolding spaced
@@ -22,25 +22,27 @@ spaced-some (n ∷ s) h = refl
 
 -- The widths of all machines, as the program has them.
 abbrev pub allWidths : List (List ℕ)
-allWidths = (8 ∷ 8 ∷ 8 ∷ []) ∷ (8 ∷ 8 ∷ 16 ∷ []) ∷ (4 ∷ 4 ∷ 8 ∷ []) ∷ []
+allWidths = (8 ∷ 8 ∷ 8 ∷ 8 ∷ []) ∷ (8 ∷ 8 ∷ 8 ∷ 16 ∷ []) ∷ (4 ∷ 4 ∷ 4 ∷ 8 ∷ []) ∷ (4 ∷ 8 ∷ 8 ∷ 8 ∷ []) ∷ []
 
-pub widths-row : (row : ℕ) → row < 3 → getD allWidths row [] ≡ three (widths row)
+pub widths-row : (row : ℕ) → row < 4 → getD allWidths row [] ≡ four (widths row)
 widths-row zero h = refl
 widths-row (suc zero) h = refl
 widths-row (suc (suc zero)) h = refl
-widths-row (suc (suc (suc n))) h = absurd (omega arith)
+widths-row (suc (suc (suc zero))) h = refl
+widths-row (suc (suc (suc (suc n)))) h = absurd (omega arith)
 
-pub widths-beyond : (row : ℕ) → 3 ≤ row → 8 ∷ 8 ∷ 8 ∷ [] ≡ three (widths row)
+pub widths-beyond : (row : ℕ) → 4 ≤ row → 8 ∷ 8 ∷ 8 ∷ 8 ∷ [] ≡ four (widths row)
 widths-beyond zero h = absurd (omega arith)
 widths-beyond (suc zero) h = absurd (omega arith)
 widths-beyond (suc (suc zero)) h = absurd (omega arith)
-widths-beyond (suc (suc (suc n))) h = refl
+widths-beyond (suc (suc (suc zero))) h = absurd (omega arith)
+widths-beyond (suc (suc (suc (suc n)))) h = refl
 
 -- A row's line, from its widths `w` and its sizes `s`.
 machine : List ℕ → Widths
-machine w = record { long = getD w 0 0; pointer = getD w 1 0; long-double = getD w 2 0 }
+machine w = record { long = getD w 0 0; unsigned-long = getD w 1 0; pointer = getD w 2 0; long-double = getD w 3 0 }
 
-pub row-is : (row : ℕ) (w s : List ℕ) → w ≡ three (widths row)
-    → s ≡ sizeRow (record { long = getD w 0 0; pointer = getD w 1 0; long-double = getD w 2 0 }) → spaced s ++ bytes "\n" ≡ rowText (sizeRow (widths row))
+pub row-is : (row : ℕ) (w s : List ℕ) → w ≡ four (widths row)
+    → s ≡ sizeRow (record { long = getD w 0 0; unsigned-long = getD w 1 0; pointer = getD w 2 0; long-double = getD w 3 0 }) → spaced s ++ bytes "\n" ≡ rowText (sizeRow (widths row))
 unfolding rowText machine
 row-is row w s p q = ap (λ (x : List ℕ). spaced x ++ bytes "\n") (q ∙ ap (λ (x : List ℕ). sizeRow (machine x)) p)

@@ -101,7 +101,7 @@ sizeText row (S.Bytes n) = countText n (bytes "byte")
 
 -- The machines, a line for each row.
 unfoldable pub machineNames : List ℕ
-machineNames = bytes "  64-bit Apple ARM  \n  x86_64            \n  32-bit ARM        "
+machineNames = bytes "  64-bit Apple ARM  \n  x86_64            \n  32-bit ARM        \n  the guide's long  "
 
 -- The line of a row: its number, its machine and the size there.
 unfoldable pub sizeLine : ℕ → Sized → List ℕ
@@ -132,7 +132,7 @@ refusals =
     ++ (bytes "^ a number is above 2^64 - 1, or a bitfield's size above 255\n^ no ] follows the array's item\n"
     ++ (bytes "c the text ends inside the \nc neither ? nor letters, digits and underscores name the \n^ bytes remain after the type\n"
     ++ (bytes "^ no digit follows the type\n^ the number is above 4294967295\n- the signature is empty\n^ the number starts with a surplus zero\n"
-    ++ bytes "- there is no row of that number: they are 0, 1 and 2")))))
+    ++ bytes "- there is no row of that number: they are 0 to 3")))))
 
 -- A line with a mark under the place, unless the refusal has none.
 unfoldable pub markText : ℕ → ℕ → List ℕ

@@ -229,7 +229,8 @@ fn put_size(out: &mut [u8], at: usize, row: u64, size: Sized) -> usize
 pub fn put_size_line(out: &mut [u8], row: u64, size: Sized) -> usize
     ensures { λ r. ⌜ Put (now (out .entry)) 0 (sizeLine row size) (now (out .exit)) r ⌝ }
 {
-    let machines = b"  64-bit Apple ARM  \n  x86_64            \n  32-bit ARM        ";
+    let machines =
+        b"  64-bit Apple ARM  \n  x86_64            \n  32-bit ARM        \n  the guide's long  ";
     let number = put_right(out, 0, row, 100);
     let machine = lines::put_bytes(out, number, line_of(machines, row));
     put_size(out, machine, row, size)
@@ -341,7 +342,7 @@ pub fn put_refused(out: &mut [u8], text: &[u8], why: &[u64; 4]) -> usize
         ^ the number is above 4294967295\n\
         - the signature is empty\n\
         ^ the number starts with a surplus zero\n\
-        - there is no row of that number: they are 0, 1 and 2";
+        - there is no row of that number: they are 0 to 3";
     put_refused_by(out, text, why, line_of(refusals, why[0]))
 }
 

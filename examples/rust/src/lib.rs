@@ -19,15 +19,17 @@
 //! assert_eq!(reason.as_bytes(), b"1:kind 2:11 2:10");
 //! assert_eq!(reason.to_string(), "item 1 differs in kind: 11 and 10");
 //!
-//! let machines = berzhotun::parse(b"{R=l^vD}").unwrap();
-//! let sizes = Row::ALL.map(|row| machines.size(row));
-//! assert_eq!(sizes, [Ok(Some(24)), Ok(Some(32)), Ok(Some(16))]);
+//! let record = berzhotun::parse(b"{R=l^vD}").unwrap();
+//! let sizes = Row::ALL.map(|row| record.size(row));
+//! assert_eq!(sizes, [Ok(Some(24)), Ok(Some(32)), Ok(Some(16)), Ok(Some(20))]);
 //! ```
 
 mod exported;
 mod reason;
 mod refusal;
 mod row;
+#[cfg(test)]
+mod trees;
 
 pub use reason::{Difference, Reason};
 pub use refusal::{Container, Refusal};
@@ -283,7 +285,7 @@ impl Tree {
         accepted(number, answer[0] == 1)
     }
 
-    /// The bytes that the type takes on the row's machine without padding, if it has a size.
+    /// The bytes that the type takes with the row's widths and without padding, if it has a size.
     pub fn size(&self, row: Row) -> Result<Option<u64>, Refusal> {
         let mut answer = [0; 2];
         // SAFETY: as in `compare`.

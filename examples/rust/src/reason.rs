@@ -143,21 +143,8 @@ impl fmt::Display for Difference {
 #[cfg(test)]
 mod tests {
     use crate::exported::*;
-    use crate::{parse, Tree};
-
-    type Written = unsafe extern "C" fn(
-        *const u64,
-        usize,
-        *const u8,
-        usize,
-        *const u64,
-        usize,
-        *const u8,
-        usize,
-        *mut u8,
-        usize,
-        *mut [u64; 2],
-    ) -> u64;
+    use crate::trees::{bad_name, no_sheet, tree};
+    use crate::{Tree, Written};
 
     const BOTH: [Written; 2] = [berzhotun_reason, berzhotun_reason_all];
 
@@ -182,10 +169,6 @@ mod tests {
             )
         };
         (number, answer, out)
-    }
-
-    fn tree(text: &str) -> Tree {
-        parse(text.as_bytes()).expect(text)
     }
 
     #[test]
@@ -218,15 +201,7 @@ mod tests {
 
     #[test]
     fn what_is_no_sheet_goes_before_a_bad_name_and_that_before_a_short_output() {
-        let good = tree("i");
-        let no_sheet = Tree {
-            words: vec![],
-            names: vec![],
-        };
-        let bad_name = Tree {
-            words: vec![1, 4, 1, 8, 29, 0, 1, 1],
-            names: b"-".to_vec(),
-        };
+        let (good, no_sheet, bad_name) = (tree("i"), no_sheet(), bad_name());
         let cases = [
             (&no_sheet, &good, 3),
             (&good, &no_sheet, 3),

@@ -1,19 +1,25 @@
-//! The machines that types are measured for.
+//! The widths that types are measured with.
 
-/// The machine whose widths a size is made of: a row of the library's table of sizes.
+/// The widths that a size is made of: a row of the library's table of sizes.
 #[derive(Clone, Copy, Debug, PartialEq, Eq, Hash)]
 pub enum Row {
-    /// 0: 64-bit Apple ARM, as objc2-encode measures there. Long, pointers and long double have 8 bytes.
+    /// 0: 64-bit Apple ARM, as objc2-encode measures there. Long, unsigned long, pointers and long
+    /// double have 8 bytes.
     AppleArm64,
-    /// 1: x86_64, as Intel Macs. Long and pointers have 8 bytes, long double 16.
+    /// 1: x86_64, as Intel Macs. Long, unsigned long and pointers have 8 bytes, long double 16.
     X86_64,
-    /// 2: 32-bit ARM. Long and pointers have 4 bytes, long double 8; no size is above 2^32 - 1.
+    /// 2: 32-bit ARM. Long, unsigned long and pointers have 4 bytes, long double 8; no size is above
+    /// 2^32 - 1.
     Arm32,
+    /// 3: row 0, but long has the 32 bits that Apple's guide states for `l` in 64-bit programs;
+    /// unsigned long, of which it states nothing, keeps 8 bytes. For a caller that follows the guide:
+    /// in memory a long has the width that the row of its machine gives.
+    Guide,
 }
 
 impl Row {
     /// All of them, in the order of their numbers.
-    pub const ALL: [Row; 3] = [Row::AppleArm64, Row::X86_64, Row::Arm32];
+    pub const ALL: [Row; 4] = [Row::AppleArm64, Row::X86_64, Row::Arm32, Row::Guide];
 
     /// The number that the library has for it.
     pub fn number(self) -> u64 {
@@ -21,6 +27,7 @@ impl Row {
             Row::AppleArm64 => 0,
             Row::X86_64 => 1,
             Row::Arm32 => 2,
+            Row::Guide => 3,
         }
     }
 }
@@ -30,9 +37,10 @@ impl Row {
 mod tests {
     use super::Row;
     use crate::exported::berzhotun_size;
-    use crate::{parse, Refusal, Tree};
+    use crate::trees::{bad_name, no_sheet, tree};
+    use crate::{Refusal, Tree};
 
-    const NO_ROWS: [u64; 4] = [3, 4, 1 << 32, u64::MAX];
+    const NO_ROWS: [u64; 4] = [4, 5, 1 << 32, u64::MAX];
 
     /// The returned number, and the answer.
     fn ask(tree: &Tree, row: u64) -> (u64, [u64; 2]) {
@@ -51,18 +59,14 @@ mod tests {
         (number, answer)
     }
 
-    fn tree(text: &str) -> Tree {
-        parse(text.as_bytes()).expect(text)
-    }
-
     #[test]
     fn rows_go_by_their_numbers() {
         let record = tree("{R=l^vD}");
-        let answers = [(0, [1, 24]), (0, [1, 32]), (0, [1, 16])];
+        let answers = [(0, [1, 24]), (0, [1, 32]), (0, [1, 16]), (0, [1, 20])];
         for (row, answer) in Row::ALL.into_iter().zip(answers) {
             assert_eq!(ask(&record, row.number()), answer);
         }
-        assert_eq!(Row::ALL.map(Row::number), [0, 1, 2]);
+        assert_eq!(Row::ALL.map(Row::number), [0, 1, 2, 3]);
     }
 
     #[test]
@@ -79,17 +83,9 @@ mod tests {
 
     #[test]
     fn what_is_no_sheet_goes_before_a_bad_name_and_that_before_no_row() {
-        let no_sheet = Tree {
-            words: vec![],
-            names: vec![],
-        };
-        let bad_name = Tree {
-            words: vec![1, 4, 1, 8, 29, 0, 1, 1],
-            names: b"-".to_vec(),
-        };
         for row in Row::ALL.map(Row::number).into_iter().chain(NO_ROWS) {
-            assert_eq!(ask(&no_sheet, row), (3, [0, 0]));
-            assert_eq!(ask(&bad_name, row), (4, [0, 0]));
+            assert_eq!(ask(&no_sheet(), row), (3, [0, 0]));
+            assert_eq!(ask(&bad_name(), row), (4, [0, 0]));
         }
     }
 }

@@ -88,10 +88,11 @@ const CODES: [&str; 24] = [
 
 /// Their sizes in each row, 0 for none.
 #[rustfmt::skip]
-const SIZES: [[u64; 24]; 3] = [
+const SIZES: [[u64; 24]; 4] = [
     [1, 2, 4, 8, 8, 1, 2, 4, 8, 8, 4, 8, 8, 8, 16, 16, 1, 0, 8, 8, 8, 8, 8, 0],
     [1, 2, 4, 8, 8, 1, 2, 4, 8, 8, 4, 8, 16, 8, 16, 32, 1, 0, 8, 8, 8, 8, 8, 0],
     [1, 2, 4, 4, 8, 1, 2, 4, 4, 8, 4, 8, 8, 8, 16, 16, 1, 0, 4, 4, 4, 4, 4, 0],
+    [1, 2, 4, 4, 8, 1, 2, 4, 8, 8, 4, 8, 8, 8, 16, 16, 1, 0, 8, 8, 8, 8, 8, 0],
 ];
 
 #[test]
@@ -107,21 +108,27 @@ fn codes_in_each_row() {
 #[test]
 fn sizes_in_each_row() {
     let sizes = [
-        ("{R=i^v}", [Some(12), Some(12), Some(8)]),
-        ("{R=lLDjD}", [Some(40), Some(64), Some(32)]),
-        ("(U=vD)", [Some(8), Some(16), Some(8)]),
-        ("(U=d^v)", [Some(8), Some(8), Some(8)]),
-        ("[3^[9c]]", [Some(24), Some(24), Some(12)]),
-        ("A^{R}", [Some(8), Some(8), Some(4)]),
-        ("b0l3", [Some(8), Some(8), Some(4)]),
-        ("b0l33", [Some(8), Some(8), Some(8)]),
-        ("b0L3", [Some(8), Some(8), Some(4)]),
-        ("b33", [Some(8), Some(8), Some(8)]),
-        ("{x=}", [Some(0), Some(0), Some(0)]),
-        ("(x=)", [None, None, None]),
-        ("{R=lv}", [None, None, None]),
-        ("[0v]", [None, None, None]),
-        ("", [None, None, None]),
+        ("{R=i^v}", [Some(12), Some(12), Some(8), Some(12)]),
+        ("{R=lL}", [Some(16), Some(16), Some(8), Some(12)]),
+        ("{R=lLDjD}", [Some(40), Some(64), Some(32), Some(36)]),
+        ("{R=^{S=l}l}", [Some(16), Some(16), Some(8), Some(12)]),
+        ("(U=vD)", [Some(8), Some(16), Some(8), Some(8)]),
+        ("(U=d^v)", [Some(8), Some(8), Some(8), Some(8)]),
+        ("(U=li)", [Some(8), Some(8), Some(4), Some(4)]),
+        ("(U=lL)", [Some(8), Some(8), Some(4), Some(8)]),
+        ("[3^[9c]]", [Some(24), Some(24), Some(12), Some(24)]),
+        ("^l", [Some(8), Some(8), Some(4), Some(8)]),
+        ("A^{R}", [Some(8), Some(8), Some(4), Some(8)]),
+        ("Al", [Some(8), Some(8), Some(4), Some(4)]),
+        ("b0l3", [Some(8), Some(8), Some(4), Some(4)]),
+        ("b0l33", [Some(8), Some(8), Some(8), Some(8)]),
+        ("b0L3", [Some(8), Some(8), Some(4), Some(8)]),
+        ("b33", [Some(8), Some(8), Some(8), Some(8)]),
+        ("{x=}", [Some(0), Some(0), Some(0), Some(0)]),
+        ("(x=)", [None, None, None, None]),
+        ("{R=lv}", [None, None, None, None]),
+        ("[0v]", [None, None, None, None]),
+        ("", [None, None, None, None]),
     ];
     for (text, sizes) in sizes {
         for (row, size) in Row::ALL.into_iter().zip(sizes) {
@@ -155,7 +162,7 @@ fn what_is_too_large_in_row_2_alone() {
     for (text, size) in wide {
         let tree = tree(text);
         assert_eq!(tree.size(Row::Arm32), Err(Refusal::SizeTooLarge), "{text}");
-        for row in [Row::AppleArm64, Row::X86_64] {
+        for row in [Row::AppleArm64, Row::X86_64, Row::Guide] {
             assert_eq!(tree.size(row), Ok(Some(size)), "{text} {row:?}");
         }
     }
@@ -168,12 +175,49 @@ fn what_is_too_large_in_other_rows() {
         assert_eq!(too_large.size(row), Err(Refusal::SizeTooLarge), "{row:?}");
     }
     let long_doubles = tree("[1152921504606846976D]");
-    assert_eq!(
-        long_doubles.size(Row::AppleArm64),
-        Ok(Some(9223372036854775808))
-    );
+    for row in [Row::AppleArm64, Row::Guide] {
+        let size = Ok(Some(9223372036854775808));
+        assert_eq!(long_doubles.size(row), size, "{row:?}");
+    }
     assert_eq!(long_doubles.size(Row::X86_64), Err(Refusal::SizeTooLarge));
     assert_eq!(long_doubles.size(Row::Arm32), Err(Refusal::SizeTooLarge));
+}
+
+/// Longs and unsigned longs about the largest sizes: what they have in each row, or nothing where it is too large.
+#[rustfmt::skip]
+const LONGS: [(&str, [Option<u64>; 4]); 10] = [
+    ("[1073741823l]", [Some(8589934584), Some(8589934584), Some(4294967292), Some(4294967292)]),
+    ("[1073741824l]", [Some(8589934592), Some(8589934592), None, Some(4294967296)]),
+    ("[2305843009213693951l]", [Some(18446744073709551608), Some(18446744073709551608), None, Some(9223372036854775804)]),
+    ("[2305843009213693951L]", [Some(18446744073709551608), Some(18446744073709551608), None, Some(18446744073709551608)]),
+    ("[2305843009213693952L]", [None, None, None, None]),
+    ("[4611686018427387903l]", [None, None, None, Some(18446744073709551612)]),
+    ("[4611686018427387904l]", [None, None, None, None]),
+    ("{R=[4611686018427387903l]sc}", [None, None, None, Some(18446744073709551615)]),
+    ("{R=[4611686018427387903l]i}", [None, None, None, None]),
+    ("[0[4611686018427387904l]]", [Some(0), Some(0), Some(0), Some(0)]),
+];
+
+#[test]
+fn longs_with_a_size_about_the_largest() {
+    for (text, sizes) in LONGS {
+        for (row, size) in Row::ALL.into_iter().zip(sizes) {
+            let size = size.map(Some).ok_or(Refusal::SizeTooLarge);
+            assert_eq!(tree(text).size(row), size, "{text} {row:?}");
+        }
+    }
+}
+
+#[test]
+fn a_long_in_row_3_counts_as_an_int_in_row_0() {
+    let texts = [
+        "l", "^l", "Al", "b0l3", "b0l33", "[3l]", "(U=lL)", "(U=lic)", "{R=l^lL}", "^{R=l}",
+        "A{R=l}", "{R=lv}",
+    ];
+    for text in texts.into_iter().chain(LONGS.map(|(text, _)| text)) {
+        let size = tree(&text.replace('l', "i")).size(Row::AppleArm64);
+        assert_eq!(tree(text).size(Row::Guide), size, "{text}");
+    }
 }
 
 #[test]

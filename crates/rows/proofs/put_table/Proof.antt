@@ -12,7 +12,9 @@ returns c =
     let c2 = c .before .before in
     let c6 = c2 .before .before .before .before in
     let c10 = c6 .before .before .before .before in
-    put-append _ _ (c10 .put-row .ensures) (put-append _ _ (c6 .put-row2 .ensures) (put-append _ [] (c2 .put-row3 .ensures) (put-none _ _)))
+    let c14 = c10 .before .before .before .before in
+    put-append _ _ (c14 .put-row .ensures)
+    (put-append _ _ (c10 .put-row2 .ensures) (put-append _ _ (c6 .put-row3 .ensures) (put-append _ [] (c2 .put-row4 .ensures) (put-none _ _))))
 
 pub put-table-spec : {M : Type 1} → statement M
-put-table-spec = tie.close (tie.spec (λ c κs. search needs) (λ c κs. search needs) (λ c κs. search needs) (λ c. search needs) returns)
+put-table-spec = tie.close (tie.spec (λ c κs. search needs) (λ c κs. search needs) (λ c κs. search needs) (λ c κs. search needs) (λ c. search needs) returns)

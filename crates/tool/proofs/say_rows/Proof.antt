@@ -9,7 +9,7 @@ abbrev Inv-loop : tie.InvT-loop
 Inv-loop words names row₀ row = Unit {0}
 
 abbrev μ-loop : tie.MeasureT-loop
-μ-loop words names row₀ row = 3 - row
+μ-loop words names row₀ row = 4 - row
 
 loop-holds : tie.Need-loop-holds Inv-loop μ-loop
 loop-holds c = tt

@@ -1,7 +1,8 @@
 use borrow.Author.Tests.{eq-eqb, ne-eqb}
 use mathlib.Core.Path.{sym}
 use native.Mathlib.Omega.{arith}
-use Rattle.helper.specs.Measure.{clip, entry}
+use Rattle.kinds.specs.Primitive.{entry}
+use Rattle.helper.specs.Measure.{clip}
 use Rattle.helper.proofs.SizeLaws.{fit-le}
 use Rattle.helper.proofs.Measured.of_entry.Statement.{statement}
 use Rattle.helper.proofs.Measured.of_entry.Tie as tie
