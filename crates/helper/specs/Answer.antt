@@ -1,4 +1,4 @@
--- What `size` and `compare_encodings` (helper.rs) answer for sheets, with 01's refusals 3, 4 and 6 and 02's 20 (N5).
+-- What `size` and `compare_encodings` (helper.rs) answer for sheets, with 01's refusals 3, 4 and 6 and 02's 20 (N5, N6).
 use Prim.Native.Nat.{ℕ}
 use mathlib.Core.Bool.{Bool, cond}
 use mathlib.Core.List.{List}

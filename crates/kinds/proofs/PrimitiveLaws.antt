@@ -1,7 +1,7 @@
 -- Laws of the codes and sizes of primitives.
 use Prim.Native.Nat.{ℕ, _≤_, _<_}
 use native.Mathlib.Omega.{arith}
-use mathlib.Core.Path.{_≡_, refl, ap, sym, _∙_, subst}
+use mathlib.Core.Path.{_≡_, refl, ap, sym, subst}
 use mathlib.Core.Bool.{Bool, true, false, cond, false≢true}
 use mathlib.Core.List.{List, [], _∷_, map}
 use mathlib.Core.Option.{Option, some, none, Option·getD}
@@ -94,13 +94,13 @@ unfolding sized-right row-right
 table-size row k g h = same-size (entry (getD (getD sizeRows row []) k 0)) (sizeIn row k)
     (passBelow (sized-right row) 24 (passBelow row-right 4 all-sized row g) k h)
 
-pub size-none : (row k : ℕ) → row < 4 → k < 24 → getD (getD sizeRows row []) k 0 ≡ 0 → none ≡ sizeIn row k
+pub entry-none : {n : ℕ} → n ≡ 0 → none ≡ entry n
 unfolding entry
-size-none row k g h e = sym (ap entry e) ∙ table-size row k g h
+entry-none e = rw e
 
-pub size-some : (row k : ℕ) → row < 4 → k < 24 → (getD (getD sizeRows row []) k 0 ≡ 0 → ⊥) → some (getD (getD sizeRows row []) k 0) ≡ sizeIn row k
+pub entry-some : {n : ℕ} → (n ≡ 0 → ⊥) → some n ≡ entry n
 unfolding entry
-size-some row k g h e = sym (rw (ne-eqb (getD (getD sizeRows row []) k 0) 0 e)) ∙ table-size row k g h
+entry-some {n} e = rw (ne-eqb n 0 e)
 
 -- No primitive has more than 32 bytes.
 small : ℕ → ℕ → Bool

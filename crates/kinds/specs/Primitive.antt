@@ -113,7 +113,8 @@ primitives =
 unfoldable pub primitiveSize : Widths → ℕ → Option ℕ
 primitiveSize w p = getD (map (width w) primitives) p none
 
--- The machines in the order of their row numbers (02, N5 and N6): 64-bit Apple ARM, the machine of 01; x86_64; 32-bit ARM; the first with the guide's long.
+-- The machines in the order of their row numbers (02, N5 and N6): 64-bit Apple ARM, the machine of 01; x86_64; 32-bit ARM; and, as no machine
+-- has it, the first with the long of Apple's guide.
 abbrev pub machines : List Widths
 machines =
     record { long = 8; unsigned-long = 8; pointer = 8; long-double = 8 }

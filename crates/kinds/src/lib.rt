@@ -1,9 +1,10 @@
 // The types that helper.rs and parse.rs of the crate share with everything above them.
+ghost use Prim.Native.Nat.{_<_};
 ghost use mathlib.Core.Path.{_≡_};
 ghost use Rattle.kinds.specs.Kind.{containerOf, isIndirection, insideKind, childrenLevel};
 ghost use Rattle.kinds.specs.Level.{indirection, containerIncludeFields};
 ghost use Rattle.kinds.specs.Name.{isNameByte, verifyName};
-ghost use Rattle.kinds.specs.Primitive.{kindOf, codeBytes, code, isObject, equivalent, sizeOf, sizeIn};
+ghost use Rattle.kinds.specs.Primitive.{kindOf, codeBytes, code, isObject, equivalent, sizeOf, sizeIn, entry};
 ghost use Rattle.kinds.specs.Container.{startByte, endByte, prefixByte};
 ghost use Rattle.kinds.specs.Sheet.{isContainerKind};
 ghost use Rattle.kinds.specs.Parse.{unknownDigit};
@@ -417,6 +418,27 @@ pub const SIZES: [[u8; 24]; 4] = [
     *b"\x01\x02\x04\x04\x08\x01\x02\x04\x08\x08\x04\x08\x08\x08\x10\x10\x01\x00\x08\x08\x08\x08\x08\x00",
 ];
 
+// A number of the table. One row alone is taken out of it, since the compiler puts what is indexed on the stack.
+fn table_entry(row: u64, kind: usize) -> u8
+    requires { ⌜ (row < 4) × (kind < 24) ⌝ }
+    ensures { λ r. ⌜ entry r ≡ sizeIn row kind ⌝ }
+{
+    if row == 0 {
+        let sizes = SIZES[0];
+        return sizes[kind];
+    }
+    if row == 1 {
+        let sizes = SIZES[1];
+        return sizes[kind];
+    }
+    if row == 2 {
+        let sizes = SIZES[2];
+        return sizes[kind];
+    }
+    let sizes = SIZES[3];
+    sizes[kind]
+}
+
 fn wide(x: u8) -> u64
     ensures { λ r. ⌜ r ≡ x ⌝ }
 {
@@ -433,7 +455,7 @@ pub fn primitive_size(row: u64, kind: u64) -> PrimitiveSize
     if PRIMITIVES <= kind {
         return PrimitiveSize::Nothing; // no primitive
     }
-    let n = wide(SIZES[row as usize][kind as usize]);
+    let n = wide(table_entry(row, kind as usize));
     if n == 0 {
         return PrimitiveSize::Nothing;
     }

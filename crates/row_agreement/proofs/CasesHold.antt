@@ -17,7 +17,8 @@ unfolding toldOf widthsOwn alike large noRow cases among isDigit sameBytes isNam
     parseItems parse qualifiers isQualifier stripLeadingQualifiers encodingOrNone parseEncodingOrNone whole fromStr primitiveSize bitBytes plus larger times sum largest only nodeSize
     sizes size maxSize sized sizedIn
 all-hold =
-    (refl, refl, refl, refl) also (refl, refl, refl, refl) also (refl, refl, refl, refl) also (refl, refl, refl, refl) also (refl, refl, refl, refl)
+    (refl, refl, refl, refl)
+    also (refl, refl, refl, refl) also (refl, refl, refl, refl) also (refl, refl, refl, refl) also (refl, refl, refl, refl) also (refl, refl, refl, refl)
     also (refl, refl, refl, refl) also (refl, refl, refl, refl) also (refl, refl, refl, refl) also (refl, refl, refl, refl) also (refl, refl, refl, refl)
     also (refl, refl, refl, refl) also (refl, refl, refl, refl) also (refl, refl, refl, refl) also (refl, refl, refl, refl) also (refl, refl, refl, refl)
     also (refl, refl, refl, refl) also (refl, refl, refl, refl) also (refl, refl, refl, refl) also (refl, refl, refl, refl) also (refl, refl, refl, refl)

@@ -83,12 +83,12 @@ module _ (words names : List ℕ) where
   pub without-size-anywhere : (row other : ℕ) → isRow row ≡ true → isRow other ≡ true → sizeAnswer row words names ≡ Nothing → sizeAnswer other words names ≡ Nothing
   without-size-anywhere = other-answer words names
 
-  -- None goes before too large, in every row.
+  -- None goes before too large: a struct with a field that has none has none in every row, however large the others are.
   pub none-before-large : (row : ℕ) (u : Widths) (s : List ℕ) (cs : Trees) → held words names ≡ holding (node (struct s) cs end) → oneNone (sizes u Within cs) ≡ true → isRow row ≡ true
       → sizeAnswer row words names ≡ Nothing
   none-before-large = struct-answer words names
 
-  -- 0 times too large is 0, in every row.
+  -- 0 times too large is 0: an array of no items has 0 bytes in every row, however large an item is.
   pub zero-times-large : (row : ℕ) (u : Widths) (t : Trees) → held words names ≡ holding (node (array 0) t end) → isNone (size u t) ≡ false → isRow row ≡ true
       → sizeAnswer row words names ≡ Bytes 0
   zero-times-large = zero-answer words names

@@ -69,6 +69,7 @@ widthsOwn =
     ∷ inRows (bytes "(U=lL)") (size 8) (size 8) (size 4) (size 8)
     ∷ inRows (bytes "(U=li)") (size 8) (size 8) (size 4) (size 4)
     ∷ inRows (bytes "(U=lv)") (size 8) (size 8) (size 4) (size 4)
+    ∷ inRows (bytes "(U=l[6c])") (size 8) (size 8) (size 6) (size 6)
     ∷ inRows (bytes "[3D]") (size 24) (size 48) (size 24) (size 24)
     ∷ inRows (bytes "[3l]") (size 24) (size 24) (size 12) (size 12)
     ∷ inRows (bytes "[2{R=l(U=L)}]") (size 32) (size 32) (size 16) (size 24)
