@@ -56,7 +56,8 @@ fn mixed(random: &mut Random, depth: usize) -> Tree {
     }
 }
 
-/// A struct that has a size about a limit in some row, in fields of which some are arrays of char or a long.
+/// A struct that has a size about a limit in some row, in fields of which some are arrays of char, long or
+/// unsigned long.
 fn sum_about_limit(random: &mut Random) -> Tree {
     let row = random.below(rows::ROWS);
     // Mostly the row's own limit; that of another must do nothing here.

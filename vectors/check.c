@@ -1,5 +1,5 @@
-/* Reads every text of the list, prints it again, measures it in the row of its target, and compares with what the list
-   says. */
+/* Reads every text of the list, prints it again, measures it in the row of its target, for arm64 also in row 3,
+   and compares with what the list says. */
 #include <inttypes.h>
 #include <stdio.h>
 #include <stdlib.h>

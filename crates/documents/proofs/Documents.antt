@@ -1,4 +1,4 @@
--- How our reading, printing and sizes agree with the two public documents: the statements, over the definitions written from them
+-- How our reading and printing agree with the two public documents, and the sizes of row 3 with the guide: the statements, over the definitions written from them
 -- (specs/Guide.antt, specs/Gcc.antt) and those of kinds. specs/Translation.antt says which of our trees a document's type is.
 use Prim.Native.Nat.{ℕ, zero, _*_, _≤_, _<_}
 use mathlib.Core.Path.{_≡_, refl}

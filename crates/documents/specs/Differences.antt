@@ -35,7 +35,7 @@ pub data Row : Type 0 where
   undefined : Types → List ℕ → List ℕ → Row
   -- No encoding of the guide's begins with the text's first byte; the crate reads the text as the tree and prints the second text.
   noCode : ℕ → List ℕ → Trees → List ℕ → Row
-  -- The bits that the guide states for the code; its bytes in row 0, which are the crate's, and in row 3, which are the guide's.
+  -- The bits that the guide states for the code; its bytes in row 0, which are the crate's, and in row 3. That the latter are the guide's is `guide-width`.
   width : Meaning → ℕ → ℕ → ℕ → Row
   -- The guide encodes the type as the text, which the crate refuses, with 01's number and the place.
   refusesType : Types → List ℕ → ℕ → ℕ → Row

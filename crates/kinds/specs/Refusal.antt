@@ -1,4 +1,4 @@
--- Why an input is turned away (01, "Why an input is turned away"; 16 to 18 are 02's, N1, 19 is N3's and 20 N5's): the number of each refusal and the values that it carries.
+-- Why an input is turned away (01, "Why an input is turned away"; 16 to 18 are 02's, N1, 19 is N3's and 20 N5's and N6's): the number of each refusal and the values that it carries.
 use Prim.Native.Nat.{ℕ}
 use mathlib.Core.List.{List, [], _∷_}
 use mathlib.Core.Option.{Option, some, none, Option·getD}

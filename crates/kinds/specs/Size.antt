@@ -1,4 +1,4 @@
--- `size` (helper.rs) on a machine (02, N5), in numbers of any length. `none` is no size.
+-- `size` (helper.rs) on a machine (02, N5 and N6), in numbers of any length. `none` is no size.
 use Prim.Native.Nat.{ℕ, zero, suc, _+_, _*_, _/_, max}
 use mathlib.Core.Bool.{cond}
 use mathlib.Core.List.{List, [], _∷_}

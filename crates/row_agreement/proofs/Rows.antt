@@ -88,7 +88,7 @@ module _ (words names : List ℕ) where
       → sizeAnswer row words names ≡ Nothing
   none-before-large = struct-answer words names
 
-  -- 0 times too large is 0: an array of no items has 0 bytes in every row, however large an item is.
+  -- 0 times too large is 0: an array of no items has 0 bytes in every row if an item has a size on some machine, however large.
   pub zero-times-large : (row : ℕ) (u : Widths) (t : Trees) → held words names ≡ holding (node (array 0) t end) → isNone (size u t) ≡ false → isRow row ≡ true
       → sizeAnswer row words names ≡ Bytes 0
   zero-times-large = zero-answer words names

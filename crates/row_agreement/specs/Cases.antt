@@ -59,7 +59,7 @@ widthsOwn =
     ∷ inRows (bytes "^v") (size 8) (size 8) (size 4) (size 8)
     ∷ inRows (bytes "D") (size 8) (size 16) (size 8) (size 8)
     ∷ inRows (bytes "jD") (size 16) (size 32) (size 16) (size 16)
-    -- among fields, members and items
+    -- among fields, members and items, in an atomic, after a qualifier
     ∷ inRows (bytes "{R=i^v}") (size 12) (size 12) (size 8) (size 12)
     ∷ inRows (bytes "{R=lD^v}") (size 24) (size 32) (size 16) (size 20)
     ∷ inRows (bytes "{R=lL}") (size 16) (size 16) (size 8) (size 12)
@@ -80,7 +80,7 @@ widthsOwn =
     ∷ inRows (bytes "^l") (size 8) (size 8) (size 4) (size 8)
     ∷ inRows (bytes "{R=^{S=l}l}") (size 16) (size 16) (size 8) (size 12)
     ∷ inRows (bytes "^^{R=i}") (size 8) (size 8) (size 4) (size 8)
-    -- a bitfield's type, where it is the larger
+    -- a bitfield's type against its bits
     ∷ inRows (bytes "b0l3") (size 8) (size 8) (size 4) (size 4)
     ∷ inRows (bytes "b0L3") (size 8) (size 8) (size 4) (size 8)
     ∷ inRows (bytes "b0l32") (size 8) (size 8) (size 4) (size 4)

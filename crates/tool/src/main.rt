@@ -46,7 +46,7 @@ fn say_usage(to: i32) {
             \x20      berzhotun read-strict TEXT  the same, but a number with a surplus zero is refused\n\
             \x20      berzhotun start TEXT        the tree of the type at the start of TEXT, and the rest\n\
             \x20      berzhotun print TEXT        the printed text of the tree\n\
-            \x20      berzhotun size TEXT [ROW]   its size on each machine, or in one row: 0 is 64-bit Apple ARM, 1 x86_64, 2 32-bit ARM, 3 as 0 with the guide's long\n\
+            \x20      berzhotun size TEXT [ROW]   its size in each row, or in one: 0 is 64-bit Apple ARM, 1 x86_64, 2 32-bit ARM, 3 as 0 with the guide's long\n\
             \x20      berzhotun compare A B       whether the trees of A and B are equivalent, by levels, or where they differ\n\
             \x20      berzhotun compare-all A B   the same with all fields\n\
             \x20      berzhotun reason A B        the same for programs: yes, or the first difference in bytes\n\
