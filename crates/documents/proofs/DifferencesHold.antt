@@ -29,7 +29,7 @@ guide-rows =
     (refl, refl, refl) also (refl, refl, refl) also (refl, refl, refl) also (refl, refl, refl) also (refl, refl, refl)
     also (refl, refl, refl) also (refl, refl, refl) also refl
     also (refl, refl, refl) also (refl, refl, refl) also (refl, refl, refl)
-    also (refl, refl, refl)
+    also (refl, refl, refl, refl)
     also (refl, refl, refl) also (refl, refl, refl) also (refl, refl, refl) also (refl, refl, refl)
     also (refl, refl, refl) also (refl, refl, refl) also (refl, refl, refl) also (refl, refl, refl)
     also refl also (refl, refl, refl) also (refl, refl, refl) also (refl, refl)

@@ -1,5 +1,5 @@
 -- Where the crate parts from the documents, as rows that hold of the definitions of both (docs/DIFFERENCES.md has them in words).
-use Prim.Native.Nat.{ℕ, zero, _^_}
+use Prim.Native.Nat.{ℕ, zero, _*_, _^_}
 use mathlib.Core.Path.{_≡_}
 use mathlib.Core.Bool.{true, false}
 use mathlib.Core.List.{List, [], _∷_, _++_}
@@ -35,7 +35,7 @@ pub data Row : Type 0 where
   undefined : Types → List ℕ → List ℕ → Row
   -- No encoding of the guide's begins with the text's first byte; the crate reads the text as the tree and prints the second text.
   noCode : ℕ → List ℕ → Trees → List ℕ → Row
-  -- The bits that the guide states for the code; its bytes in row 0, which are the crate's, and in row 3. That the latter are the guide's is `guide-width`.
+  -- The bits that the guide states for the code; its bytes in row 0, which are the crate's, and in row 3, which are the guide's bits.
   width : Meaning → ℕ → ℕ → ℕ → Row
   -- The guide encodes the type as the text, which the crate refuses, with 01's number and the place.
   refusesType : Types → List ℕ → ℕ → ℕ → Row
@@ -62,7 +62,7 @@ Holds (alsoReads t g s) = (isType t ≡ true) × (encode zero t ≡ g) × (print
 Holds (noType t s u) = (isType t ≡ false) × (encode zero t ≡ s) × (readTree s ≡ u)
 Holds (undefined t s p) = (isType t ≡ false) × (readTree s ≡ trees t) × (print Top (trees t) ≡ p)
 Holds (noCode b s u p) = (begins b ≡ false) × (readTree (b ∷ s) ≡ u) × (print Top u ≡ p)
-Holds (width m bits a b) = (G.bits m ≡ some bits) × (size (widths 0) (readTree (encode zero (only m))) ≡ some a) × (size (widths 3) (readTree (encode zero (only m))) ≡ some b)
+Holds (width m bits a b) = (G.bits m ≡ some bits) × (size (widths 0) (readTree (encode zero (only m))) ≡ some a) × (size (widths 3) (readTree (encode zero (only m))) ≡ some b) × (8 * b ≡ bits)
 Holds (refusesType t s n place) = (isType t ≡ true) × (encode zero t ≡ s) × Refuses s n place
 Holds (refuses d s n place) = (d ≡ s) × Refuses s n place
 Holds (differ s t) = (equivalentTo (readTree s) (readTree t) ≡ false) × (equivalentTo (readTree t) (readTree s) ≡ false)
