@@ -24,6 +24,12 @@ put-any-requires c κs =
     let f = leb-true (length (decimal (c6 .args .n))) (length (c6 .args .out .now) - c6 .args .at) (sym (c2 .number-fits .ensures) ∙ c .before .if3 .taken)
     in omega arith
 
+returns-2 : tie.Need-returns-2
+returns-2 c = search needs
+
+returns-3 : tie.Need-returns-3
+returns-3 c = search needs
+
 pub put-number-spec : {M : Type 1} → statement M
 put-number-spec =
     tie.close
@@ -37,7 +43,7 @@ put-number-spec =
     (λ c κs. search needs)
     put-any-requires
     (λ c. search needs)
-    (λ c. search needs)
+    returns-2
     (λ c κs. search needs)
     (λ c. search needs)
-    (λ c. search needs))
+    returns-3)
