@@ -8,6 +8,8 @@ use Rattle.kinds.specs.declared.Compared.{Compared}
 use Rattle.kinds.specs.declared.Compared.the-variants as C
 use Rattle.helper.specs.declared.Sized.{Sized}
 use Rattle.helper.specs.declared.Sized.the-variants as S
+use Rattle.layout.specs.declared.LaidOut.{LaidOut}
+use Rattle.layout.specs.declared.LaidOut.the-variants as L
 use Rattle.parse.specs.Answer.{fromStartRest}
 use Rattle.parse.specs.declared.Reading.{Reading}
 use Rattle.parse.specs.declared.Reading.the-variants as G
@@ -80,3 +82,14 @@ signatureNumber (I.Refused r) = number r
 abbrev pub signatureValues : SignatureReading → List ℕ
 signatureValues (I.Entries k) = k ∷ 0 ∷ 0 ∷ []
 signatureValues (I.Refused r) = values r
+
+abbrev pub layoutNumber : LaidOut → ℕ
+layoutNumber (L.Refused r) = number r
+layoutNumber L.Nothing = 0
+layoutNumber (L.Bytes n a) = 0
+
+-- 1, the padded size and the alignment; zeros where there is none; the node of refusal 21, and zeros for every other.
+abbrev pub layoutValues : LaidOut → List ℕ
+layoutValues (L.Refused r) = values r
+layoutValues L.Nothing = 0 ∷ 0 ∷ 0 ∷ []
+layoutValues (L.Bytes n a) = 1 ∷ n ∷ a ∷ []

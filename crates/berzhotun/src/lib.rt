@@ -7,13 +7,15 @@ ghost use Rattle.parse.specs.Answer.{fromStrAnswer, fromStrWords, fromStrNames,
 ghost use Rattle.parse.specs.Answer.{fromStrStrictAnswer, fromStrStrictWords, fromStrStrictNames};
 ghost use Rattle.expect.specs.Answer.{compared};
 ghost use Rattle.helper.specs.Answer.{sizeAnswer, compareAnswer};
+ghost use Rattle.layout.specs.Answer.{layoutAnswer, layoutList};
 ghost use Rattle.reason.specs.Answer.{reasonLen, reasonAnswer, reasonOutput};
 ghost use Rattle.signature.specs.Answer.{signatureAnswer, signatureList};
 ghost use Rattle.static_str.specs.Answer.{encodingLen, encodingArray, encodingOutput};
 ghost use Rattle.berzhotun.specs.Answer.{sizeNumber, sizeValues, compareNumber, compareValues, printNumber, printValues, readNumber, readValues, restPlace, signatureNumber, signatureValues};
-ghost use Rattle.berzhotun.specs.Answer.{reasonNumber, reasonValues};
+ghost use Rattle.berzhotun.specs.Answer.{reasonNumber, reasonValues, layoutNumber, layoutValues};
 use helper::Sized;
 use kinds::Compared;
+use layout::LaidOut;
 use parse::Reading;
 use reason::Reasoned;
 use signature::SignatureReading;
@@ -129,6 +131,27 @@ fn give_signature(reading: SignatureReading, values: &mut [u64; 3]) -> u64
         SignatureReading::Refused(why) => {
             *values = why.values();
             why.number()
+        }
+    }
+}
+
+// A layout's answer as numbers.
+fn give_laid_out(laid: LaidOut, answer: &mut [u64; 3]) -> u64
+    ensures returns { λ r. ⌜ r ≡ layoutNumber laid ⌝ }
+    ensures answers { λ _. ⌜ now (answer .exit) ≡ layoutValues laid ⌝ }
+{
+    match laid {
+        LaidOut::Refused(why) => {
+            *answer = why.values();
+            why.number()
+        }
+        LaidOut::Nothing => {
+            *answer = [0, 0, 0];
+            0
+        }
+        LaidOut::Bytes(size, alignment) => {
+            *answer = [1, size, alignment];
+            0
         }
     }
 }
@@ -351,4 +374,19 @@ pub extern "C" fn berzhotun_signature(text: &[u8], list: &mut [u64], values: &mu
     ensures fills { λ _. ⌜ now (list .exit) ≡ signatureList (now (text .entry)) (now (list .entry)) ⌝ }
 {
     give_signature(signature::parse_signature(text, list), values)
+}
+
+#[no_mangle]
+pub extern "C" fn berzhotun_layout(
+    words: &[u64],
+    names: &[u8],
+    row: u64,
+    offsets: &mut [u64],
+    answer: &mut [u64; 3],
+) -> u64
+    ensures returns { λ r. ⌜ r ≡ layoutNumber (layoutAnswer row (now (words .entry)) (now (names .entry)) (now (offsets .entry))) ⌝ }
+    ensures answers { λ _. ⌜ now (answer .exit) ≡ layoutValues (layoutAnswer row (now (words .entry)) (now (names .entry)) (now (offsets .entry))) ⌝ }
+    ensures fills { λ _. ⌜ now (offsets .exit) ≡ layoutList row (now (words .entry)) (now (names .entry)) (now (offsets .entry)) ⌝ }
+{
+    give_laid_out(layout::layout(words, names, row, offsets), answer)
 }

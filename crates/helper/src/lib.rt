@@ -57,7 +57,7 @@ pub enum Sized {
 }
 
 impl Measured {
-    fn plus(self, other: Measured) -> Measured
+    pub fn plus(self, other: Measured) -> Measured
         ensures { λ r. ⌜ r ≡ plusMeasured self other ⌝ }
     {
         match self {
@@ -81,7 +81,7 @@ impl Measured {
         }
     }
 
-    fn larger(self, other: Measured) -> Measured
+    pub fn larger(self, other: Measured) -> Measured
         ensures { λ r. ⌜ r ≡ largerMeasured self other ⌝ }
     {
         match self {
@@ -101,7 +101,7 @@ impl Measured {
         }
     }
 
-    fn times(self, n: u64) -> Measured
+    pub fn times(self, n: u64) -> Measured
         ensures { λ r. ⌜ r ≡ timesMeasured n self ⌝ }
     {
         match self {
@@ -477,7 +477,7 @@ fn compare_fields(
 }
 
 // The largest size in a row.
-fn max_size(row: u64) -> u64
+pub fn max_size(row: u64) -> u64
     ensures { λ r. ⌜ r ≡ maxSize row ⌝ }
 {
     if row == ROW_OF_32_BITS {

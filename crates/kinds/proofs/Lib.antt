@@ -1,5 +1,6 @@
 -- Laws of the definitions that belong to no one function.
 pub mod ListLaws
+pub mod StoreLaws
 pub mod NameLaws
 pub mod TableLaws
 pub mod PrimitiveLaws

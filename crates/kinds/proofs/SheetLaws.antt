@@ -9,7 +9,7 @@ use mathlib.Core.Bool.{Bool, true, false, cond, _&&_}
 use borrow.Author.Tests.{le-leb, lt-leb, leb-true, leb-false, eq-eqb, ne-eqb, eqb-true, eqb-false}
 use lib.ListN.{length, getD}
 use lib.Dec.{leb, eqb}
-use Rattle.kinds.specs.Tree.{node}
+use Rattle.kinds.specs.Tree.{node, count}
 use Rattle.kinds.specs.Sheet.{kindAt, firstAt, secondAt, countAt, labelAt, isContainerKind, numbers, nextName, packed, headerWords, wordsUsed, headerFor, header, below, read, trees, arity, nest, nests, maxNodes, maxNames}
 use Rattle.kinds.proofs.TableLaws.{both, both-left, both-right}
 
@@ -35,6 +35,21 @@ module _ (s w : List ℕ) where
       ap₂ (node (labelAt s w at))
       (ap (λ (k : ℕ). read s w n k (at + 4)) e ∙ read-fuel n (countAt w at - 1) (countAt w at - 1) (at + 4) (omega arith) (omega arith))
       (ap₂ (λ (k j : ℕ). read s w n k j) (omega arith) (omega arith) ∙ read-fuel n (suc n - countAt w at) (suc n - countAt w at) (at + 4 * countAt w at) (omega arith) (omega arith))
+
+  -- as many nodes as are asked for
+  read-count : (f n at : ℕ) → n ≤ f → count (read s w f n at) ≡ n
+  unfolding read count
+  read-count zero zero at p = refl
+  read-count zero (suc n) at p = absurd (omega arith)
+  read-count (suc f) zero at p = refl
+  read-count (suc f) (suc n) at p =
+      let x = read-count f (below w n at) (at + 4) (omega arith) in
+      let y = read-count f (n - below w n at) (at + 4 + 4 * below w n at) (omega arith) in
+      omega arith
+
+  pub trees-count : (n at : ℕ) → count (trees s w n at) ≡ n
+  unfolding trees
+  trees-count n at = read-count n n at (omega arith)
 
 module _ (w : List ℕ) where
   nest-fuel : (f g n at : ℕ) → n ≤ f → n ≤ g → nest w f n at ≡ nest w g n at

@@ -1,4 +1,4 @@
--- Why an input is turned away (01, "Why an input is turned away"; 16 to 18 are 02's, N1, 19 is N3's and 20 N5's and N6's): the number of each refusal and the values that it carries.
+-- Why an input is turned away (01, "Why an input is turned away"; 16 to 18 are 02's, N1, 19 is N3's, 20 N5's and N6's, and 21 N7's, whose place is the number of a node): the number of each refusal and the values that it carries.
 use Prim.Native.Nat.{ℕ}
 use mathlib.Core.List.{List, [], _∷_}
 use mathlib.Core.Option.{Option, some, none, Option·getD}
@@ -49,6 +49,7 @@ row (R.ExpectedOffset at) = placed 16 at
 row (R.OffsetTooLarge at) = placed 17 at
 row R.EmptySignature = plain 18
 row R.NoSuchRow = plain 20
+row (R.BitFieldInLayout node) = placed 21 node
 
 abbrev pub number : Refusal → ℕ
 number r = row r .its-number

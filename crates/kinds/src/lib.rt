@@ -121,7 +121,7 @@ pub enum ErrorKind {
 }
 
 // Why an input is turned away: document 01's 1 to 6, and 7 to 15 with their place; of signatures 16 and 17 with their place, and 18; of strict reading 19
-// with its place; of size 20.
+// with its place; of size 20; of the layout 21 with the number of a node.
 pub enum Refusal {
     TextTooLong,
     ListTooShort,
@@ -134,6 +134,7 @@ pub enum Refusal {
     OffsetTooLarge(usize),
     EmptySignature,
     NoSuchRow,
+    BitFieldInLayout(usize),
 }
 
 // What a comparison answers.
@@ -299,6 +300,7 @@ impl Refusal {
             Refusal::OffsetTooLarge(at) => [17, at as u64, 0, 0],
             Refusal::EmptySignature => [18, 0, 0, 0],
             Refusal::NoSuchRow => [20, 0, 0, 0],
+            Refusal::BitFieldInLayout(node) => [21, node as u64, 0, 0],
         }
     }
 

@@ -31,7 +31,7 @@ use Rattle.kinds.proofs.ListLaws.{unread-end}
 use Rattle.codes.specs.Answer.{closed, closesFields}
 use Rattle.codes.specs.declared.Token.the-variants as T
 use Rattle.codes.proofs.StepLaws.{begins, fuel-on, closed-in, closed-is, closes-it, closes-not, same-self, closes-in, closes-starts}
-use Rattle.parse.proofs.Stores.{sets-append, sets-front-append, drop-sets}
+use Rattle.kinds.proofs.StoreLaws.{sets-append, sets-front-append, drop-sets}
 use Rattle.parse.proofs.Judge.{Clean, step-by, nil-by, held-by, item-by, next-by, clean-held, clean-opened, clean-closed}
 use Rattle.parse.proofs.Sheets.{slack-open, slack-closed, slack-end, slack-le, simple-token}
 

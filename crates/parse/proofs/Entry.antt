@@ -34,7 +34,7 @@ use Rattle.kinds.proofs.HoldsLaws.{sheet-length}
 use Rattle.kinds.proofs.SheetLaws.{header-length}
 use Rattle.kinds.proofs.ListLaws.{unread-end}
 use Rattle.parse.proofs.Sheets.{slack-le, simple-code}
-use Rattle.parse.proofs.Stores.{sets-append, sets-front-append, sets-part}
+use Rattle.kinds.proofs.StoreLaws.{sets-append, sets-front-append, sets-part}
 use Rattle.parser.proofs.TextLaws.{strip-stop}
 use Rattle.parse.proofs.Text.{cleared-length}
 

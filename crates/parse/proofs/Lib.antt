@@ -1,6 +1,5 @@
 -- Laws of the definitions that belong to no one function.
 pub mod Names
-pub mod Stores
 pub mod Text
 pub mod StrictlyLaws
 pub mod Judge

@@ -25,7 +25,7 @@ use Rattle.parse.specs.declared.Parsed.the-variants.{Encoding, Refused}
 use Rattle.kinds.proofs.ListLaws.{unread, unread-end}
 use Rattle.parse.specs.Strictly.{judged}
 use Rattle.parse.proofs.Judge.{Clean, clean-single}
-use Rattle.parse.proofs.Stores.{sets-front-append}
+use Rattle.kinds.proofs.StoreLaws.{sets-front-append}
 
 -- ---- Room.
 

@@ -13,13 +13,12 @@ use Rattle.kinds.specs.Sheet.{countAt, labelAt, trees}
 use Rattle.kinds.specs.Tree as T
 use Rattle.kinds.specs.Tree.{Trees, end, node}
 use Rattle.kinds.specs.Walk.{NodeAt, TreesAt}
-use Rattle.kinds.proofs.SheetLaws.{trees-step}
+use Rattle.kinds.proofs.SheetLaws.{trees-step, trees-count}
 use Rattle.kinds.proofs.NodeLaws.{node-inner, first-some, first-within, first-node, other-trees, no-trees}
 use Rattle.kinds.proofs.DecimalLaws.{decimal-low}
 use Rattle.static_str.proofs.NumberLaws.{decimal-few, decimal-fits}
 use Rattle.reason.specs.Reason.{items, pathText, dotted}
 use Rattle.reason.specs.Spot.{NodeOf, below, pathTo, pathFrom, Inside, Towards, itemText}
-use Rattle.reason.proofs.SpotLaws.{trees-count}
 
 -- ---- The count of items.
 

@@ -16,7 +16,7 @@ use Rattle.kinds.specs.Tree.{Label, Trees, end, node, kind, inside}
 use Rattle.kinds.specs.Walk.{TreesAt}
 use Rattle.kinds.specs.declared.NestingLevel.{NestingLevel}
 use Rattle.kinds.proofs.KindLaws.{inside-kind}
-use Rattle.kinds.proofs.SheetLaws.{trees-step}
+use Rattle.kinds.proofs.SheetLaws.{trees-step, trees-count}
 use Rattle.kinds.proofs.NodeLaws.{leaf-count, none-count, child-count, node-child, first-some, first-within, first-node, kind-label, container-label, no-trees}
 use Rattle.helper.specs.Measure.{levelAfter}
 use Rattle.helper.proofs.CompareLaws.{partner, low-partner, plain-partner, held-then, held-alone}
@@ -25,22 +25,7 @@ use Rattle.reason.specs.Spot.{Spot, spotted, nodeSpot, itemsSpot, below,
 
 -- ---- Trees of words.
 
--- as many nodes as are asked for
 module _ (s w : List ℕ) where
-  read-count : (f n at : ℕ) → n ≤ f → T.count (read s w f n at) ≡ n
-  unfolding read T.count
-  read-count zero zero at p = refl
-  read-count zero (suc n) at p = absurd (omega arith)
-  read-count (suc f) zero at p = refl
-  read-count (suc f) (suc n) at p =
-      let x = read-count f (S.below w n at) (at + 4) (omega arith) in
-      let y = read-count f (n - S.below w n at) (at + 4 + 4 * S.below w n at) (omega arith) in
-      omega arith
-
-  pub trees-count : (n at : ℕ) → T.count (trees s w n at) ≡ n
-  unfolding trees
-  trees-count n at = read-count n n at (omega arith)
-
   read-items : (t : List ℕ) (f n at : ℕ) → items (read s w f n at) ≡ items (read t w f n at)
   unfolding read items
   read-items t zero n at = refl

@@ -258,6 +258,10 @@ module _ (words names : List ℕ) {c : Checked} (g : Gives words names c) where
   pub given-code : {first k : ℕ} → c ≡ Code first k → CodeIn words names k
   given-code e = subst (Gives words names) e g .0
 
+  -- a code is one node
+  pub given-node : {first k : ℕ} → c ≡ Code first k → NodesIn words names first 1
+  given-node e = subst (Gives words names) e g .1
+
   pub given-nodes : {first n : ℕ} → c ≡ Nodes first n → NodesIn words names first n
   given-nodes e = subst (Gives words names) e g
 

@@ -8,7 +8,7 @@ use lib.ListN.{length, take, drop, replicate}
 use lib.Seq.{sets, sets-eq, take-append-le, take-all, drop-drop}
 use borrow.Rule.Slice.PartMut.{midOf, postOf, putMid, mid-len}
 use Rattle.parse.specs.Answer.{padded, filled}
-use Rattle.parse.proofs.Stores.{sets-append, drop-sets}
+use Rattle.kinds.proofs.StoreLaws.{sets-append, drop-sets}
 use Rattle.signature.specs.Answer.{numbers}
 use Rattle.signature.specs.Reads.{holding}
 use Rattle.signature.specs.Signature.{Entry, entry}

@@ -4,7 +4,7 @@ use native.Mathlib.Omega.{arith}
 use lib.ListN.{length, take}
 use lib.Seq.{sets, length-sets, take-all}
 use borrow.Author.Needs.{needs}
-use Rattle.parse.proofs.Stores.{sets-more}
+use Rattle.kinds.proofs.StoreLaws.{sets-more}
 use Rattle.parse.proofs.copy_name.Statement.{statement}
 use Rattle.parse.proofs.copy_name.Tie as tie
 

@@ -6,7 +6,7 @@ use native.Mathlib.Omega.{arith}
 use lib.ListN.{length}
 use lib.Seq.{sets}
 use borrow.Rule.Slice.PartMut.{midOf, putMid, mid-len}
-use Rattle.parse.proofs.Stores.{sets-middle}
+use Rattle.kinds.proofs.StoreLaws.{sets-middle}
 use Rattle.sheet.proofs.PutLaws.{node-put}
 use borrow.Author.Needs.{needs}
 use Rattle.parse.proofs.put_node.Statement.{statement}

@@ -35,6 +35,9 @@ returns-10 c = rw (c .enum-told7 .given .1)
 returns-11 : tie.Need-returns-11
 returns-11 c = rw (c .enum-told8 .given .1)
 
+returns-12 : tie.Need-returns-12
+returns-12 c = rw (c .before .self4 .given .1)
+
 pub words-spec : {M : Type 1} → statement M
 words-spec =
     tie.close
@@ -51,6 +54,7 @@ words-spec =
     (λ c. search needs)
     (λ c. search needs)
     (λ c. search needs)
+    (λ c. search needs)
     returns
     returns-2
     returns-3
@@ -61,4 +65,5 @@ words-spec =
     returns-8
     returns-9
     returns-10
-    returns-11)
+    returns-11
+    returns-12)

@@ -5,8 +5,8 @@ use mathlib.Core.List.{List, [], _∷_, _++_}
 use native.Mathlib.Nat.{add-zero, zero-add, suc-add}
 use native.Mathlib.Omega.{arith}
 use native.Mathlib.Numerals.{add-one}
-use lib.ListN.{length, take, drop, getD, set, length-set, take-append-drop}
-use lib.Seq.{sets, set-comm, drop-set-lt, take-suc, length-take-le, set-append-left}
+use lib.ListN.{length, take, drop, getD, set, replicate, length-set, take-append-drop}
+use lib.Seq.{sets, set-comm, set-getD, getD-set-other, drop-set-lt, take-suc, length-take-le, set-append-left}
 use borrow.Rule.Slice.PartMut.{midOf, postOf, putMid, mid-len}
 
 -- Runs that stand side by side are one run.
@@ -14,7 +14,8 @@ pub sets-append : (w : List ℕ) (i : ℕ) (a b : List ℕ) → sets w i (a ++ b
 sets-append w i [] b = rw add-zero
 sets-append w i (x ∷ a) b = sets-append (set w i x) (suc i) a b ∙ ap (λ (k : ℕ). sets (sets (set w i x) (suc i) a) k b) (omega arith)
 
-set-sets : (w : List ℕ) (i : ℕ) (x : ℕ) (j : ℕ) (b : List ℕ) → i < j → set (sets w j b) i x ≡ sets (set w i x) j b
+-- So may one in front.
+pub set-sets : (w : List ℕ) (i : ℕ) (x : ℕ) (j : ℕ) (b : List ℕ) → i < j → set (sets w j b) i x ≡ sets (set w i x) j b
 set-sets w i x j [] h = refl
 set-sets w i x j (y ∷ b) h = set-sets (set w j y) i x (suc j) b (omega arith) ∙ ap (λ (l : List ℕ). sets l (suc j) b) (set-comm w j i y x (omega arith))
 
@@ -32,6 +33,18 @@ sets-front-append w i j a b e = sets-front w i a j b (omega arith) ∙ ap (λ (k
 pub drop-sets : (w : List ℕ) (i : ℕ) (v : List ℕ) (e : ℕ) → i + length v ≤ e → drop e (sets w i v) ≡ drop e w
 drop-sets w i [] e h = refl
 drop-sets w i (x ∷ v) e h = drop-sets (set w i x) (suc i) v e (omega arith) ∙ drop-set-lt e w i x (omega arith)
+
+pub getD-sets : (w : List ℕ) (i : ℕ) (v : List ℕ) (k : ℕ) → i + length v ≤ k → getD (sets w i v) k 0 ≡ getD w k 0
+getD-sets w i [] k h = refl
+getD-sets w i (x ∷ v) k h = getD-sets (set w i x) (suc i) v k (omega arith) ∙ getD-set-other w i k x 0 (omega arith)
+
+-- What is there already may be stored again.
+pub sets-same : (w : List ℕ) (i n x : ℕ) → ((k : ℕ) → k < n → getD w (i + k) 0 ≡ x) → sets w i (replicate n x) ≡ w
+sets-same w i zero x h = refl
+sets-same w i (suc n) x h =
+    let e : set w i x ≡ w = ap (set w i) (sym (ap (λ (k : ℕ). getD w k 0) (sym (add-zero i)) ∙ h 0 (omega arith))) ∙ set-getD w i 0 in
+    ap (λ (l : List ℕ). sets l (suc i) (replicate n x)) e
+    ∙ sets-same w (suc i) n x (λ k l. ap (λ (j : ℕ). getD w j 0) (omega arith) ∙ h (suc k) (omega arith))
 
 -- A run that grows by one.
 pub sets-more : (w : List ℕ) (m : ℕ) (s : List ℕ) (i : ℕ) → i < length s → set (sets w m (take i s)) (m + i) (getD s i 0) ≡ sets w m (take (i + 1) s)

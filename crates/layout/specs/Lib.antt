@@ -1,0 +1,5 @@
+-- The definitions, in the order in which they are read: where each field lies, then what the entry point answers, then what the
+-- functions inside answer.
+pub mod Layout
+pub mod Answer
+pub mod Placing
