@@ -14,12 +14,12 @@ enum { OUT_ROOM = 1 << 16 };
 const char *const function_names[FUNCTIONS] = {
     "from_str", "from_str_strict", "from_start_of_str", "signature", "equivalent_to", "equivalent_to_box", "eq",
     "reason_len", "reason_all_len", "reason", "reason_all",
-    "equivalent_to_str", "size", "static_encoding_str_len", "static_encoding_str_array",
+    "equivalent_to_str", "size", "layout", "static_encoding_str_len", "static_encoding_str_array",
 };
 
 /* What each refusal carries beside its number. A refusal more is a row here and, below, a bit at each function that
    returns it. */
-enum { NOTHING = 0, PLACE = 1, BYTE = 2, CONTAINER = 4 };
+enum { NOTHING = 0, PLACE = 1, BYTE = 2, CONTAINER = 4, NODE = 8 };
 
 static const uint8_t carried[NUMBERS] = {
     [BERZHOTUN_TEXT_TOO_LONG] = NOTHING,
@@ -42,6 +42,7 @@ static const uint8_t carried[NUMBERS] = {
     [BERZHOTUN_EMPTY_SIGNATURE] = NOTHING,
     [BERZHOTUN_SURPLUS_ZERO] = PLACE,
     [BERZHOTUN_NO_SUCH_ROW] = NOTHING,
+    [BERZHOTUN_BIT_FIELD_IN_LAYOUT] = NODE,
 };
 
 /* The numbers that each function may return, a bit each. */
@@ -59,14 +60,15 @@ static const uint64_t returned[FUNCTIONS] = {
     [REASON_ALL] = 0x39,         /* 0, 3, 4, 5 */
     [MATCHES] = 0x1b,            /* 0, 1, 3, 4 */
     [SIZE] = 0x100059,           /* 0, 3, 4, 6, 20 */
+    [LAYOUT] = 0x30005d,         /* 0, 2, 3, 4, 6, 20, 21 */
     [LENGTH] = 0x19,             /* 0, 3, 4 */
     [PRINT] = 0x39,              /* 0, 3, 4, 5 */
 };
 
 uint64_t counts[FUNCTIONS][NUMBERS], yeses[FUNCTIONS];
 
-static struct room text_room, words_room[2], names_room[2], read_words_room, read_names_room, list_room, out_room,
-    answer_room;
+static struct room text_room, words_room[2], names_room[2], read_words_room, read_names_room, list_room, offsets_room,
+    out_room, answer_room;
 
 /* The lists as they are lent. */
 static const uint8_t *text, *names[2];
@@ -90,7 +92,7 @@ static void show_sheet(int which) {
 void fail(const char *what) {
     size_t i;
     printf("%s: %s\n", function_names[running], what);
-    if (running == SIZE) {
+    if (running == SIZE || running == LAYOUT) {
         printf(" %" PRIu64, running_row);
     }
     if (running <= SIGNATURE || running == MATCHES) {
@@ -133,6 +135,7 @@ void calls_begin(void) {
     read_words_room = room_to_write((BERZHOTUN_WORDS_FOR(TEXT_ROOM) + 4) * sizeof(uint64_t));
     read_names_room = room_to_write(TEXT_ROOM + 4);
     list_room = room_to_write((BERZHOTUN_SIGNATURE_FOR(TEXT_ROOM) + 4) * sizeof(uint64_t));
+    offsets_room = room_to_write((BERZHOTUN_MAX_NODES + 8) * sizeof(uint64_t));
     out_room = room_to_write(OUT_ROOM);
     answer_room = room_to_write(4 * sizeof(uint64_t));
 }
@@ -432,6 +435,16 @@ uint64_t call_matches(uint64_t *answer) {
     return refusal;
 }
 
+static void check_row(uint64_t row, uint64_t refusal) {
+    if (row > BERZHOTUN_ROW_GUIDE && refusal != BERZHOTUN_NO_SUCH_ROW && refusal != BERZHOTUN_BAD_SHEET &&
+        refusal != BERZHOTUN_BAD_NAME) {
+        fail("took a row that is none");
+    }
+    if (row <= BERZHOTUN_ROW_GUIDE && refusal == BERZHOTUN_NO_SUCH_ROW) {
+        fail("refused a row");
+    }
+}
+
 uint64_t call_size(uint64_t row, struct size *size) {
     uint64_t *lent = lend_marked(&answer_room, 2 * sizeof(uint64_t));
     uint64_t refusal;
@@ -442,17 +455,85 @@ uint64_t call_size(uint64_t row, struct size *size) {
     if (lent[0] == 0 && lent[1] != 0) {
         fail("gave bytes of what has no size");
     }
-    if (row > BERZHOTUN_ROW_GUIDE && (refusal == 0 || refusal == BERZHOTUN_SIZE_TOO_LARGE)) {
-        fail("took a row that is none");
-    }
-    if (row <= BERZHOTUN_ROW_GUIDE && refusal == BERZHOTUN_NO_SUCH_ROW) {
-        fail("refused a row");
-    }
+    check_row(row, refusal);
     if (row == BERZHOTUN_ROW_ARM32 && lent[1] > UINT32_MAX) {
         fail("gave a size that the row does not have");
     }
     size->is_there = refusal == BERZHOTUN_SIZE_TOO_LARGE || lent[0] == 1;
     size->bytes = refusal == BERZHOTUN_SIZE_TOO_LARGE ? UINT64_MAX : lent[1];
+    return refusal;
+}
+
+size_t first_nodes(void) {
+    return words_length[0] > 0 && words[0][0] <= BERZHOTUN_MAX_NODES ? words[0][0] : BERZHOTUN_MAX_NODES;
+}
+
+static uint64_t node_word(uint64_t node, size_t word) {
+    return words[0][4 + 4 * node + word];
+}
+
+/* What the nodes right below `node`, behind a pointer all below it, have: fields of a struct do not go back, members of a union
+   and all that is no field have 0. */
+static void check_offsets_below(const uint64_t *offsets, uint64_t node, uint64_t limit) {
+    uint64_t kind = node_word(node, 0), end = node + node_word(node, 3), child, before = 0;
+    for (child = node + 1; child < end; child += kind == BERZHOTUN_POINTER ? 1 : node_word(child, 3)) {
+        if (kind == BERZHOTUN_STRUCT ? offsets[child] < before || offsets[child] > limit : offsets[child] != 0) {
+            fail("gave an offset that no field has");
+        }
+        before = offsets[child];
+    }
+}
+
+/* A loop, so that the stack that is measured is the library's. */
+static void check_offsets(const uint64_t *offsets, uint64_t limit) {
+    uint64_t node = 0;
+    while (node < words[0][0]) {
+        check_offsets_below(offsets, node, limit);
+        node += node_word(node, 0) == BERZHOTUN_POINTER ? node_word(node, 3) : 1;
+    }
+}
+
+/* The answer of a layout: 1 with a size that is a multiple of the alignment, 0 0 0, or the node of a bitfield. */
+static void check_layout(uint64_t row, uint64_t refusal, const uint64_t *answer, const uint64_t *offsets) {
+    uint64_t limit = row == BERZHOTUN_ROW_ARM32 ? UINT32_MAX : UINT64_MAX;
+    int is_there = refusal == 0 && answer[0] == 1;
+    if (carried[refusal] & NODE) {
+        uint64_t kind = answer[0] < words[0][0] ? node_word(answer[0], 0) : BERZHOTUN_NONE;
+        if ((kind != BERZHOTUN_BITFIELD && kind != BERZHOTUN_BITFIELD_WITH_TYPE) || answer[1] != 0 || answer[2] != 0) {
+            fail("refused a bitfield that is none");
+        }
+        return;
+    }
+    check_yes_or_no(refusal, answer[0]);
+    if (!is_there) {
+        if (answer[1] != 0 || answer[2] != 0) {
+            fail("gave bytes of what has no layout");
+        }
+        return;
+    }
+    if (answer[2] == 0 || answer[2] > 16 || (answer[2] & (answer[2] - 1)) != 0 || answer[1] % answer[2] != 0 ||
+        answer[1] > limit || offsets[0] != 0) {
+        fail("gave a size and an alignment that do not go together");
+    }
+    check_offsets(offsets, limit);
+}
+
+uint64_t call_layout(uint64_t row, size_t room, struct size *padded) {
+    uint64_t *offsets = lend_marked(&offsets_room, room * sizeof(uint64_t));
+    uint64_t *lent = lend_marked(&answer_room, 3 * sizeof(uint64_t));
+    uint64_t refusal;
+    size_t written;
+    running = LAYOUT;
+    running_row = row;
+    refusal = ends(berzhotun_layout(words[0], words_length[0], names[0], names_length[0], row, offsets, room, lent));
+    written = refusal == 0 && lent[0] == 1 ? words[0][0] : 0;
+    check_row(row, refusal);
+    if (written > room || !all_are(offsets, written * sizeof(uint64_t), room * sizeof(uint64_t), MARK)) {
+        fail("wrote beyond its part of a list");
+    }
+    check_layout(row, refusal, lent, offsets);
+    padded->is_there = refusal == BERZHOTUN_SIZE_TOO_LARGE || written > 0;
+    padded->bytes = refusal == BERZHOTUN_SIZE_TOO_LARGE ? UINT64_MAX : written > 0 ? lent[1] : 0;
     return refusal;
 }
 

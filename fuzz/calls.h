@@ -1,4 +1,4 @@
-/* The fifteen functions, each called in guarded memory and held to its contract. */
+/* The sixteen functions, each called in guarded memory and held to its contract. */
 #ifndef CALLS_H
 #define CALLS_H
 
@@ -7,7 +7,7 @@
 /* Those up to SIGNATURE take a text alone, those from there up to REASON_ALL two sheets, the others a sheet first. */
 enum function {
     FROM_STR, FROM_STRICT, FROM_START, SIGNATURE, EQUIVALENT, EQUIVALENT_BOX, EQ, REASON_LENGTH, REASON_ALL_LENGTH, REASON,
-    REASON_ALL, MATCHES, SIZE, LENGTH, PRINT, FUNCTIONS
+    REASON_ALL, MATCHES, SIZE, LAYOUT, LENGTH, PRINT, FUNCTIONS
 };
 
 extern const char *const function_names[FUNCTIONS];
@@ -49,6 +49,12 @@ struct size {
     uint64_t bytes;
 };
 uint64_t call_size(uint64_t row, struct size *size);
+
+/* A layout in a list of `room` numbers. Whether there is one, and its bytes, as of a size; too large also by an offset. */
+uint64_t call_layout(uint64_t row, size_t room, struct size *padded);
+
+/* How many nodes the first sheet says that it has, as far as a sheet can have them. */
+size_t first_nodes(void);
 
 /* Whether the first sheet, which was accepted, has a node of that kind. */
 int first_has(uint64_t kind);

@@ -1,5 +1,5 @@
 /*
- * The deepest trees, texts and signatures through all fifteen functions, each call on a stack of its own with a page below it
+ * The deepest trees, texts and signatures through all sixteen functions, each call on a stack of its own with a page below it
  * that may not be touched. Prints the most stack that each function took.
  *
  *     deep [KIBIBYTES]    512 unless said otherwise
@@ -47,6 +47,8 @@ static uint64_t call(enum function function) {
         return call_matches(&answer);
     case SIZE:
         return call_size(row, &size);
+    case LAYOUT:
+        return call_layout(row, BERZHOTUN_MAX_NODES, &size);
     case LENGTH:
         return call_length(&answer);
     default:
@@ -140,6 +142,23 @@ static void run_pair(size_t at) {
     }
 }
 
+/* As it is, and with an int as its last node: None there has no layout. Bitfields are refused. */
+static void run_layouts(void) {
+    int with_int;
+    other = tree;
+    other.words[4 * BERZHOTUN_MAX_NODES] = BERZHOTUN_INT;
+    for (with_int = 0; with_int < 2; with_int++) {
+        lend_sheet(0, with_int ? &other : &tree);
+        for (row = 0; row <= BERZHOTUN_ROW_GUIDE; row++) {
+            uint64_t refusal = call_on_stack(LAYOUT);
+            if (refusal != 0 && refusal != BERZHOTUN_BIT_FIELD_IN_LAYOUT) {
+                fail("refused to lay out a deep tree");
+            }
+        }
+    }
+    lend_sheet(0, &tree);
+}
+
 /* Every function that takes trees, of two with another last node, and against as much of its print as a text can have. */
 static void run_tree(void) {
     static const enum function functions[] = {LENGTH, PRINT, MATCHES};
@@ -151,6 +170,7 @@ static void run_tree(void) {
             fail("refused to measure a deep tree");
         }
     }
+    run_layouts();
     for (i = 0; i < sizeof functions / sizeof functions[0]; i++) {
         if (functions[i] == MATCHES) {
             if (print.length > BERZHOTUN_MAX_TEXT) {

@@ -1,5 +1,5 @@
 /*
- * Random bytes, texts and sheets through all fifteen functions. The memory behind and before each lent list may not
+ * Random bytes, texts and sheets through all sixteen functions. The memory behind and before each lent list may not
  * be touched, lists that are only to be read cannot be written, and what each call wrote is looked at.
  *
  *     fuzz COUNT [SEED]    at least COUNT calls
@@ -158,6 +158,26 @@ static void measure_first(void) {
     }
 }
 
+/* Refused as the size in that row is, then by a list that is too short; a layout has at least the bytes of the size. */
+static void lay_first_out(void) {
+    struct size size, padded;
+    uint64_t row = random_row(), refusal = call_size(row, &size), there;
+    size_t nodes = first_nodes(), room = length_around(nodes);
+    there = call_layout(row, room, &padded);
+    if (refusal != 0 && refusal != BERZHOTUN_SIZE_TOO_LARGE) {
+        if (there != refusal) {
+            fail("does not go with the size");
+        }
+        return;
+    }
+    if ((there == BERZHOTUN_LIST_TOO_SHORT) != (room < nodes)) {
+        fail("did not refuse by the length");
+    }
+    if (padded.is_there && (!size.is_there || padded.bytes < size.bytes)) {
+        fail("has less than the size without padding");
+    }
+}
+
 static void print_first(void) {
     uint64_t length, refusal = call_length(&length), printed;
     size_t room = length + random_below(3);
@@ -212,6 +232,7 @@ static void round_of_calls(void) {
     read_input();
     lend_two();
     measure_first();
+    lay_first_out();
     print_first();
     compare_both();
     if (print.length > 0 && random_below(2) == 0) {

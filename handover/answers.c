@@ -20,7 +20,7 @@ struct tree {
 
 static struct tree first, second;
 static struct text text;
-static uint64_t values[3], list[BERZHOTUN_MAX_SIGNATURE];
+static uint64_t values[3], list[BERZHOTUN_MAX_SIGNATURE], offsets[BERZHOTUN_MAX_NODES];
 static uint8_t out[BERZHOTUN_MAX_PRINT];
 
 static void bad(const char *what) {
@@ -175,6 +175,26 @@ static void size_question(const char *row, char *argument) {
     }
 }
 
+static void layout_question(const char *row, char *argument) {
+    uint64_t refusal = load_tree(argument, &first), i;
+    if (refusal != 0) {
+        say_refusal("unread", refusal);
+        return;
+    }
+    refusal = berzhotun_layout(LENT(first), strtoull(row, NULL, 10), offsets, BERZHOTUN_MAX_NODES, values);
+    if (refusal != 0) {
+        say_refusal("no", refusal);
+    } else if (values[0] == 0) {
+        printf("none\n");
+    } else {
+        printf("ok %" PRIu64 " %" PRIu64 " ", values[1], values[2]);
+        for (i = 0; i < first.words[0]; i++) {
+            printf(i == 0 ? "%" PRIu64 : ",%" PRIu64, offsets[i]);
+        }
+        printf("\n");
+    }
+}
+
 static void tree_question(const char *question) {
     uint64_t refusal;
     if (strcmp(question, "size") == 0) {
@@ -211,6 +231,8 @@ static void answer(char *line) {
         signature_question(one);
     } else if (strcmp(question, "size-in") == 0) {
         size_question(one, two);
+    } else if (strcmp(question, "layout") == 0) {
+        layout_question(one, two);
     } else if ((refusal = load_tree(one, &first)) != 0) {
         say_refusal("unread", refusal);
     } else if (strcmp(question, "text") == 0) {

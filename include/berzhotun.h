@@ -1,5 +1,5 @@
 /*
- * Berzhotun: Objective-C type encodings read, compared, measured and printed.
+ * Berzhotun: Objective-C type encodings read, compared, measured, laid out and printed.
  *
  * A proved port of the core of the Rust crate objc2-encode 4.1.0. `rt staticlib berzhotun`, at the
  * repository's root, proves it and writes target/staticlib/libberzhotun.a, for x86-64 Linux;
@@ -34,16 +34,17 @@
  *
  *     4 4 1 20,  29 0 1 4,  2 0 0 1,  26 0 0 2,  17 0 0 1
  *
- * LEVELS. Printing, measuring and comparing start at the top level. A pointer leads from top to
- * within, and otherwise to bottom. An atomic leads to bottom. Arrays and bitfields keep the level.
- * The fields of a struct or union are within. At bottom a struct or union has only its kind and
- * name: its fields are neither printed nor compared, and its size is not known.
+ * LEVELS. Printing, measuring, laying out and comparing start at the top level. A pointer leads
+ * from top to within, and otherwise to bottom. An atomic leads to bottom. Arrays and bitfields keep
+ * the level. The fields of a struct or union are within. At bottom a struct or union has only its
+ * kind and name: its fields are neither printed nor compared, and its size is not known.
  *
  * WHAT THE CALLER MUST RESPECT. Nothing in C can test it, and the proof takes it as given:
  *  - each pointer is valid for the length that goes with it (or for the count in brackets), aligned
  *    for its type, and not NULL, even where the length is 0;
- *  - a list that is written (words, names, list and values of a reading, out, answer) overlaps no
- *    other list of the same call. Lists that are only read may: a tree can be compared with itself;
+ *  - a list that is written (words, names, list and values of a reading, out, offsets, answer)
+ *    overlaps no other list of the same call. Lists that are only read may: a tree can be compared
+ *    with itself;
  *  - no other thread writes to a lent list during the call, nor reads one that is written. Beyond
  *    that any number of threads may call: the functions keep nothing from call to call;
  *  - 512 KiB of stack are free. The functions call themselves once for each level of nesting, of
@@ -116,18 +117,19 @@ extern "C" {
 #define BERZHOTUN_UNION 30u               /* (Name=ii), or (Name) */
 #define BERZHOTUN_NONE 31u                /* no type at all: no byte */
 
-/* The rows of sizes: the widths that a type is measured with. Other numbers are refused, by 20. */
+/* The rows of sizes: the widths that a type is measured and laid out with. Other numbers are refused,
+   by 20. */
 #define BERZHOTUN_ROW_APPLE_ARM64 0u /* 64-bit Apple ARM, as the Rust crate measures there */
 #define BERZHOTUN_ROW_X86_64 1u      /* x86_64, as Intel Macs: long double is wider */
 #define BERZHOTUN_ROW_ARM32 2u       /* 32-bit ARM: long, unsigned long and pointers are narrower */
 #define BERZHOTUN_ROW_GUIDE 3u       /* row 0 after Apple's guide: long is narrower */
 
-/* The refusals. Those up to 6, 18 and 20 carry only their number; the others also a place, which is
-   named. */
+/* The refusals. Those up to 6, 18 and 20 carry only their number; 21 also a node's number; the
+   others also a place, which is named. */
 
 /* The text has more than 2,000 bytes. */
 #define BERZHOTUN_TEXT_TOO_LONG 1u
-/* A lent list is shorter than reading needs. */
+/* A lent list is shorter than reading needs, or a list of offsets than the count of nodes. */
 #define BERZHOTUN_LIST_TOO_SHORT 2u
 /* The lists are no sheet as laid out above, or are shorter than its first four words say. */
 #define BERZHOTUN_BAD_SHEET 3u
@@ -135,7 +137,7 @@ extern "C" {
 #define BERZHOTUN_BAD_NAME 4u
 /* The output is shorter than the printed length, or than the reason for a no. */
 #define BERZHOTUN_OUTPUT_TOO_SHORT 5u
-/* The size is above 2^64 - 1, or for 32-bit ARM above 2^32 - 1. */
+/* The size, or in a layout an offset, is above 2^64 - 1, or for 32-bit ARM above 2^32 - 1. */
 #define BERZHOTUN_SIZE_TOO_LARGE 6u
 /* A needed byte is missing after `j`, `b`, `[` or inside quotes. Place: the text's end. */
 #define BERZHOTUN_UNEXPECTED_END 7u
@@ -167,6 +169,8 @@ extern "C" {
 #define BERZHOTUN_SURPLUS_ZERO 19u
 /* The number of the row of sizes is above 3. */
 #define BERZHOTUN_NO_SUCH_ROW 20u
+/* A bitfield is to be laid out. Node: the lowest number of such a node, from 0 for the root. */
+#define BERZHOTUN_BIT_FIELD_IN_LAYOUT 21u
 
 /*
  * Reads the whole text as one type. Leading bytes among r n N o O R V (const, in, inout and so on)
@@ -405,6 +409,49 @@ uint64_t berzhotun_equivalent_to_str(const uint64_t *words, size_t words_len, co
  */
 uint64_t berzhotun_size(const uint64_t *words, size_t words_len, const uint8_t *names,
                         size_t names_len, uint64_t row, uint64_t answer[2]);
+
+/*
+ * Lays a tree out in memory, with padding, with the widths of the row that is named (see
+ * berzhotun_size): where each field lies, and how many bytes and which alignment the whole has.
+ *
+ * A primitive's or pointer's alignment is its size in the row, a complex number's that of its part;
+ * an array or atomic has that of what it holds. A struct's fields follow each other, each at the
+ * next multiple of its alignment; a union's members all begin at 0. The alignment of a struct or
+ * union is the largest of its fields', 1 for an empty struct, and its size is rounded up to it.
+ * Laid out are the nodes that levels show and that are not behind a pointer, the root among them.
+ *
+ * The offsets are one number for each node of the sheet, in the order of its nodes: of a laid-out
+ * field its offset from the start of its own struct or union, of every other node 0. So the root
+ * has 0, and so have an array's item and all that is behind a pointer. BERZHOTUN_MAX_NODES numbers
+ * are enough for every sheet.
+ *
+ * This is how clang lays out records without bitfields: row 0 for arm64 Macs, row 1 for x86_64 Macs,
+ * row 2 for watchOS on armv7k. It does otherwise for iOS on armv7, where types of 8 bytes stand at
+ * multiples of 4, and for atomic complex numbers of up to 16 bytes (armv7k: 8), which it aligns to
+ * their whole size. What a text does not tell is not known: packed or further aligned records, and
+ * fields that are vectors.
+ *
+ * Reads   the sheet as far as its first four words say.
+ * Writes  answer[0 .. 3]; and, where answer[0] is 1, the first words[0] numbers of offsets. What
+ *         lies beyond is left as it was.
+ * 0       answer is 1, the padded size and the alignment; or 0 0 0, with offsets as they were, where
+ *         a laid-out node has no size: void, Unknown, None, an empty union, a container at bottom,
+ *         also as a member of a union or as the item of an array of length 0.
+ * Refuses 3 if the lists are no sheet, then 4 if a name is bad, then 20 if row is above 3, then 2 if
+ *         offsets_len is below the count of nodes, then 21 if a bitfield is laid out: answer is then
+ *         the lowest number of such a node, 0 and 0. Then, if every laid-out node has a size, 6 if
+ *         the padded size of the whole or any offset is above 2^64 - 1, in row 2 above 2^32 - 1 (0
+ *         times too large is 0). Except by 21 answer is 0 0 0; offsets are left as they were.
+ *
+ * So of `{R=ci^v}` the offsets are 0 0 4 8 0, with size 16 and alignment 8; in row 2 the size is 12
+ * and the alignment 4. `[2{R=ic}]` has 16 bytes, and its offsets are 0 0 0 4. `(U=vi)` has no layout,
+ * though berzhotun_size has 4 bytes for it. `[0b3]` is refused by 21 with node 1, and `{R=^b3}` is
+ * not: the bitfield is behind a pointer. `[0{R=[18446744073709551615q]i}]` is refused by 6, for the
+ * offset of `i`; without that field it has 0 bytes.
+ */
+uint64_t berzhotun_layout(const uint64_t *words, size_t words_len, const uint8_t *names,
+                          size_t names_len, uint64_t row, uint64_t *offsets, size_t offsets_len,
+                          uint64_t answer[3]);
 
 /*
  * Counts the bytes that berzhotun_static_encoding_str_array would write.

@@ -9,6 +9,7 @@ use crate::ask;
 use crate::helper::NestingLevel;
 use crate::library::{self, Sheet};
 use crate::parse::Parser;
+use crate::plain_layout;
 use crate::reason::Finder;
 use crate::sheet::{DOUBLE, INT, STRUCT, UNION};
 use crate::static_str::static_encoding_str_array;
@@ -30,6 +31,10 @@ pub fn run() -> bool {
         bench_reading(&name, &text);
         bench_matching(&name, &tree);
     }
+    for (name, text) in laid_out() {
+        let tree = Tree::from_box(&ask::read(&text).expect("a text that reads"));
+        bench_layout(&format!("{name}: {} bytes, {} nodes", text.len(), tree.nodes.len()), &tree);
+    }
     for (name, text) in signatures() {
         bench_signature(name, &text);
     }
@@ -47,6 +52,42 @@ fn shapes() -> Vec<(&'static str, String)> {
         ("pointers", format!("{}i", "^".repeat(1000))),
         ("nested records", format!("{}i{}", "{R=".repeat(499), "}".repeat(499))),
     ]
+}
+
+/// Trees that have a layout: without bitfields, and of several counts of nodes.
+fn laid_out() -> Vec<(&'static str, String)> {
+    vec![
+        ("a code", "i".to_string()),
+        ("a point", "{Point=dd}".to_string()),
+        ("a laid-out record", LAID_OUT_RECORD.to_string()),
+        ("a laid-out record", long_laid_out(100)),
+        ("a laid-out record", long_laid_out(400)),
+        ("a long laid-out record", long_laid_out(2000)),
+        ("codes only", format!("{{R={}}}", "i".repeat(1996))),
+        ("codes in turn", format!("{{R={}}}", "cqsiBd".repeat(332))),
+        ("unions", format!("{{R={}}}", "(U=ic)".repeat(332))),
+        ("arrays", format!("{{R={}}}", "[4s][2q]".repeat(249))),
+        ("pointers", format!("{}i", "^".repeat(1000))),
+        ("nested records", format!("{}i{}", "{R=".repeat(499), "}".repeat(499))),
+        ("nested arrays", format!("{}i{}", "[1".repeat(666), "]".repeat(666))),
+        ("a record with a bitfield", RECORD.to_string()),
+        ("a long record with a void", format!("{{R={}v}}", "ci".repeat(997))),
+    ]
+}
+
+const LAID_OUT_RECORD: &str = "{Rate=i^v{Point=dd}[4c]@\"NSDate\"^{Band=s}(U=if)c*:#Bq^^{Q}}";
+
+/// A record of exactly so many bytes that has a layout, of the same mixture at every length.
+fn long_laid_out(length: usize) -> String {
+    let mut text = "{R=".to_string();
+    for field in ["i", "^v", "[4c]", "@", "s", "{P=dd}", "*", "^{B}", "(U=if)", "Aq", ":"].iter().cycle() {
+        if text.len() + field.len() >= length {
+            break;
+        }
+        text += field;
+    }
+    let left = length - 1 - text.len();
+    text + &"i".repeat(left) + "}"
 }
 
 const RECORD: &str = "{Rate=i^v{Point=dd}[4c]@\"NSDate\"^{Band=s}(U=if)b3*:#Bq^^{Q}}";
@@ -134,6 +175,20 @@ fn bench_tree(name: &str, tree: &Tree) {
     });
     let theirs = || black_box(a) == black_box(&boxed);
     line(name, "==", theirs, || library::eq(black_box(sheet), black_box(sheet)).0);
+}
+
+/// The crate has no layouts: a plain pass over its trees stands on its side.
+fn bench_layout(name: &str, tree: &Tree) {
+    let boxed = tree.to_box();
+    let words = tree.words();
+    let sheet = Sheet { words: &words, names: &tree.names };
+    let mut pushed = Vec::with_capacity(tree.nodes.len());
+    let mut offsets = vec![0; tree.nodes.len()];
+    for (row, what) in [(0, "layout"), (2, "layout, row 2")] {
+        let theirs = || plain_layout::layout(black_box(&boxed), black_box(row), &mut pushed).is_ok();
+        let ours = || library::layout(black_box(sheet), black_box(row as u64), &mut offsets, tree.nodes.len()).0;
+        line(name, what, theirs, ours);
+    }
 }
 
 /// The tree against one with another last node, so that all nodes are compared. The crate has no reasons: a

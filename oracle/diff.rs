@@ -15,6 +15,8 @@
 //!     diff number-reasons SEED COUNT  numbers of every count of digits: the reason for a no
 //!     diff short-rows LENGTH    every readable text up to that length: sizes in every row
 //!     diff rows SEED COUNT      trees with sizes about the limits of the rows: sizes in every row
+//!     diff short-layouts LENGTH  every readable text up to that length: layouts in every row
+//!     diff layouts SEED COUNT   trees with sizes and offsets about the limits of the rows: layouts in every row
 //!     diff all SEED COUNT       each of these, with lengths 3 to 5
 //!     diff stack KIBIBYTES      the deepest trees, texts and signatures on a stack of that size
 //!     diff bench                times, as ratios to the crate's
@@ -24,7 +26,7 @@
 use crate::report::run as run_all;
 use crate::{bench, stack};
 use crate::{
-    run_reads, run_reasons, run_rows, run_sheets, run_signatures, run_strict, run_texts, run_trees,
+    run_layouts, run_reads, run_reasons, run_rows, run_sheets, run_signatures, run_strict, run_texts, run_trees,
 };
 
 pub fn run() -> i32 {
@@ -48,12 +50,15 @@ pub fn run() -> i32 {
         (Some("number-reasons"), Some(&[seed, count])) => number_reasons(seed, count),
         (Some("short-rows"), Some(&[length])) => short_rows(length as usize),
         (Some("rows"), Some(&[seed, count])) => rows(seed, count),
+        (Some("short-layouts"), Some(&[length])) => short_layouts(length as usize),
+        (Some("layouts"), Some(&[seed, count])) => layouts(seed, count),
         (Some("stack"), Some(&[kibibytes])) => stack::run(kibibytes as usize),
         (Some("bench"), Some(&[])) => bench::run(),
         _ => {
             eprintln!("usage: diff trees|sheets|reads|texts|signatures|strict SEED COUNT");
-            eprintln!("       diff reasons|number-reasons|rows|all SEED COUNT");
-            eprintln!("       diff short|match|short-signatures|short-strict|short-reasons|short-rows LENGTH");
+            eprintln!("       diff reasons|number-reasons|rows|layouts|all SEED COUNT");
+            eprintln!("       diff short|match|short-signatures|short-strict|short-reasons LENGTH");
+            eprintln!("       diff short-rows|short-layouts LENGTH");
             eprintln!("       diff stack KIBIBYTES, diff bench");
             return 2;
         }
@@ -78,6 +83,8 @@ fn all(seed: u64, count: u64) -> bool {
     same &= number_reasons(seed, count);
     same &= short_rows(5);
     same &= rows(seed, count);
+    same &= short_layouts(5);
+    same &= layouts(seed, count);
     same
 }
 
@@ -155,4 +162,14 @@ fn short_rows(length: usize) -> bool {
 fn rows(seed: u64, count: u64) -> bool {
     let mut check = run_rows::Check::default();
     run_all("rows", run_rows::inputs(seed, count), |case, tally| check.case(case, tally))
+}
+
+fn short_layouts(length: usize) -> bool {
+    let mut check = run_layouts::Check::new();
+    run_all("short-layouts", run_layouts::short_inputs(length), |case, tally| check.case(case, tally))
+}
+
+fn layouts(seed: u64, count: u64) -> bool {
+    let mut check = run_layouts::Check::new();
+    run_all("layouts", run_layouts::inputs(seed, count), |case, tally| check.case(case, tally))
 }

@@ -35,7 +35,7 @@ fn renumbered(random: &mut Random) -> Tree {
 }
 
 /// A tree of up to so many levels, of every kind.
-fn mixed(random: &mut Random, depth: usize) -> Tree {
+pub fn mixed(random: &mut Random, depth: usize) -> Tree {
     if depth == 0 {
         return leaf(random);
     }
@@ -149,7 +149,7 @@ fn leaf(random: &mut Random) -> Tree {
 }
 
 /// Mostly one that the rows differ in.
-fn code(random: &mut Random) -> u64 {
+pub fn code(random: &mut Random) -> u64 {
     if random.percent(30) {
         random.below(24) as u64
     } else {
@@ -158,7 +158,7 @@ fn code(random: &mut Random) -> u64 {
 }
 
 /// About 0, the limits, and what makes them when it is multiplied by a size.
-fn number(random: &mut Random) -> u64 {
+pub fn number(random: &mut Random) -> u64 {
     const MIDDLES: [u64; 20] = [
         0, 0, 0, 1, 1, 2, 3, 16, 1 << 16, 1 << 28, 1 << 29, 1 << 30, 1 << 32, 1 << 32, 1 << 59, 1 << 60,
         1 << 61, 1 << 62, 1 << 62, u64::MAX,
@@ -171,7 +171,7 @@ fn number(random: &mut Random) -> u64 {
     }
 }
 
-fn one(kind: u64) -> Tree {
+pub fn one(kind: u64) -> Tree {
     numbered(kind, 0, 0)
 }
 
@@ -179,13 +179,13 @@ fn numbered(kind: u64, first: u64, second: u64) -> Tree {
     Tree { nodes: vec![Node { kind, first, second, count: 1 }], names: Vec::new() }
 }
 
-fn holder(kind: u64, first: u64, second: u64, held: &Tree) -> Tree {
+pub fn holder(kind: u64, first: u64, second: u64, held: &Tree) -> Tree {
     let mut tree = numbered(kind, first, second);
     with_children(&mut tree, std::slice::from_ref(held));
     tree
 }
 
-fn container(random: &mut Random, kind: u64, fields: &[Tree]) -> Tree {
+pub fn container(random: &mut Random, kind: u64, fields: &[Tree]) -> Tree {
     let name = random.pick(&[&b"R"[..], b"?", b"Rate"]);
     let mut tree = numbered(kind, 0, name.len() as u64);
     tree.names.extend_from_slice(name);

@@ -113,6 +113,16 @@ mod exported {
             row: u64,
             answer: *mut u64,
         ) -> u64;
+        pub fn berzhotun_layout(
+            words: *const u64,
+            words_len: usize,
+            names: *const u8,
+            names_len: usize,
+            row: u64,
+            offsets: *mut u64,
+            offsets_len: usize,
+            answer: *mut u64,
+        ) -> u64;
         pub fn berzhotun_static_encoding_str_len(
             words: *const u64,
             words_len: usize,
@@ -282,6 +292,27 @@ pub fn size(sheet: Sheet, row: u64) -> Reply {
             names.as_ptr(),
             names.len(),
             row,
+            answers.as_mut_ptr(),
+        )
+    };
+    (refusal, answers)
+}
+
+/// Lends the first `lent` numbers of `offsets`.
+pub fn layout(sheet: Sheet, row: u64, offsets: &mut [u64], lent: usize) -> Reply {
+    let mut answers = [MARK; 4];
+    let Sheet { words, names } = sheet;
+    let lent = &mut offsets[..lent];
+    // SAFETY: as in `pair`.
+    let refusal = unsafe {
+        exported::berzhotun_layout(
+            words.as_ptr(),
+            words.len(),
+            names.as_ptr(),
+            names.len(),
+            row,
+            lent.as_mut_ptr(),
+            lent.len(),
             answers.as_mut_ptr(),
         )
     };

@@ -20,24 +20,27 @@
 //!     text TREE TEXT               yes | no                  (equivalent_to_str)
 //!     size TREE                    bytes N | none | outside  (document 01's target)
 //!     size-in ROW TREE             bytes N | none | no NUMBER 0 0 0  (requests N5 and N6, by its row number)
+//!     layout ROW TREE              ok BYTES ALIGNMENT N,N,... | none | no NUMBER PLACE 0 0  (request N7)
 //!     size-host TREE               bytes N | none            (as the crate answers on this machine)
 //!     length TREE                  N                         (static_encoding_str_len)
 //!     print TREE                   t:HEX                     (static_encoding_str_array)
 //!
-//! NUMBER is the refusal of document 01, or of request N1, N3 or N5; PLACE, BYTE and KIND (29 struct, 30
-//! union) are 0 where it carries none. PLACE after `ok` is where the rest begins. HEX after `no` is
-//! the reason's bytes. A sheet in an answer has the words and name bytes that are used and no more.
+//! NUMBER is the refusal of document 01, or of request N1, N3, N5 or N7; PLACE (for 21 a node's number), BYTE
+//! and KIND (29 struct, 30 union) are 0 where it carries none. PLACE after `ok` is where the rest begins. HEX
+//! after `no` is the reason's bytes. A sheet in an answer has the words and name bytes that are used and no more.
 //! Other answers to any question:
 //!
 //!     unread NUMBER PLACE BYTE KIND    a text given as a tree could not be read
 //!     panic                            the crate panicked (a bad name that it came to)
-//!     bad sheet | bad utf8 | bad line  the question is not one for the crate (`size-in`: no 3 for a bad sheet)
+//!     bad sheet | bad utf8 | bad line  the question is not one for the crate (`size-in` and `layout`: no 3 for a
+//!                                      bad sheet)
 
 use std::fmt::Write as _;
 use std::io::{BufRead, BufReader, BufWriter, Write};
 use std::panic::{catch_unwind, set_hook, AssertUnwindSafe};
 
 use crate::ask::{self, Refusal};
+use crate::layout;
 use crate::reason::Finder;
 use crate::rows::Answer;
 use crate::sheet::{is_container, names_are_good, BAD_LAYOUT, BAD_NAME};
@@ -47,7 +50,7 @@ use crate::EncodingBox;
 /// Above this many steps printing into an array takes seconds; Display's text stands in.
 const MOST_STEPS: u64 = 200_000_000;
 
-/// The answer for words and name bytes that are no sheet, except that sizes by rows have a refusal for it.
+/// The answer for words and name bytes that are no sheet, except that sizes by rows and layouts have a refusal for it.
 const BAD_SHEET: &str = "bad sheet";
 
 pub fn run() -> i32 {
@@ -99,6 +102,7 @@ fn ask(line: &str) -> Result<String, String> {
         ("text", [tree, text]) => Ok(against_text(&tree_of(tree)?, &text_of(text)?)),
         ("size", [tree]) => Ok(size(&tree_of(tree)?)),
         ("size-in", [row, tree]) => size_in(tree_of(tree), row.parse().map_err(|_| bad_line())?),
+        ("layout", [row, tree]) => layout_in(tree_of(tree), row.parse().map_err(|_| bad_line())?),
         ("size-host", [tree]) => Ok(size_here(&tree_of(tree)?)),
         ("length", [tree]) => Ok(length(&tree_of(tree)?)),
         ("print", [tree]) => Ok(print(&tree_of(tree)?)),
@@ -164,19 +168,42 @@ fn size(tree: &Tree) -> String {
     }
 }
 
-/// A sheet that is none goes before the row's number, and so does a bad name, also where the crate would not
-/// come to it.
 fn size_in(tree: Result<Tree, String>, row: u64) -> Result<String, String> {
-    let answer = match tree {
-        Err(why) if why == BAD_SHEET => Answer::Refused(BAD_LAYOUT),
-        Err(why) => return Err(why),
-        Ok(tree) if !names_are_good(&tree.words(), &tree.names) => Answer::Refused(BAD_NAME),
+    let answer = match sheet_or_refusal(tree)? {
+        Err(number) => Answer::Refused(number),
         Ok(tree) => ask::sized(&mut Arena::default(), &tree, row),
     };
     Ok(match answer {
         Answer::None => size_text(None),
         Answer::Bytes(bytes) => size_text(Some(bytes.into())),
         Answer::Refused(number) => format!("no {number} 0 0 0"),
+    })
+}
+
+/// A sheet that is none goes before the row's number, and so does a bad name, also where the crate would not
+/// come to it.
+fn sheet_or_refusal(tree: Result<Tree, String>) -> Result<Result<Tree, u64>, String> {
+    match tree {
+        Err(why) if why == BAD_SHEET => Ok(Err(BAD_LAYOUT)),
+        Err(why) => Err(why),
+        Ok(tree) if !names_are_good(&tree.words(), &tree.names) => Ok(Err(BAD_NAME)),
+        Ok(tree) => Ok(Ok(tree)),
+    }
+}
+
+/// With a list of just the needed length.
+fn layout_in(tree: Result<Tree, String>, row: u64) -> Result<String, String> {
+    let answer = match sheet_or_refusal(tree)? {
+        Err(number) => layout::Answer::Refused(number, 0),
+        Ok(tree) => layout::answer(&tree, row, tree.nodes.len()),
+    };
+    Ok(match answer {
+        layout::Answer::None => "none".to_string(),
+        layout::Answer::Refused(number, node) => format!("no {number} {node} 0 0"),
+        layout::Answer::Layout(layout) => {
+            let offsets: Vec<String> = layout.offsets.iter().map(u64::to_string).collect();
+            format!("ok {} {} {}", layout.bytes, layout.alignment, offsets.join(","))
+        }
     })
 }
 

@@ -37,6 +37,7 @@ pub fn refusal_name(number: u64) -> &'static str {
         "accepted", "refused 01", "refused 02", "refused 03", "refused 04", "refused 05", "refused 06",
         "refused 07", "refused 08", "refused 09", "refused 10", "refused 11", "refused 12", "refused 13",
         "refused 14", "refused 15", "refused 16", "refused 17", "refused 18", "refused 19", "refused 20",
+        "refused 21",
     ];
     NAMES.get(number as usize).copied().unwrap_or("refused, unknown number")
 }

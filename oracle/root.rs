@@ -23,6 +23,8 @@ pub use parse::ParseError;
 #[allow(dead_code)]
 mod ask;
 #[allow(dead_code)]
+mod layout;
+#[allow(dead_code)]
 mod plain;
 #[allow(dead_code)]
 mod reason;
@@ -47,13 +49,19 @@ mod diff;
 #[cfg(diff)]
 mod grow;
 #[cfg(diff)]
+mod grow_layouts;
+#[cfg(diff)]
 mod grow_sizes;
 #[cfg(diff)]
 mod library;
 #[cfg(diff)]
+mod plain_layout;
+#[cfg(diff)]
 mod random;
 #[cfg(diff)]
 mod report;
+#[cfg(diff)]
+mod run_layouts;
 #[cfg(diff)]
 mod run_reads;
 #[cfg(diff)]

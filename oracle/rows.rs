@@ -87,7 +87,7 @@ impl Walk<'_> {
             ARRAY => self.size(at + 1, below).map(|item| item.saturating_mul(node.first.into())),
             BITFIELD => Some(bitfield(node.second)),
             TYPED_BITFIELD => Some(bitfield(node.second).max(self.size(at + 1, below).unwrap_or(0))),
-            kind => self.primitive(kind),
+            kind => self.widths.primitive(kind),
         };
         self.largest = self.largest.max(bytes.unwrap_or(0));
         bytes
@@ -111,23 +111,34 @@ impl Walk<'_> {
     fn largest_member(&mut self, at: usize, level: Level) -> Option<u128> {
         children(self.tree, at).map(|child| self.size(child, level)).max().flatten()
     }
+}
 
+impl Widths {
     fn primitive(&self, kind: u64) -> Option<u128> {
         match kind {
             0 | 5 | 16 => Some(1),
             1 | 6 => Some(2),
             2 | 7 | 10 => Some(4),
-            LONG => Some(self.widths.long),
-            UNSIGNED_LONG => Some(self.widths.unsigned_long),
+            LONG => Some(self.long),
+            UNSIGNED_LONG => Some(self.unsigned_long),
             4 | 9 | 11 => Some(8),
-            12 => Some(self.widths.long_double),
+            12 => Some(self.long_double),
             13 => Some(2 * 4),
             14 => Some(2 * 8),
-            15 => Some(2 * self.widths.long_double),
-            18..=22 => Some(self.widths.pointer),
+            15 => Some(2 * self.long_double),
+            18..=22 => Some(self.pointer),
             _ => None,
         }
     }
+}
+
+/// The size of a code in a row, if it has one.
+pub fn primitive(kind: u64, row: usize) -> Option<u128> {
+    WIDTHS[row].primitive(kind)
+}
+
+pub fn pointer(row: usize) -> u128 {
+    WIDTHS[row].pointer
 }
 
 fn bitfield(bits: u64) -> u128 {

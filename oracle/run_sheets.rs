@@ -2,10 +2,11 @@
 //! to the crate as well.
 
 use crate::damage::{raw, Raw};
-use crate::library::{self, reply, Sheet, MARK_BYTE};
+use crate::library::{self, reply, Sheet, MARK, MARK_BYTE};
 use crate::plain;
 use crate::random::Random;
 use crate::report::{expect, refusal_name, show_sheet, Case, Difference, Input, Lent, Tally};
+use crate::run_layouts;
 use crate::run_reasons;
 use crate::run_rows;
 use crate::run_trees;
@@ -67,6 +68,7 @@ pub struct Check {
     lent_a: Lent,
     lent_b: Lent,
     out: Vec<u8>,
+    offsets: Vec<u64>,
     long_text: Vec<u8>,
 }
 
@@ -78,6 +80,7 @@ impl Check {
             lent_a: Lent::default(),
             lent_b: Lent::default(),
             out: vec![MARK_BYTE; 1 << 17],
+            offsets: vec![MARK; 128],
             long_text: vec![b'i'; 2001],
         }
     }
@@ -105,6 +108,7 @@ impl Check {
             return run_rows::check_size(&mut self.arena, &tree, sheet, 0, tally).map(|_| ());
         }
         run_rows::check_refused(verdict, sheet, tally)?;
+        run_layouts::check_refused(verdict, sheet, &mut self.offsets, &mut Random::new(case.extra), tally)?;
         expect("static_encoding_str_len", library::static_encoding_str_len(sheet), reply(verdict, &[0]))?;
         let room = case.extra as usize % 64;
         let got = library::static_encoding_str_array(sheet, &mut self.out, room);

@@ -5,6 +5,7 @@ pub const INT: u64 = 2;
 pub const LONG: u64 = 3;
 pub const UNSIGNED_LONG: u64 = 8;
 pub const DOUBLE: u64 = 11;
+pub const VOID: u64 = 17;
 pub const OBJECT: u64 = 19;
 pub const BLOCK: u64 = 20;
 pub const CLASS: u64 = 21;

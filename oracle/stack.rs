@@ -3,6 +3,7 @@
 
 use std::thread::Builder;
 
+use crate::layout::BIT_FIELD_IN_LAYOUT;
 use crate::library::{self, Reader, Reply, Sheet};
 use crate::rows::ROWS;
 use crate::sheet::*;
@@ -102,7 +103,12 @@ fn tree_fits(tree: &Tree) -> bool {
     let pairs = [library::equivalent_to, library::equivalent_to_box, library::eq];
     let compared = pairs.iter().all(|pair| accepted(pair(sheet, sheet)));
     let matched = text_limit_holds(sheet, &out[..print.1[0] as usize]);
-    accepted(length) && accepted(print) && sized && compared && matched
+    let mut offsets = vec![0; tree.nodes.len()];
+    let laid_out = (0..ROWS as u64).all(|row| {
+        let reply = library::layout(sheet, row, &mut offsets, tree.nodes.len());
+        accepted(reply) || reply.0 == BIT_FIELD_IN_LAYOUT
+    });
+    accepted(length) && accepted(print) && sized && compared && matched && laid_out
 }
 
 fn accepted(reply: Reply) -> bool {

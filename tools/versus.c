@@ -23,18 +23,20 @@ typedef struct {
     __typeof__(berzhotun_from_str_strict) *strict; // likewise
     __typeof__(berzhotun_reason_len) *reason_len, *reason_all_len; // likewise
     __typeof__(berzhotun_reason) *reason, *reason_all;
+    __typeof__(berzhotun_layout) *layout; // likewise
 } Build;
 
 static const char *const whats[] = {"whole-text reading", "reading from the start", "tree against tree", "with all fields",
-                                    "tree against text", "size", "size in row 2", "size in row 3", "length", "print", "strict reading", "signature"};
-enum { TREE = 2, ALL, TEXT, SIZE, SIZE_ARM32, SIZE_GUIDE, LENGTH, PRINT, STRICT, SIGNATURE, REASON_LEN, REASON_ALL_LEN, REASON, REASON_ALL, EXACT, EXACT_ALL };
+                                    "tree against text", "size", "size in row 2", "size in row 3", "length", "print", "strict reading", "signature",
+                                    "layout", "layout in row 2"};
+enum { TREE = 2, ALL, TEXT, SIZE, SIZE_ARM32, SIZE_GUIDE, LENGTH, PRINT, STRICT, SIGNATURE, LAYOUT, LAYOUT_ARM32, REASON_LEN, REASON_ALL_LEN, REASON, REASON_ALL, EXACT, EXACT_ALL };
 
 static uint8_t text[BERZHOTUN_MAX_TEXT + 1], printed[BERZHOTUN_MAX_PRINT], output[BERZHOTUN_MAX_PRINT];
 static size_t text_len, printed_len;
 static size_t reason_len; // of the reason that is timed in an output of just its length
 static uint64_t words[BERZHOTUN_MAX_WORDS], other_words[BERZHOTUN_MAX_WORDS];
 static uint8_t names[BERZHOTUN_MAX_NAMES], other_names[BERZHOTUN_MAX_NAMES];
-static uint64_t list[BERZHOTUN_MAX_SIGNATURE];
+static uint64_t list[BERZHOTUN_MAX_SIGNATURE], offsets[BERZHOTUN_MAX_NODES];
 static volatile uint64_t sink;
 
 static void fail(const char *why) {
@@ -57,7 +59,8 @@ static Build load(const char *path) {
                    symbol(library, "berzhotun_static_encoding_str_len"), symbol(library, "berzhotun_static_encoding_str_array"),
                    dlsym(library, "berzhotun_signature"), dlsym(library, "berzhotun_from_str_strict"),
                    dlsym(library, "berzhotun_reason_len"), dlsym(library, "berzhotun_reason_all_len"),
-                   dlsym(library, "berzhotun_reason"), dlsym(library, "berzhotun_reason_all")};
+                   dlsym(library, "berzhotun_reason"), dlsym(library, "berzhotun_reason_all"),
+                   dlsym(library, "berzhotun_layout")};
 }
 
 #define SHEET words, words[3], names, words[2]
@@ -75,6 +78,8 @@ static uint64_t call(const Build *build, int what) {
     case SIZE: return build->size(SHEET, BERZHOTUN_ROW_APPLE_ARM64, answer) + answer[0];
     case SIZE_ARM32: return build->size(SHEET, BERZHOTUN_ROW_ARM32, answer) + answer[0];
     case SIZE_GUIDE: return build->size(SHEET, BERZHOTUN_ROW_GUIDE, answer) + answer[0];
+    case LAYOUT: return build->layout(SHEET, BERZHOTUN_ROW_APPLE_ARM64, offsets, BERZHOTUN_MAX_NODES, answer) + answer[0];
+    case LAYOUT_ARM32: return build->layout(SHEET, BERZHOTUN_ROW_ARM32, offsets, BERZHOTUN_MAX_NODES, answer) + answer[0];
     case LENGTH: return build->len(SHEET, answer) + answer[0];
     case PRINT: return build->print(SHEET, output, sizeof output, answer) + answer[0];
     case STRICT: return build->strict(text, text_len, LENT, answer);
@@ -152,18 +157,23 @@ static void repeat(const char *part, int times) {
     for (int i = 0; i < times; i++) text_len += (size_t)sprintf((char *)text + text_len, "%s", part);
 }
 
-// The benchmark's shapes (oracle/bench.rs) and wide bitfields; then some for reasons alone.
+// A record of as many bytes as a text can have, of eleven fields in turn.
+static void repeat_fields(const char *const *fields) {
+    repeat("{R=", 1);
+    for (int i = 0; text_len + strlen(fields[i % 11]) < BERZHOTUN_MAX_TEXT; i++) repeat(fields[i % 11], 1);
+    repeat("i", (int)(BERZHOTUN_MAX_TEXT - 1 - text_len));
+    repeat("}", 1);
+}
+
+// The benchmark's shapes (oracle/bench.rs) and wide bitfields; then some for reasons and layouts alone.
 static const char *shape(int which) {
     static const char *const fields[] = {"i", "^v", "[4c]", "@", "b3", "{P=dd}", "*", "^{B}", "(U=if)", "b0i7", ":"};
+    static const char *const laid_out[] = {"i", "^v", "[4c]", "@", "s", "{P=dd}", "*", "^{B}", "(U=if)", "Aq", ":"};
     text_len = 0;
     switch (which) {
     case 0: return repeat("i", 1), "a code";
     case 1: return repeat("{Rate=i^v{Point=dd}[4c]@\"NSDate\"^{Band=s}(U=if)b3*:#Bq^^{Q}}", 1), "25 nodes";
-    case 2:
-        repeat("{R=", 1);
-        for (int i = 0; text_len + strlen(fields[i % 11]) < BERZHOTUN_MAX_TEXT; i++) repeat(fields[i % 11], 1);
-        repeat("i", (int)(BERZHOTUN_MAX_TEXT - 1 - text_len));
-        return repeat("}", 1), "1,188 nodes";
+    case 2: return repeat_fields(fields), "1,188 nodes";
     case 3: return repeat("{R=", 1), repeat("i", 1996), repeat("}", 1), "1,997 codes";
     case 4: return repeat("^", 1000), repeat("i", 1), "1,001 pointers";
     case 5: return repeat("{R=", 499), repeat("i", 1), repeat("}", 499), "nested records";
@@ -174,6 +184,8 @@ static const char *shape(int which) {
     case SHAPES + 3: return repeat("{R=", 1), repeat("{P=dd}", 300), repeat("}", 1), "300 records";
     case SHAPES + 4: return repeat("{R=", 1), repeat("{P=}", 498), repeat("}", 1), "empty records";
     case SHAPES + 5: return repeat("{", 1), repeat("R", 1000), repeat("}", 1), "long names";
+    case SHAPES + 6: return repeat("{Rate=i^v{Point=dd}[4c]@\"NSDate\"^{Band=s}(U=if)c*:#Bq^^{Q}}", 1), "25 laid out";
+    case SHAPES + 7: return repeat_fields(laid_out), "1,310 laid out";
     default: return NULL;
     }
 }
@@ -297,6 +309,36 @@ static void reason_rows(const Build *builds, int each, int rounds) {
     printf("\n");
 }
 
+// Layouts before and after, where both have them; then, of the archive AFTER alone, beside the size of the same trees.
+static void layout_rows(const Build *builds, int each, int rounds) {
+    static const int shapes[] = {0, SHAPES + 6, SHAPES + 7, 3, 4, 5, SHAPES, SHAPES + 2, SHAPES + 3, 1};
+    static const int what[] = {SIZE, LAYOUT};
+    int is_before = 1;
+    for (int i = 0; i < 2 * each; i++) {
+        if (!builds[i].layout && i >= each) {
+            printf("the archive AFTER has no berzhotun_layout: layouts are left out\n");
+            return;
+        }
+        is_before = is_before && builds[i].layout;
+    }
+    for (size_t which = 0; is_before && which < sizeof shapes / sizeof *shapes; which++) {
+        const char *name = shape(shapes[which]);
+        read_into(&builds[0], words, names);
+        row(name, builds, each, rounds, LAYOUT);
+        row(name, builds, each, rounds, LAYOUT_ARM32);
+    }
+    printf("\n%-14s %9s %9s  %5s %5s\n", "tree", "size", "layout", "mean", "least");
+    for (size_t which = 0; which < sizeof shapes / sizeof *shapes; which++) {
+        double times[2][MOST_BUILDS], mean[2], least[2];
+        const char *name = shape(shapes[which]);
+        read_into(&builds[0], words, names);
+        timed(builds + each, each, rounds, what, 2, times);
+        for (int k = 0; k < 2; k++) summed(times[k], each, &mean[k], &least[k]);
+        printf("%-14s %9.1f %9.1f  %5.2f %5.2f\n", name, mean[0], mean[1], mean[1] / mean[0], least[1] / least[0]);
+    }
+    printf("\n");
+}
+
 int main(int count, char **given) {
     static Build builds[MOST_BUILDS];
     int rounds = count > 1 ? atoi(given[1]) : 0, each = (count - 2) / 2;
@@ -338,6 +380,7 @@ int main(int count, char **given) {
         row(passed[i].name, builds, each, rounds, TEXT);
     }
     reason_rows(builds + each, each, rounds);
+    layout_rows(builds, each, rounds);
     for (int i = 0; i < 2 * each; i++) {
         if (!builds[i].signature) return printf("one of the archives has no berzhotun_signature: signatures are left out\n"), 0;
     }

@@ -1,5 +1,6 @@
 /* Reads every text of the list, prints it again, measures it in the row of its target, for arm64 also in row 3,
-   and compares with what the list says. */
+   and compares with what the list says. A line of five words is one of the list of layouts: there its padded size, its
+   alignment and the offsets of its fields are compared. */
 #include <inttypes.h>
 #include <stdio.h>
 #include <stdlib.h>
@@ -16,7 +17,7 @@ static struct {
 
 /* A line of the list, and the row of sizes of its target. */
 static struct {
-    char target[16], how[16], name[64], text[512], size[24], outcome[512];
+    char target[16], how[16], name[64], text[512], size[24], alignment[24], outcome[512];
     unsigned machine;
 } row;
 
@@ -27,11 +28,12 @@ static const struct {
     {"arm64", BERZHOTUN_ROW_APPLE_ARM64},
     {"x86_64", BERZHOTUN_ROW_X86_64},
     {"armv7", BERZHOTUN_ROW_ARM32},
+    {"armv7k", BERZHOTUN_ROW_ARM32},
     {"gnu", BERZHOTUN_ROW_X86_64},
 };
 
 static struct {
-    int rows, same, otherwise, refused, sizes[4], signatures, types, differences;
+    int rows, same, otherwise, refused, sizes[4], layouts[4], offsets, signatures, types, differences;
 } counts;
 
 static void differs(const char *what) {
@@ -142,6 +144,61 @@ static void check_type(void) {
     }
 }
 
+/* The offset of each node by the library, and the list's own of the fields, of which the next is looked for. */
+static uint64_t offsets[BERZHOTUN_MAX_NODES];
+static const char *next_offset;
+
+static uint64_t node_word(uint64_t node, unsigned word) {
+    return tree.words[tree.words[1] + 4 * node + word];
+}
+
+/* Whether the nodes below `node` have what the list says: a field the next of its offsets, any other 0; what is behind a
+   pointer has no fields there. */
+static int offsets_below(uint64_t node) {
+    uint64_t kind = node_word(node, 0), end = node + node_word(node, 3), child;
+    for (child = node + 1; child < end; child += kind == BERZHOTUN_POINTER ? 1 : node_word(child, 3)) {
+        uint64_t wanted = 0;
+        if (kind == BERZHOTUN_STRUCT || kind == BERZHOTUN_UNION) {
+            char *after;
+            wanted = strtoull(next_offset, &after, 10);
+            if (after == next_offset) {
+                return 0;
+            }
+            next_offset = after + (*after == ',');
+            counts.offsets++;
+        }
+        if (offsets[child] != wanted || (kind != BERZHOTUN_POINTER && !offsets_below(child))) {
+            return 0;
+        }
+    }
+    return 1;
+}
+
+static void check_layout_in(unsigned machine) {
+    char what[40];
+    uint64_t answer[3];
+    counts.layouts[machine]++;
+    next_offset = strcmp(row.outcome, "-") == 0 ? "" : row.outcome;
+    if (berzhotun_layout(LENT(tree), machine, offsets, BERZHOTUN_MAX_NODES, answer) != 0 || answer[0] != 1 ||
+        answer[1] != strtoull(row.size, NULL, 10) || answer[2] != strtoull(row.alignment, NULL, 10) ||
+        offsets[0] != 0 || !offsets_below(0) || *next_offset != '\0') {
+        snprintf(what, sizeof what, "is laid out otherwise in row %u", machine);
+        differs(what);
+    }
+}
+
+static void check_layout(void) {
+    uint64_t values[3];
+    if (berzhotun_from_str((const uint8_t *)row.text, strlen(row.text), LENT(tree), values) != 0) {
+        differs("was refused");
+        return;
+    }
+    check_layout_in(row.machine);
+    if (row.machine == BERZHOTUN_ROW_APPLE_ARM64) {
+        check_layout_in(BERZHOTUN_ROW_GUIDE);
+    }
+}
+
 /* Whether the target is one that has a row of sizes. */
 static int find_machine(void) {
     size_t i;
@@ -162,10 +219,23 @@ static int parse_row(const char *line) {
     return words == 6 && line[end] == '\0' && find_machine();
 }
 
+/* The same of the list of layouts, whose lines have five words. */
+static int parse_layout(const char *line) {
+    int end = 0;
+    int words = sscanf(line, "%15s %511s %23s %23s %511s %n", row.target, row.text, row.size, row.alignment, row.outcome, &end);
+    strcpy(row.how, "layout");
+    strcpy(row.name, "-");
+    return words == 5 && line[end] == '\0' && find_machine();
+}
+
 int main(void) {
     static char line[2048];
     int unread = 0;
     while (fgets(line, sizeof line, stdin) != NULL) {
+        if (parse_layout(line)) {
+            check_layout();
+            continue;
+        }
         if (!parse_row(line)) {
             printf("not a row: %s", line);
             unread++;
@@ -180,7 +250,9 @@ int main(void) {
     }
     printf("%d texts of real compilers: %d print as they were, %d print otherwise, as expected, %d refused,\n",
            counts.rows, counts.same, counts.otherwise, counts.refused);
+    printf("%d, %d, %d and %d layouts in rows 0 to 3 with %d offsets,\n", counts.layouts[0], counts.layouts[1],
+           counts.layouts[2], counts.layouts[3], counts.offsets);
     printf("%d, %d, %d and %d sizes in rows 0 to 3, %d signatures with %d types; %d differences\n", counts.sizes[0],
            counts.sizes[1], counts.sizes[2], counts.sizes[3], counts.signatures, counts.types, counts.differences);
-    return counts.differences != 0 || unread != 0 || counts.rows == 0;
+    return counts.differences != 0 || unread != 0 || counts.rows == 0 || counts.layouts[0] == 0;
 }

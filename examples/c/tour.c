@@ -21,7 +21,7 @@ static const char *const in_words[] = {
     "the lists are no sheet",
     "a struct or union has a name that is none",
     "the output is too short",
-    "the size is above 2^64 - 1, or on 32-bit ARM 2^32 - 1",
+    "the size or an offset is above 2^64 - 1, or on 32-bit ARM 2^32 - 1",
     "the text ends where something must follow",
     "no type starts with this byte, or nothing is open that it closes",
     "this byte does not make a complex number",
@@ -36,6 +36,7 @@ static const char *const in_words[] = {
     "the signature has no byte",
     "the number starts with a surplus zero",
     "there is no such row of sizes",
+    "a bitfield cannot be laid out",
 };
 
 static const char *yes_or_no(uint64_t answer) {
@@ -141,6 +142,42 @@ static void measure_some(void) {
     }
     printf("  refusal %2u: %s\n", BERZHOTUN_SIZE_TOO_LARGE, in_words[BERZHOTUN_SIZE_TOO_LARGE]);
     printf("  refusal %2u: %s\n", BERZHOTUN_NO_SUCH_ROW, in_words[BERZHOTUN_NO_SUCH_ROW]);
+}
+
+/* Where each node's field lies in one of the rows: the numbers stand in the order of the nodes. */
+static void show_layout(const struct tree *tree, const char *name, uint64_t row) {
+    static uint64_t offsets[BERZHOTUN_MAX_NODES];
+    uint64_t answer[3], i;
+    uint64_t refusal = berzhotun_layout(LENT(*tree), row, offsets, BERZHOTUN_MAX_NODES, answer);
+    if (refusal == BERZHOTUN_BIT_FIELD_IN_LAYOUT) {
+        printf("  %-11s refusal 21, node %" PRIu64 ": %s\n", name, answer[0], in_words[refusal]);
+    } else if (refusal != 0) {
+        printf("  %-11s refusal %" PRIu64 ": %s\n", name, refusal, in_words[refusal]);
+    } else if (answer[0] == 0) {
+        printf("  %-11s has no layout\n", name);
+    } else {
+        printf("  %-11s %" PRIu64 " bytes, alignment %" PRIu64 ", offsets", name, answer[1], answer[2]);
+        for (i = 0; i < tree->words[0]; i++) {
+            printf(" %" PRIu64, offsets[i]);
+        }
+        printf("\n");
+    }
+}
+
+static void lay_some_out(void) {
+    static const char *const texts[] = {"{R=ci^v}", "[2{R=ic}]", "{R=cDc}", "{R=c{S=sq}(U=ic)}", "(U=vi)", "{R=^b3b3}",
+                                        "{R=[4294967295c]i}"};
+    static struct tree tree;
+    size_t i;
+    printf("\n");
+    for (i = 0; i < sizeof texts / sizeof texts[0]; i++) {
+        printf("%s\n", texts[i]);
+        if (read_text(texts[i], &tree)) {
+            show_layout(&tree, "Apple ARM64", BERZHOTUN_ROW_APPLE_ARM64);
+            show_layout(&tree, "x86_64", BERZHOTUN_ROW_X86_64);
+            show_layout(&tree, "32-bit ARM", BERZHOTUN_ROW_ARM32);
+        }
+    }
 }
 
 static void compare(const char *first, const char *second) {
@@ -280,6 +317,7 @@ static void refuse_some(void) {
 int main(void) {
     read_print_size();
     measure_some();
+    lay_some_out();
     compare_some();
     explain_some();
     read_start("{R=i}16@0:8");

@@ -1,16 +1,16 @@
 -- The answers of the entry point, as the code reaches them from the walk and the pass.
-use Prim.Native.Nat.{ℕ, zero, suc, _+_, _-_, _*_, _≤_, _<_}
+use Prim.Native.Nat.{ℕ, zero, _+_, _-_, _≤_, _<_}
 use native.Mathlib.Omega.{arith}
-use mathlib.Core.Path.{_≡_, refl, ap, ap₂, sym, _∙_, subst}
+use mathlib.Core.Path.{_≡_, refl, ap, ap₂, sym, _∙_}
 use mathlib.Core.List.{List, [], _∷_, _++_, map}
 use mathlib.Core.Option.{Option, some, none}
-use mathlib.Core.Bool.{Bool, true, false, cond, _&&_, _||_, false≢true, and-false}
+use mathlib.Core.Bool.{Bool, true, false, cond, _&&_, _||_, and-false}
 use borrow.Author.Tests.{le-leb, lt-leb, leb-true, leb-false, eqb-true}
 use lib.Dec.{leb, eqb}
-use lib.ListN.{length, getD, take, drop, replicate, length-replicate, drop-of-length-le, getD-replicate}
+use lib.ListN.{length, getD, take, replicate, length-replicate, drop-of-length-le, getD-replicate}
 use lib.Seq.{sets, sets-eq, take-suc, getD-take, length-take-le}
 use Rattle.kinds.specs.Parse.{maxU64}
-use Rattle.kinds.specs.Primitive.{Widths, isRow, widths}
+use Rattle.kinds.specs.Primitive.{Widths, widths}
 use Rattle.kinds.specs.Sheet.{countAt, trees}
 use Rattle.kinds.specs.Tree.{Trees, count}
 use Rattle.kinds.specs.Walk.{NodeAt}
@@ -18,16 +18,15 @@ use Rattle.kinds.specs.declared.NestingLevel.the-variants.{Top}
 use Rattle.kinds.specs.declared.Refusal.{Refusal}
 use Rattle.kinds.specs.declared.Refusal.the-variants.{SizeTooLarge, ListTooShort, NoSuchRow, BitFieldInLayout}
 use Rattle.kinds.proofs.SheetLaws.{trees-count}
-use Rattle.kinds.proofs.NodeLaws.{no-trees}
 use Rattle.sheet.specs.Answer.{held, refused}
 use Rattle.sheet.specs.Given.{NodesAre}
 use Rattle.sheet.proofs.GivenLaws.{answer-refused, answer-held}
 use Rattle.helper.specs.Answer.{maxSize}
-use Rattle.helper.specs.Measure.{fit, RowOf}
-use Rattle.helper.specs.declared.Measured.the-variants.{Bytes, TooLarge}
+use Rattle.helper.specs.Measure.{fit}
+use Rattle.helper.specs.declared.Measured.the-variants.{Bytes}
 use Rattle.helper.proofs.SizeLaws.{fit-gt}
 use Rattle.layout.specs.Answer.{offsetsIn, allWithin, fitted, unlessBitField, layoutOf, layoutIn, layoutAnswer, listAfter, listIn, layoutList}
-use Rattle.layout.specs.Layout.{Part, Extent, laidOut, firstBitField, anySizeless, extent, extents, onlyExtent, others, offsets}
+use Rattle.layout.specs.Layout.{Extent, laidOut, firstBitField, anySizeless, extent, onlyExtent, others}
 use Rattle.layout.specs.Placing.{placedOf, stored, extentAt, offsetsBelow, Zeros, LaidBelow, unlessFound, foundIn, withinLimit, finishBy, finished, numbersAt, fittedAt, listAt}
 use Rattle.layout.specs.declared.Found.{Found}
 use Rattle.layout.specs.declared.Found.the-variants as F

@@ -1,12 +1,12 @@
 -- Laws of the end: the limit, the copy of the numbers, and the answer for a whole tree.
-use Prim.Native.Nat.{ℕ, zero, suc, _+_, _-_, _*_, _≤_, _<_}
+use Prim.Native.Nat.{ℕ, _+_, _-_, _≤_, _<_}
 use native.Mathlib.Omega.{arith}
 use native.Mathlib.Numerals.{add-one}
-use mathlib.Core.Path.{_≡_, refl, ap, ap₂, sym, _∙_, subst}
-use mathlib.Core.List.{List, [], _∷_, _++_, map}
-use mathlib.Core.Bool.{Bool, true, false, not, cond, _&&_, _||_}
+use mathlib.Core.Path.{_≡_, refl, ap, ap₂, sym, _∙_}
+use mathlib.Core.List.{List, _++_}
+use mathlib.Core.Bool.{Bool, true, false, not, _&&_}
 use borrow.Author.Tests.{le-leb, eq-eqb, ne-eqb, not-true, not-false}
-use lib.Dec.{leb, eqb}
+use lib.Dec.{leb}
 use lib.ListN.{length, getD, set, drop}
 use lib.Seq.{sets, sets-eq}
 use Rattle.kinds.specs.Parse.{maxU64}
@@ -16,7 +16,6 @@ use Rattle.helper.specs.declared.Measured.{Measured}
 use Rattle.helper.specs.declared.Measured.the-variants.{Nothing, Bytes, TooLarge}
 use Rattle.layout.specs.Answer.{allWithin, listAfter}
 use Rattle.layout.specs.Placing.{withinLimit, finishBy, finished}
-use Rattle.layout.specs.declared.LaidOut.{LaidOut}
 use Rattle.layout.specs.declared.LaidOut.the-variants as A
 use Rattle.layout.specs.declared.Placed.{Placed}
 

@@ -5,25 +5,23 @@ use mathlib.Core.Path.{_≡_, refl, ap, ap₂, sym, _∙_, subst}
 use mathlib.Core.List.{List, [], _∷_, map}
 use mathlib.Core.Option.{Option, some, none, Option·getD}
 use mathlib.Core.Bool.{Bool, true, false, cond, _&&_, _||_, false≢true}
-use borrow.Author.Tests.{le-leb, lt-leb, leb-false, ltb-true, ltb-false, lt-ltb, le-ltb, eq-eqb, ne-eqb, eqb-true, eqb-false}
+use borrow.Author.Tests.{le-leb, leb-false, ltb-true, ltb-false, lt-ltb, le-ltb, ne-eqb, eqb-true, eqb-false}
 use lib.Dec.{leb, ltb, eqb}
 use lib.ListN.{length, getD}
 use Rattle.kinds.specs.Parse.{maxU64}
-use Rattle.kinds.specs.Primitive.{Widths, primitives, primitiveSize, entry}
+use Rattle.kinds.specs.Primitive.{Widths, primitiveSize, entry}
 use Rattle.kinds.specs.Sheet.{label}
-use Rattle.kinds.specs.Tree as T
-use Rattle.kinds.specs.Tree.{bitField, typedBitField, pointer}
 use Rattle.kinds.proofs.NodeLaws.{label-primitive, label-bits, label-typed, label-pointer, label-none}
 use Rattle.kinds.proofs.TableLaws.{everyBelow, passBelow}
 use Rattle.helper.specs.Measure.{fit, clip, plusMeasured, largerMeasured, timesMeasured, RowOf}
 use Rattle.helper.specs.declared.Measured.{Measured}
-use Rattle.helper.specs.declared.Measured.the-variants.{Nothing, Bytes, TooLarge}
+use Rattle.helper.specs.declared.Measured.the-variants.{Bytes, TooLarge}
 use Rattle.helper.proofs.SizeLaws.{fit-gt, clip-plus, clip-larger, clip-times}
 use Rattle.kinds.specs.Size.{plus, larger, times}
 use Rattle.layout.specs.Layout.{nextMultiple, Extent, noRoom, primitiveAlignment, primitiveExtent, nodeExtent, holdsInside}
 use Rattle.layout.specs.Placing.{nextMeasured, placedOf, stored, storedOf, isBytes, isPlain, partKind, plainExtent, beginMeasured, withField, closed, heldBy}
 use Rattle.layout.specs.declared.Placed.{Placed}
-use Rattle.layout.proofs.MultipleLaws.{at-or-after, there-already, not-there}
+use Rattle.layout.proofs.MultipleLaws.{at-or-after, there-already, not-there, by-remainder}
 
 -- ---- Cutting off goes with what is done to numbers.
 
@@ -69,6 +67,11 @@ fit-low n h = rw (le-leb n maxU64 h)
 
 -- A number rounded up, by what is left over.
 module _ (a n : ℕ) (p : 0 < a) where
+  pub rounded-sum : {b r : ℕ} → b ≡ a → r ≡ (n + (b - 1)) % a → n + (b - 1) ≤ maxU64 → Bytes (n + (b - 1) - r) ≡ fit (nextMultiple a n)
+  rounded-sum {b} {r} e d h =
+      let f : n + (b - 1) - r ≡ nextMultiple a n = ap₂ (λ (x y : ℕ). x - y) (ap (λ (x : ℕ). n + (x - 1)) e) (d ∙ ap (λ (x : ℕ). (n + (x - 1)) % a) e) ∙ by-remainder a n in
+      sym (ap fit (sym f) ∙ fit-low (n + (b - 1) - r) (omega arith))
+
   pub rounded-there : n ≤ maxU64 → {r : ℕ} → r ≡ n % a → r ≡ 0 → Bytes n ≡ fit (nextMultiple a n)
   rounded-there h e z = sym (ap fit (there-already a n p (sym e ∙ z)) ∙ fit-low n h)
 

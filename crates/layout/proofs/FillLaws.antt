@@ -1,28 +1,28 @@
 -- Laws of the walk that fills a list with the numbers of nodes.
 use Prim.Native.Nat.{ℕ, zero, suc, _+_, _-_, _*_, _≤_, _<_, max}
 use native.Mathlib.Omega.{arith}
-use native.Mathlib.Numerals.{add-one}
 use mathlib.Core.Path.{_≡_, refl, ap, ap₂, sym, _∙_, subst}
 use mathlib.Core.List.{List, [], _∷_, _++_, map}
-use mathlib.Core.Bool.{Bool, true, false, cond, _&&_, false≢true, and-true}
-use borrow.Author.Tests.{le-leb, eqb-true, eqb-false}
-use lib.Dec.{leb, eqb}
+use mathlib.Core.Bool.{Bool, true, false, cond, _&&_, _||_, false≢true, and-true}
+use borrow.Author.Tests.{le-leb, leb-true, ne-eqb, eqb-true, eqb-false, ltb-true, ltb-false}
+use lib.Dec.{leb, ltb, eqb}
 use lib.ListN.{length, getD, set, replicate, length-append, length-replicate, length-set}
 use lib.Seq.{sets, set-getD, getD-set-other}
 use Rattle.kinds.specs.Parse.{maxU64}
 use Rattle.kinds.specs.Primitive.{Widths}
 use Rattle.kinds.specs.Sheet.{kindAt, firstAt, secondAt, countAt, label, labelAt, trees}
-use Rattle.kinds.specs.Tree.{Trees, end, node, count, array, struct, union}
+use Rattle.kinds.specs.Tree.{Trees, end, node, count, array}
 use Rattle.kinds.specs.Walk.{NodeAt, TreesAt}
 use Rattle.kinds.proofs.SheetLaws.{trees-step, trees-count}
-use Rattle.kinds.proofs.NodeLaws.{node-child, child-count, node-inner, first-some, first-within, first-node, other-trees, no-trees, label-atomic, label-array, label-struct, label-union}
-use Rattle.kinds.proofs.StoreLaws.{sets-append, set-sets, getD-sets, sets-same}
+use Rattle.kinds.proofs.NodeLaws.{node-child, child-count, first-some, first-within, first-node, other-trees, no-trees, label-atomic, label-array, label-struct, label-union}
+use Rattle.kinds.proofs.TableLaws.{both-left, both-right}
+use Rattle.kinds.proofs.StoreLaws.{sets-append, set-sets, sets-same}
 use Rattle.helper.specs.Measure.{RowOf, fit, timesMeasured}
 use Rattle.layout.specs.Answer.{allWithin}
 use Rattle.layout.specs.Layout.{Extent, noRoom, alignments, fieldsEnd, membersEnd, onlyExtent, nodeExtent, extents, Side, fields, others, inNode, begins, holdsInside, offsets, nextMultiple}
-use Rattle.layout.specs.Placing.{placedOf, stored, storedOf, isPlain, plainExtent, beginMeasured, withField, closed, heldBy, insideAt, extentAt, offsetsBelow, Zeros, LaidBelow, Laid}
+use Rattle.layout.specs.Placing.{placedOf, stored, storedOf, isPlain, isSimple, simplePlaced, plainExtent, beginMeasured, withField, closed, heldBy, endedBy, insideAt, extentAt, offsetsBelow, Zeros, LaidBelow, Laid}
 use Rattle.layout.specs.declared.Placed.{Placed}
-use Rattle.layout.proofs.ExtentLaws.{stored-fit, times-fit, beginIn, endWith, begin-fit, with-field, closed-fit, plain-extent, plain-inside, plain-positive, held-positive, closed-positive}
+use Rattle.layout.proofs.ExtentLaws.{stored-fit, times-fit, beginIn, endWith, begin-fit, with-field, closed-fit, plain-extent, plain-inside, plain-positive, held-positive, closed-positive, not-plain}
 
 -- ---- Lists of numbers.
 
@@ -172,7 +172,7 @@ side-step m k e x ts = go (eqb k 29)
     go true = refl
     go false = others-alike m (0 + x .bytes) (max e (x .bytes)) ts
 
-alignments-positive : (xs : List Extent) → 0 < alignments xs
+pub alignments-positive : (xs : List Extent) → 0 < alignments xs
 unfolding alignments
 alignments-positive [] = omega arith
 alignments-positive (x ∷ xs) = let h = alignments-positive xs in omega arith
@@ -232,11 +232,13 @@ pub record Gathers (m : Widths) (s w : List ℕ) (k first total : ℕ) (entry no
   pub ends : endOf k ended (extents m (trees s w n (4 * j))) ≡ endOf k 0 (extents m (trees s w total (4 * first)))
   pub aligns : max aligned (alignments (extents m (trees s w n (4 * j)))) ≡ alignments (extents m (trees s w total (4 * first)))
   pub fits : (fitted && allWithin maxU64 (offsets m (sideOf k) ended (trees s w n (4 * j)))) ≡ allWithin maxU64 (offsets m (sideOf k) 0 (trees s w total (4 * first)))
+  pub leads : n < total → 0 < onlyExtent (extents m (trees s w total (4 * first))) .alignment
   pub list : sets now j (map stored (offsets m (sideOf k) ended (trees s w n (4 * j)))) ≡ sets entry first (map stored (offsets m (sideOf k) 0 (trees s w total (4 * first))))
 
 -- The same for every machine of the row, with what the walk goes by.
 pub record Filling (row w : List ℕ) (k first total : ℕ) (entry now : List ℕ) (j n : ℕ) (run : Placed) : Type 0 where
   pub there : TreesAt w (4 * j) n
+  pub begun : first ≤ j
   pub goes-on : j + n ≡ first + total
   pub room : first + total ≤ length entry
   pub as-long : length now ≡ length entry
@@ -251,6 +253,7 @@ module _ {row w : List ℕ} {k first total : ℕ} {entry : List ℕ} where
   unfolding endOf placedOf
   filling-start t r z {run} e = record {
     there = t;
+    begun = omega arith;
     goes-on = refl;
     room = r;
     as-long = refl;
@@ -265,6 +268,7 @@ module _ {row w : List ℕ} {k first total : ℕ} {entry : List ℕ} where
       ends = refl;
       aligns = one (extents m (trees s w total (4 * first)));
       fits = refl;
+      leads = λ h. absurd (omega arith);
       list = refl;
     };
   }
@@ -298,6 +302,22 @@ module _ {row w : List ℕ} {k first total : ℕ} {entry : List ℕ} where
           let b = filling-within in
           ap (λ (l : List ℕ). getD l i 0) put ∙ getD-set-other mid j i _ 0 (λ q. omega arith) ∙ laid .beyond i h
 
+      -- The first field's alignment is positive once it has been put.
+      lead-is : (m : Widths) (s : List ℕ) → 1 ≤ countAt w (4 * j) → countAt w (4 * j) ≤ n → 0 < extentAt m s w (4 * j) .alignment → total ≤ n
+          → 0 < onlyExtent (extents m (trees s w total (4 * first))) .alignment
+      unfolding onlyExtent
+      lead-is m s a b ph h =
+          let c = g .goes-on in
+          let d = g .begun in
+          let e₁ : total ≡ n = omega arith in
+          let e₂ : first ≡ j = omega arith in
+          subst (λ (z : Extent). 0 < z .alignment)
+          (sym (ap onlyExtent (ap₂ (λ (x y : ℕ). extents m (trees s w x (4 * y))) e₁ e₂ ∙ extents-turn m s w j n a b))) ph
+
+      leads-on : {A : Type 0} (t : Bool) → ltb n total ≡ t → (n < total → A) → (total ≤ n → A) → A
+      leads-on true e f h = f (ltb-true n total e)
+      leads-on false e f h = h (ltb-false n total e)
+
       turn-gathers : (m : Widths) → RowOf row m → (s : List ℕ) → Gathers m s w k first total entry after (j + countAt w (4 * j)) (n - countAt w (4 * j)) y
       unfolding alignments
       turn-gathers m o s =
@@ -318,8 +338,10 @@ module _ {row w : List ℕ} {k first total : ℕ} {entry : List ℕ} where
             fits = within-turn (q .fitted) (leb (beginIn k (q .ended) here) maxU64) maxU64 (beginIn k (q .ended) here) (offsetsBelow m s w (4 * j))
                 (offsets m (sideOf k) (endWith k (q .ended) here) (trees s w (n - countAt w (4 * j)) (4 * (j + countAt w (4 * j))))) refl
                 ∙ sym (ap (λ (z : List ℕ). q .fitted && allWithin maxU64 z) os) ∙ q .fits;
+            leads = λ h. leads-on (ltb n total) refl (q .leads) (lead-is m s (b .0) (b .1) ph);
             list = ap (λ (z : List ℕ). sets z (j + countAt w (4 * j))
-                (map stored (offsets m (sideOf k) (endWith k (q .ended) here) (trees s w (n - countAt w (4 * j)) (4 * (j + countAt w (4 * j))))))) (put ∙ ap (set mid j) (begin-is k run x (q .ended) (q .aligned) (q .fitted) here _ (q .takes) (l .takes) ph))
+                (map stored (offsets m (sideOf k) (endWith k (q .ended) here) (trees s w (n - countAt w (4 * j)) (4 * (j + countAt w (4 * j)))))))
+                (put ∙ ap (set mid j) (begin-is k run x (q .ended) (q .aligned) (q .fitted) here _ (q .takes) (l .takes) ph))
                 ∙ list-turn now mid j (countAt w (4 * j)) (beginIn k (q .ended) here) (offsetsBelow m s w (4 * j))
                 (offsets m (sideOf k) (endWith k (q .ended) here) (trees s w (n - countAt w (4 * j)) (4 * (j + countAt w (4 * j))))) (b .0) (below-length m s w (4 * j)) (l .list)
                 ∙ sym (ap (λ (z : List ℕ). sets now j (map stored z)) os) ∙ q .list;
@@ -336,6 +358,7 @@ module _ {row w : List ℕ} {k first total : ℕ} {entry : List ℕ} where
           let q = g .positive in
           record {
             there = subst (λ (at : ℕ). TreesAt w at (n - countAt w (4 * j))) (omega arith) (other-trees w (4 * j) n (g .there) p);
+            begun = let d = g .begun in omega arith;
             goes-on = omega arith;
             room = g .room;
             as-long = ap length put ∙ length-set mid j _ ∙ laid .as-long ∙ g .as-long;
@@ -516,6 +539,74 @@ module _ (row w : List ℕ) (i : ℕ) (lo : 29 ≤ kindAt w (4 * i)) (hi : kindA
     below = λ m o s. end-below m o s e;
   }
 
+-- ---- An atomic or an array, node `i`, whose item has been put.
+
+module _ (row w : List ℕ) (i : ℕ) (stands : NodeAt w (4 * i)) (lo : 27 ≤ kindAt w (4 * i)) (hi : kindAt w (4 * i) ≤ 28) {entry now : List ℕ} {j n : ℕ} {run : Placed}
+    (g : Filling row w (kindAt w (4 * i)) (i + 1) (countAt w (4 * i) - 1) entry now j n run) (h : n ≤ 0) where
+  module _ (m : Widths) (o : RowOf row m) (s : List ℕ) where
+    here-is : trees s w (countAt w (4 * i) - 1) (4 * (i + 1)) ≡ insideAt s w (4 * i)
+    here-is = ap (trees s w (countAt w (4 * i) - 1)) (omega arith)
+
+    item-is : extents m (trees s w (countAt w (4 * i) - 1) (4 * (i + 1))) ≡ extentAt m s w (4 * (i + 1)) ∷ []
+    item-is = ap (extents m) here-is ∙ item-extents m s w i stands lo hi
+
+    item-below : offsetsBelow m s w (4 * i) ≡ offsets m (sideOf (kindAt w (4 * i))) 0 (trees s w (countAt w (4 * i) - 1) (4 * (i + 1)))
+    unfolding offsetsBelow sideOf
+    item-below = label-item m s (firstAt w (4 * i)) (secondAt w (4 * i)) (insideAt s w (4 * i)) (kindAt w (4 * i)) lo hi
+        ∙ rw (ne-eqb (kindAt w (4 * i)) 29 (λ e. omega arith)) (ap (offsets m others 0) (sym here-is))
+
+    item-end : endOf (kindAt w (4 * i)) 0 (extentAt m s w (4 * (i + 1)) ∷ []) ≡ extentAt m s w (4 * (i + 1)) .bytes
+    unfolding endOf membersEnd
+    item-end = rw (ne-eqb (kindAt w (4 * i)) 29 (λ e. omega arith)) (omega arith)
+
+    held-end-below : {r : Placed} → r ≡ heldBy (kindAt w (4 * i)) (firstAt w (4 * i)) run → LaidBelow m s w i entry now r
+    unfolding extents offsets alignments allWithin onlyExtent
+    held-end-below {r} e =
+        let q = g .gathers m o s in
+        let none : trees s w n (4 * j) ≡ end = no-trees s w n (4 * j) h in
+        let pa : 0 < q .aligned = aligned-as run _ (q .fitted) (q .takes) (g .positive) in
+        let c : countAt w (4 * i) ≡ countAt w (4 * i + 4) + 1 = child-count w (4 * i) stands (omega arith) hi in
+        let d = node-child w (4 * i) stands (omega arith) hi .some-node in
+        let px : 0 < extentAt m s w (4 * (i + 1)) .alignment = subst (λ (xs : List Extent). 0 < onlyExtent xs .alignment) item-is (q .leads (omega arith)) in
+        let es = sym (end-none (kindAt w (4 * i)) (q .ended)) ∙ sym (ap (λ (t : Trees). endOf (kindAt w (4 * i)) (q .ended) (extents m t)) none) ∙ q .ends
+        ∙ ap (endOf (kindAt w (4 * i)) 0) item-is ∙ item-end in
+        let al = sym (at-least-one (q .aligned) pa) ∙ sym (ap (λ (t : Trees). max (q .aligned) (alignments (extents m t))) none) ∙ q .aligns
+        ∙ ap alignments item-is ∙ at-least-one (extentAt m s w (4 * (i + 1)) .alignment) px in
+        let fs = sym (and-true (q .fitted)) ∙ sym (ap (λ (t : Trees). q .fitted && allWithin maxU64 (offsets m (sideOf (kindAt w (4 * i))) (q .ended) t)) none) ∙ q .fits in
+        record {
+          takes = e ∙ ap (heldBy (kindAt w (4 * i)) (firstAt w (4 * i))) (q .takes)
+              ∙ held-placed (kindAt w (4 * i)) (firstAt w (4 * i)) (record { bytes = q .ended; alignment = q .aligned }) (q .fitted)
+              ∙ ap₂ placedOf (ap₂ (λ (x y : ℕ). heldExtent (kindAt w (4 * i)) (firstAt w (4 * i)) (record { bytes = x; alignment = y })) es al ∙ sym (held-extent m s w i stands lo hi))
+              (fs ∙ sym (ap (allWithin maxU64) item-below));
+          list = sym (ap (λ (t : Trees). sets now j (map stored (offsets m (sideOf (kindAt w (4 * i))) (q .ended) t))) none) ∙ q .list
+              ∙ sym (ap (λ (v : List ℕ). sets entry (i + 1) (map stored v)) item-below);
+        }
+      where
+        at-least-one : (a : ℕ) → 0 < a → max a 1 ≡ a
+        at-least-one a p = omega arith
+
+  held-end : 1 ≤ countAt w (4 * i) → {r : Placed} → r ≡ heldBy (kindAt w (4 * i)) (firstAt w (4 * i)) run → Laid row w i entry now r
+  held-end c e = record {
+    aligned = held-positive (kindAt w (4 * i)) (firstAt w (4 * i)) run e (g .positive);
+    as-long = g .as-long;
+    beyond = λ k p. g .beyond k (omega arith);
+    below = λ m o s. held-end-below m o s e;
+  }
+
+-- Any node that holds something inside, whose children have all been put.
+pub walk-end : (row w : List ℕ) (i : ℕ) → NodeAt w (4 * i) → 27 ≤ kindAt w (4 * i) → kindAt w (4 * i) ≤ 30 → {entry now : List ℕ} {j n : ℕ} {run : Placed}
+    → Filling row w (kindAt w (4 * i)) (i + 1) (countAt w (4 * i) - 1) entry now j n run → n ≤ 0 → {r : Placed} → r ≡ endedBy (kindAt w (4 * i)) (firstAt w (4 * i)) run
+    → Laid row w i entry now r
+unfolding endedBy
+walk-end row w i stands lo hi {entry} {now} {j} {n} {run} g h {r} e = go (ltb (kindAt w (4 * i)) 29) refl
+  where
+    low : kindAt w (4 * i) < 29 → kindAt w (4 * i) ≤ 28
+    low p = omega arith
+
+    go : (t : Bool) → ltb (kindAt w (4 * i)) 29 ≡ t → Laid row w i entry now r
+    go true d = held-end row w i stands lo (low (ltb-true (kindAt w (4 * i)) 29 d)) g h (stands .some-node) (e ∙ rw d)
+    go false d = filling-end row w i (ltb-false (kindAt w (4 * i)) 29 d) hi g h (stands .some-node) (e ∙ rw d)
+
 -- What the walk of what an atomic or an array holds asks for.
 pub held-asks : (w : List ℕ) (i : ℕ) (l : List ℕ) → NodeAt w (4 * i) → 27 ≤ kindAt w (4 * i) → kindAt w (4 * i) ≤ 28 → Zeros l (i + 1) (countAt w (4 * i) - 1)
     → NodeAt w (4 * (i + 1)) × (countAt w (4 * i) ≡ countAt w (4 * (i + 1)) + 1) × Zeros l (i + 1 + 1) (countAt w (4 * (i + 1)) - 1)
@@ -523,3 +614,41 @@ held-asks w i l h lo hi z =
     let e : 4 * i + 4 ≡ 4 * (i + 1) = omega arith in
     let c : countAt w (4 * i) ≡ countAt w (4 * (i + 1)) + 1 = child-count w (4 * i) h (omega arith) hi ∙ ap (λ (at : ℕ). countAt w at + 1) e in
     (subst (NodeAt w) e (node-child w (4 * i) h (omega arith) hi), c, λ k g. ap (λ (j : ℕ). getD l j 0) (omega arith) ∙ z (k + 1) (omega arith))
+
+-- ---- Nodes that are plain, or hold one that is.
+
+pub not-simple : (w : List ℕ) (at : ℕ) → isSimple w at ≡ false → isPlain (kindAt w at) ≡ false
+unfolding isSimple
+not-simple w at h = go (isPlain (kindAt w at)) refl h
+  where
+    go : (t : Bool) → isPlain (kindAt w at) ≡ t → (t || (leb (kindAt w at) 28 && isPlain (kindAt w (at + 4)))) ≡ false → t ≡ false
+    go true e d = absurd (false≢true (sym d))
+    go false e d = refl
+
+-- What holds a plain node directly.
+pub simple-held : (w : List ℕ) (at : ℕ) → isSimple w at ≡ true → isPlain (kindAt w at) ≡ false → (27 ≤ kindAt w at) × (kindAt w at ≤ 28) × (isPlain (kindAt w (at + 4)) ≡ true)
+unfolding isSimple
+simple-held w at h e =
+    let g : (leb (kindAt w at) 28 && isPlain (kindAt w (at + 4))) ≡ true = rw e at h in
+    (not-plain (kindAt w at) e .0, leb-true (kindAt w at) 28 (both-left (leb (kindAt w at) 28) _ g), both-right (leb (kindAt w at) 28) _ g)
+
+pub simple-laid : (row w : List ℕ) (i : ℕ) → NodeAt w (4 * i) → isSimple w (4 * i) ≡ true → (l : List ℕ) → Zeros l (i + 1) (countAt w (4 * i) - 1)
+    → {x : Placed} → x ≡ simplePlaced row w (4 * i) → Laid row w i l l x
+unfolding simplePlaced
+simple-laid row w i h q l z {x} e = go (isPlain (kindAt w (4 * i))) refl
+  where
+    next : 4 * i + 4 ≡ 4 * (i + 1)
+    next = omega arith
+
+    go : (t : Bool) → isPlain (kindAt w (4 * i)) ≡ t → Laid row w i l l x
+    go true d = plain-laid row w i d l z (e ∙ rw d)
+    go false d =
+        let k = simple-held w (4 * i) q d in
+        let a = held-asks w i l h (k .0) (k .1) z in
+        held-laid row w i h (k .0) (k .1) l l z
+        (plain-laid row w (i + 1) (ap (λ (at : ℕ). isPlain (kindAt w at)) (sym next) ∙ k .2) l (a .2) refl)
+        (e ∙ rw d (ap (λ (at : ℕ). heldBy (kindAt w (4 * i)) (firstAt w (4 * i)) (placedOf (plainExtent row (kindAt w at)) true)) next))
+
+pub laid-as : {row w : List ℕ} {i : ℕ} {entry exit : List ℕ} {x : Placed} → Laid row w i entry exit x → {after : List ℕ} {y : Placed} → after ≡ exit → y ≡ x → Laid row w i entry after y
+laid-as {row} {w} {i} {entry} {exit} {x} l {after} {y} e d =
+    subst (λ (z : Placed). Laid row w i entry after z) (sym d) (subst (λ (v : List ℕ). Laid row w i entry v x) (sym e) l)

@@ -412,3 +412,11 @@ module _ {row w : List ℕ} {n i : ℕ} {bottom none : Bool} (g : Sought row w n
             ∙ sym (kept-from s w (n - i) (4 * i) i (g .there) left (sortAt s w (4 * i)) bottom plain q))
             ∙ turn m o s;
       }
+
+    -- a code
+    pub sought-code : kindAt w (4 * i) < 24 → {t u : Bool} → t ≡ (none || u) → u ≡ eqb (getD row (kindAt w (4 * i)) 0) 0 → Sought row w n (i + 1) false t
+    unfolding sizelessKind passesKind bottomAfter
+    sought-code lo {t} {u} e z =
+        let k = kindAt w (4 * i) in
+        sought-kept (rw (ne-eqb k 24 (λ d. omega arith), ne-eqb k 25 (λ d. omega arith))) e (z ∙ sym (rw (lt-ltb k 24 lo)))
+        (rw (ne-eqb k 26 (λ d. omega arith), lt-leb 29 k (omega arith))) (sym (rw (ne-eqb k 27 (λ d. omega arith), ne-eqb k 28 (λ d. omega arith))))

@@ -1,5 +1,5 @@
 -- Laws of the next multiple of a number.
-use Prim.Native.Nat.{ℕ, zero, suc, _+_, _-_, _*_, _/_, _%_, _≤_, _<_}
+use Prim.Native.Nat.{ℕ, suc, _+_, _-_, _*_, _/_, _%_, _≤_, _<_}
 use native.Mathlib.Omega.{arith}
 use native.Mathlib.Nat.{div-mul-le-self, lt-div-mul-add, div-lt-iff-lt-mul, div-add-mod', mod-lt, mul-le-mul-right, lt-of-mul-lt-mul-right}
 use mathlib.Core.Bool.{Bool, true, not, _||_}
@@ -68,6 +68,11 @@ module _ (a n : ℕ) where
         let l = mod-lt n p in
         let e : suc (n / a) * a ≡ a + n / a * a = omega arith in
         the-one (suc (n / a)) (omega arith) (omega arith) ∙ (omega arith)
+
+-- The next multiple by what is left over of the number raised by the step less one.
+pub by-remainder : (a n : ℕ) → n + (a - 1) - (n + (a - 1)) % a ≡ nextMultiple a n
+unfolding nextMultiple
+by-remainder a n = let d = div-add-mod' (n + (a - 1)) a in omega arith
 
 -- ---- Powers of two below 256, by a mask.
 

@@ -9,7 +9,7 @@ use lib.ListN.{length, getD, replicate}
 use lib.Seq.{sets}
 use Rattle.kinds.specs.Parse.{maxU64}
 use Rattle.kinds.specs.Primitive.{Widths}
-use Rattle.kinds.specs.Sheet.{countAt, labelAt, trees}
+use Rattle.kinds.specs.Sheet.{kindAt, firstAt, countAt, labelAt, trees}
 use Rattle.kinds.specs.Tree.{Trees, count}
 use Rattle.kinds.specs.declared.Refusal.the-variants.{SizeTooLarge}
 use Rattle.helper.specs.Measure.{fit, plusMeasured, largerMeasured, timesMeasured, RowOf}
@@ -82,7 +82,20 @@ closed run = record { bytes = nextMeasured (run .alignment) (run .bytes); alignm
 unfoldable pub heldBy : ℕ → ℕ → Placed → Placed
 heldBy k n x = record { bytes = cond (eqb k 28) (timesMeasured n (x .bytes)) (x .bytes); alignment = x .alignment; fits = x .fits }
 
+-- What a node of kind `k` that holds something inside makes of what its children take together: a container is closed.
+unfoldable pub endedBy : ℕ → ℕ → Placed → Placed
+endedBy k n run = cond (ltb k 29) (heldBy k n run) (closed run)
+
 -- ---- Nodes by their place: `w` is the words from the first node on, and `at` a node's first word in it.
+
+-- A node that holds nothing inside, or an atomic or an array of one; and what it takes.
+unfoldable pub isSimple : List ℕ → ℕ → Bool
+isSimple w at = isPlain (kindAt w at) || (leb (kindAt w at) 28 && isPlain (kindAt w (at + 4)))
+
+unfoldable pub simplePlaced : List ℕ → List ℕ → ℕ → Placed
+simplePlaced row w at =
+    cond (isPlain (kindAt w at)) (placedOf (plainExtent row (kindAt w at)) true)
+    (heldBy (kindAt w at) (firstAt w at) (placedOf (plainExtent row (kindAt w (at + 4))) true))
 
 -- What stands below the node at `at`.
 abbrev pub insideAt : List ℕ → List ℕ → ℕ → Trees

@@ -11,7 +11,7 @@ ghost use Rattle.kinds.specs.Walk.{NodeAt};
 ghost use Rattle.helper.specs.Measure.{RowOf, fit, plusMeasured, largerMeasured};
 ghost use Rattle.layout.specs.Answer.{layoutIn, listIn, layoutAnswer, layoutList, listAfter};
 ghost use Rattle.layout.specs.Layout.{nextMultiple, noRoom, laidOut};
-ghost use Rattle.layout.specs.Placing.{nextMeasured, placedOf, storedOf, isBytes, isPlain, partKind, plainExtent, beginMeasured, withField, closed, heldBy, Zeros, Laid};
+ghost use Rattle.layout.specs.Placing.{nextMeasured, placedOf, storedOf, isBytes, isPlain, isSimple, simplePlaced, partKind, plainExtent, beginMeasured, withField, closed, heldBy, endedBy, Zeros, Laid};
 ghost use Rattle.layout.specs.Placing.{sizelessKind, passesKind, bottomAfter, foundIn, withinLimit, finished, fittedAt, listAt};
 use helper::Measured;
 use helper::max_size;
@@ -99,8 +99,8 @@ fn remainder(n: u64, alignment: u8) -> u64
     n % a
 }
 
-// The next multiple of an alignment.
-fn rounded_up(n: u64, alignment: u8) -> Measured
+// The next multiple of an alignment, of one of the last numbers below 2^64.
+fn rounded_last(n: u64, alignment: u8) -> Measured
     requires { ⌜ 0 < alignment ⌝ }
     ensures { λ r. ⌜ r ≡ fit (nextMultiple alignment n) ⌝ }
 {
@@ -113,6 +113,19 @@ fn rounded_up(n: u64, alignment: u8) -> Measured
         return Measured::Bytes(n + padding);
     }
     Measured::TooLarge
+}
+
+// The next multiple of an alignment: by a sum and no branch, wherever that fits.
+fn rounded_up(n: u64, alignment: u8) -> Measured
+    requires { ⌜ 0 < alignment ⌝ }
+    ensures { λ r. ⌜ r ≡ fit (nextMultiple alignment n) ⌝ }
+{
+    let most = wide(alignment) - 1;
+    if n <= 18446744073709551615 - most {
+        let up = n + most;
+        return Measured::Bytes(up - remainder(up, alignment));
+    }
+    rounded_last(n, alignment)
 }
 
 fn next_multiple(n: Measured, alignment: u8) -> Measured
@@ -175,6 +188,33 @@ fn plain(sizes: &[u8; 24], kind: u64) -> Placed
     Placed::new()
 }
 
+// Whether nothing below the node holds anything inside: such a node, or an atomic or an array of one.
+fn is_simple(nodes: &[u64], at: usize) -> bool
+    requires { ⌜ NodeAt (now nodes) at ⌝ }
+    ensures { λ r. ⌜ r ≡ isSimple (now (nodes .entry)) at ⌝ }
+{
+    let kind = nodes[at];
+    if is_plain(kind) {
+        return true;
+    }
+    if ARRAY < kind {
+        return false;
+    }
+    is_plain(nodes[at + 4])
+}
+
+// What it takes.
+fn simple(sizes: &[u8; 24], nodes: &[u64], at: usize) -> Placed
+    requires { ⌜ NodeAt (now nodes) at × (isSimple (now nodes) at ≡ true) ⌝ }
+    ensures { λ r. ⌜ r ≡ simplePlaced (now (sizes .entry)) (now (nodes .entry)) at ⌝ }
+{
+    let kind = nodes[at];
+    if is_plain(kind) {
+        return plain(sizes, kind);
+    }
+    plain(sizes, nodes[at + 4]).held_by(kind, nodes[at + 1])
+}
+
 impl Placed {
     // No room.
     fn new() -> Self
@@ -214,6 +254,17 @@ impl Placed {
             };
         }
         self
+    }
+
+    // What a node makes of what its children take together.
+    fn ended_by(self, kind: u64, n: u64) -> Self
+        requires { ⌜ 0 < self .alignment ⌝ }
+        ensures { λ r. ⌜ r ≡ endedBy kind n self ⌝ }
+    {
+        if kind < STRUCT {
+            return self.held_by(kind, n);
+        }
+        self.closed()
     }
 }
 
@@ -285,33 +336,28 @@ fn place(sizes: &[u8; 24], nodes: &[u64], i: usize, offsets: &mut [u64]) -> Plac
     ensures { λ r. ⌜ Laid (now (sizes .entry)) (now (nodes .entry)) i (now (offsets .entry)) (now (offsets .exit)) r ⌝ }
 {
     let at = 4 * i;
+    if is_simple(nodes, at) {
+        return simple(sizes, nodes, at);
+    }
     let kind = nodes[at];
-    if is_plain(kind) {
-        return plain(sizes, kind);
-    }
-    if kind < STRUCT {
-        let item = place(sizes, &nodes[0..], i + 1, offsets);
-        return item.held_by(kind, nodes[at + 1]);
-    }
     let mut j = i + 1;
     let mut left = (nodes[at + 3] as usize) - 1;
     let mut run = Placed::new();
     while 0 < left {
-        let here = 4 * j;
-        let field = nodes[here];
-        let count = nodes[here + 3] as usize;
-        if is_plain(field) {
-            run = add_field(run, kind, plain(sizes, field), offsets, j);
-            j += count;
-            left -= count;
-            continue;
+        let mut x = Placed::new();
+        if is_simple(nodes, 4 * j) {
+            x = simple(sizes, nodes, 4 * j);
+        } else {
+            x = place(sizes, &nodes[0..], j, offsets);
         }
-        let x = place(sizes, &nodes[0..], j, offsets);
+        // one call for both, so that the compiler puts it into the loop
         run = add_field(run, kind, x, offsets, j);
+        // read only here, so that nothing of it is kept over the call
+        let count = nodes[4 * j + 3] as usize;
         j += count;
         left -= count;
     }
-    run.closed()
+    run.ended_by(kind, nodes[4 * i + 1])
 }
 
 fn either(a: bool, b: bool) -> bool
@@ -392,6 +438,13 @@ fn find(sizes: &[u8; 24], nodes: &[u64], n: usize) -> Found
     while i < n {
         let at = 4 * i;
         let kind = nodes[at];
+        if kind < PRIMITIVES {
+            // codes, which are most of all nodes
+            none = either(none, sizes[kind as usize] == 0);
+            bottom = false;
+            i += 1;
+            continue;
+        }
         if is_bit_field(kind) {
             return Found::BitField(i);
         }

@@ -25,7 +25,7 @@ use Rattle.layout.specs.declared.LaidOut.{LaidOut}
 use Rattle.layout.specs.declared.LaidOut.the-variants as A
 use Rattle.layout_agreement.specs.Laid.{Fits}
 use Rattle.layout_agreement.proofs.AnswerLaws.{layout-not-short, layout-not-row, layout-bits, layout-nothing, layout-bytes, layout-large}
-use Rattle.layout_agreement.proofs.OffsetLaws.{offsets-length}
+use Rattle.layout.proofs.FillLaws.{offsets-length}
 
 -- An answer that is another tells what the other tells.
 by-answer : {x y z : LaidOut} {Q : Type 0} → x ≡ y → (y ≡ z) ↔ Q → (x ≡ z) ↔ Q

@@ -11,6 +11,7 @@ use Rattle.kinds.specs.Tree.{Label, Trees, end, node, primitive, bitField, type
 use Rattle.kinds.specs.declared.Primitive.{Primitive}
 use Rattle.kinds.specs.declared.Primitive.the-variants as P
 use Rattle.layout.specs.Layout.{Extent, part, primitiveAlignment, primitiveExtent, alignments, onlyExtent, nodeExtent, extents, extent}
+use Rattle.layout.proofs.FillLaws.{alignments-positive}
 use Rattle.layout_agreement.specs.Fields.{Positive, alignmentAt}
 
 -- Every row's widths are positive; a number that is no row's has those of row 0.
@@ -22,11 +23,6 @@ rows-positive (suc (suc (suc zero))) = record { long = omega arith; unsigned-lon
 rows-positive (suc (suc (suc (suc n)))) = record { long = omega arith; unsigned-long = omega arith; pointer = omega arith; long-double = omega arith }
 
 -- ---- The largest of alignments.
-
-pub alignments-positive : (xs : List Extent) → 0 < alignments xs
-unfolding alignments
-alignments-positive [] = omega arith
-alignments-positive (x ∷ xs) = omega (arith, alignments-positive xs, le-max-right (x .alignment) (alignments xs))
 
 pub alignment-below : (xs : List Extent) (i : ℕ) → alignmentAt xs i ≤ alignments xs
 unfolding alignments

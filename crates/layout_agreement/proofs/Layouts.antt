@@ -21,6 +21,7 @@ use Rattle.helper.specs.declared.Sized.the-variants as S
 use Rattle.layout.specs.Answer.{layoutOf, layoutIn, layoutAnswer, layoutList}
 use Rattle.layout.specs.Layout.{laidOut, firstBitField, anySizeless, nextMultiple, alignments, fieldsEnd, membersEnd, nodeExtent, extents, extent, Side, fields, others, holdsInside, inNode, offsets}
 use Rattle.layout.specs.declared.LaidOut.the-variants.{Refused, Nothing, Bytes}
+use Rattle.layout.proofs.FillLaws.{offsets-length, alignments-positive}
 use Rattle.layout.proofs.MultipleLaws as M
 use Rattle.layout_agreement.specs.Cases.{AllHold, cases}
 use Rattle.layout_agreement.specs.Fields.{Positive, bytesAt, alignmentAt, fieldOffsets, offsetAt, endAt, endBefore, ownNumbers}
@@ -30,9 +31,9 @@ use Rattle.layout_agreement.proofs.AlikeLaws.{bits-alike, sizeless-alik
 use Rattle.layout_agreement.proofs.BitFieldLaws.{first-is-least, none-is-first}
 use Rattle.layout_agreement.proofs.CallLaws.{refused-answer, room-answer, answer-no-row, answer-short, answer-bits, answer-nothing, answer-bytes, answer-large, list-length, list-refused, list-nothing, list-bytes}
 use Rattle.layout_agreement.proofs.CasesHold.{all-hold}
-use Rattle.layout_agreement.proofs.ExtentLaws.{rows-positive, alignments-positive, alignment-below, alignments-least, aligned-at, extents-aligned, extent-aligned}
+use Rattle.layout_agreement.proofs.ExtentLaws.{rows-positive, alignment-below, alignments-least, aligned-at, extents-aligned, extent-aligned}
 use Rattle.layout_agreement.proofs.FieldLaws.{field-next, fields-apart, fields-held, fields-reach, members-held, members-reach}
-use Rattle.layout_agreement.proofs.OffsetLaws.{offsets-length, own-fields, own-others, numbers-below}
+use Rattle.layout_agreement.proofs.OffsetLaws.{own-fields, own-others, numbers-below}
 use Rattle.layout_agreement.proofs.ShownLaws.{bits-shown}
 use Rattle.layout_agreement.proofs.SizeLaws.{size-below, sized-below, answer-below}
 use Rattle.layout_agreement.proofs.WholeLaws.{extent-whole}

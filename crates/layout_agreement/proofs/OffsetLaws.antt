@@ -9,6 +9,7 @@ use lib.Seq.{take-at, drop-at}
 use Rattle.kinds.specs.Primitive.{Widths}
 use Rattle.kinds.specs.Tree.{Label, Trees, end, node, count}
 use Rattle.layout.specs.Layout.{Side, fields, others, extents, nodeExtent, begins, inNode, holdsInside, offsets}
+use Rattle.layout.proofs.FillLaws.{offsets-length}
 use Rattle.layout_agreement.specs.Fields.{fieldOffsets, ownNumbers}
 
 of-either : (b : Bool) (ns : List ℕ) (n : ℕ) → length ns ≡ n → length (cond b ns (replicate n 0)) ≡ n
@@ -20,19 +21,8 @@ module _ (w : Widths) where
   abbrev pub below : Label → Trees → List ℕ
   below l cs = cond (holdsInside l) (offsets w (inNode l) 0 cs) (replicate (count cs) 0)
 
-  pub offsets-length : (k : Side) (e : ℕ) (ts : Trees) → length (offsets w k e ts) ≡ count ts
-  unfolding offsets count
-  offsets-length k e end = refl
-  offsets-length k e (node l cs ts) =
-      omega (
-        arith,
-        length-append (below l cs) (offsets w k (begins k e (nodeExtent w l (extents w cs)) + nodeExtent w l (extents w cs) .bytes) ts),
-        of-either (holdsInside l) (offsets w (inNode l) 0 cs) (count cs) (offsets-length (inNode l) 0 cs),
-        offsets-length k (begins k e (nodeExtent w l (extents w cs)) + nodeExtent w l (extents w cs) .bytes) ts,
-      )
-
   pub below-length : (l : Label) (cs : Trees) → length (below l cs) ≡ count cs
-  below-length l cs = of-either (holdsInside l) (offsets w (inNode l) 0 cs) (count cs) (offsets-length (inNode l) 0 cs)
+  below-length l cs = of-either (holdsInside l) (offsets w (inNode l) 0 cs) (count cs) (offsets-length w (inNode l) 0 cs)
 
   -- The fields' own numbers are where they begin; those of other trees are 0.
   pub own-fields : (e : ℕ) (ts : Trees) → ownNumbers ts (offsets w fields e ts) ≡ fieldOffsets e (extents w ts)

@@ -29,7 +29,8 @@ use Rattle.layout.proofs.MultipleLaws.{at-or-after}
 use Rattle.layout_agreement.specs.Fields.{Positive}
 use Rattle.layout_agreement.proofs.AnswerLaws.{layout-laid}
 use Rattle.layout_agreement.proofs.CallLaws.{in-bytes, held-answer, refused-answer}
-use Rattle.layout_agreement.proofs.ExtentLaws.{rows-positive, alignments-positive, Aligned, extents-aligned}
+use Rattle.layout.proofs.FillLaws.{alignments-positive}
+use Rattle.layout_agreement.proofs.ExtentLaws.{rows-positive, Aligned, extents-aligned}
 use Rattle.layout_agreement.proofs.PartLaws.{neither, sized-parts, plain-parts}
 
 -- There is a size, and it is at most this.

@@ -4,6 +4,7 @@ use helper::Sized;
 use kinds::Compared;
 use kinds::MAX_TEXT;
 use kinds::Refusal;
+use layout::LaidOut;
 use libc::STDIN_FILENO;
 use libc::STDOUT_FILENO;
 use lines::Decoded;
@@ -169,6 +170,36 @@ fn answer_size(row: u64, word: &[u8], words: &[u64], names: &[u8], out: &mut [u8
     }
 }
 
+// The numbers of `n` nodes.
+fn put_offsets(out: &mut [u8], at: usize, list: &[u64], n: u16) -> usize {
+    let mut to = lines::put_marked(out, at, b' ', lines::word_at(list, 0));
+    let mut k = 1;
+    while k < n {
+        to = lines::put_marked(out, to, b',', lines::word_at(list, k as usize));
+        k += 1;
+    }
+    to
+}
+
+fn answer_layout(
+    row: u64,
+    words: &[u64],
+    names: &[u8],
+    offsets: &mut [u64],
+    out: &mut [u8],
+) -> usize {
+    match layout::layout(words, names, row, offsets) {
+        LaidOut::Refused(why) => put_refused(out, b"no ", why),
+        LaidOut::Nothing => lines::put_bytes(out, 0, b"none"),
+        LaidOut::Bytes(n, alignment) => {
+            let at = lines::put_bytes(out, 0, b"ok");
+            let bytes = lines::put_marked(out, at, b' ', n);
+            let to = lines::put_marked(out, bytes, b' ', alignment);
+            put_offsets(out, to, offsets, (lines::word_at(words, 0) % 65536) as u16)
+        }
+    }
+}
+
 fn answer_length(words: &[u64], names: &[u8], out: &mut [u8]) -> usize {
     match static_str::static_encoding_str_len(words, names) {
         Printed::Refused(why) => put_refused(out, b"refused ", why),
@@ -308,12 +339,21 @@ fn answer_tree(
     }
 }
 
+fn is_by_row(question: &[u8]) -> bool {
+    if check::same(question, b"size-in") {
+        return true;
+    }
+    check::same(question, b"layout")
+}
+
 // A row's number in decimal, then a tree.
-fn answer_size_in(
+fn answer_by_row(
+    question: &[u8],
     arguments: &[u8],
     text: &mut [u8],
     words: &mut [u64],
     names: &mut [u8],
+    list: &mut [u64],
     out: &mut [u8],
 ) -> usize {
     let mut row = [0u64; 1];
@@ -327,7 +367,12 @@ fn answer_size_in(
     match load_tree(lines::rest(arguments, b' '), text, words, names) {
         Loaded::Unread(why) => put_refused(out, b"unread ", why),
         Loaded::Bad => put_bad_line(out),
-        Loaded::Tree => answer_size(row[0], b"no ", words, names, out),
+        Loaded::Tree => {
+            if check::same(question, b"layout") {
+                return answer_layout(row[0], words, names, list, out);
+            }
+            answer_size(row[0], b"no ", words, names, out)
+        }
     }
 }
 
@@ -406,8 +451,8 @@ fn answer(
     if check::same(question, b"text") {
         return answer_matching(arguments, text, aw, an, out);
     }
-    if check::same(question, b"size-in") {
-        return answer_size_in(arguments, text, aw, an, out);
+    if is_by_row(question) {
+        return answer_by_row(question, arguments, text, aw, an, bw, out);
     }
     if is_comparison(question) {
         return answer_trees(question, arguments, text, aw, an, bw, bn, out);

@@ -17,7 +17,8 @@ use Rattle.lines.specs.declared.Decoded.{Decoded}
 use Rattle.lines.specs.declared.Decoded.the-variants.{Items, Bad}
 use Rattle.lines.proofs.PutLaws.{sets-out}
 use Rattle.kinds.specs.Print.{decimal}
-use Rattle.tool.specs.Answer.{countOf, shownByte, times, holders, depthOf, lineOf, countText, kindNames, valuesText, rightText, nodeText, columnText, entryText}
+use Rattle.tool.specs.Answer.{countOf, shownByte, times, holders, depthOf, lineOf, countText, kindNames, valuesText, rightText, typeText, columnText, entryText}
+use Rattle.tool.specs.Answer.{offsetText, paddingText}
 use Rattle.tool.specs.Answer.{isNumber, limitText}
 use Rattle.tool.specs.Answer.{byteText, containerText, shownText, shownOrCut, markText, namedText, refusedBy}
 use Rattle.tool.specs.Answer.{before, after, compoundNames, kindText, placeText, unitText, valueText, differenceBy, differenceText}
@@ -133,11 +134,24 @@ right-wide n widest d w p q h =
     let e : length (decimal widest) - length (decimal n) ≤ 0 = omega arith in
     sym (ap (λ (s : List ℕ). s ++ decimal n) (times-none (length (decimal widest) - length (decimal n)) (32 ∷ []) e))
 
-pub node-is : (words names : List ℕ) (i last d k m n : ℕ) → d ≡ depthOf words i → k ≡ getD words (4 * i) 0 → m ≡ getD words (4 * i + 1) 0 → n
-    ≡ getD words (4 * i + 2) 0 → rightText i last ++ ((32 ∷ []) ++ (times d (32 ∷ 32 ∷ []) ++ (lineOf k kindNames ++ valuesText names k m n)))
-    ≡ nodeText words names i last
-unfolding nodeText
-node-is words names i last d k m n p q r s = rw (p, q, r, s)
+pub type-is : (words names : List ℕ) (i d k m n : ℕ) → d ≡ depthOf words i → k ≡ getD words (4 * i) 0 → m ≡ getD words (4 * i + 1) 0 → n
+    ≡ getD words (4 * i + 2) 0 → times d (32 ∷ 32 ∷ []) ++ (lineOf k kindNames ++ valuesText names k m n) ≡ typeText words names i
+unfolding typeText
+type-is words names i d k m n p q r s = rw (p, q, r, s)
+
+pub offset-shown : (field : Bool) (n : ℕ) → field ≡ true → columnText n 1000000000 ≡ offsetText field n
+unfolding offsetText
+offset-shown field n e = sym (rw e)
+
+pub offset-none : (field : Bool) (n : ℕ) → field ≡ false → bytes "            " ≡ offsetText field n
+unfolding offsetText
+offset-none field n e = sym (rw e)
+
+pub padding-is : (words : List ℕ) (i begin n d : ℕ) → d ≡ depthOf words i
+    → bytes "    " ++ (columnText begin 1000000000 ++ (columnText n 1000000000 ++ (bytes "         " ++ (times d (32 ∷ 32 ∷ []) ++ bytes "padding"))))
+    ≡ paddingText words i begin n
+unfolding paddingText
+padding-is words i begin n d p = rw p
 
 pub entry-is : (text list piece : List ℕ) (k m n v : ℕ) → piece ≡ take n (drop m text)
     → m ≡ getD list (3 * k) 0 → n ≡ getD list (3 * k + 1) 0 → v ≡ getD list (3 * k + 2) 0
@@ -216,30 +230,39 @@ pub text-cut : (text front : List ℕ) → front ≡ take 60 text → 2000 < len
 unfolding shownOrCut
 text-cut text front e h = rw e (sym (rw (lt-leb (length text) 2000 h)))
 
-pub mark-none : (carried place : ℕ) → carried ≡ 45 → [] ≡ markText carried place
-unfolding markText
-mark-none carried place e = sym (rw (eq-eqb carried 45 e))
+module _ (carried place : ℕ) where
+  pub mark-none : carried ≡ 45 → [] ≡ markText carried place
+  unfolding markText
+  mark-none e = sym (rw (eq-eqb carried 45 e))
 
-pub mark-under : (carried place : ℕ) → (carried ≡ 45 → ⊥) → (10 ∷ []) ++ (times place (32 ∷ []) ++ (94 ∷ [])) ≡ markText carried place
-unfolding markText
-mark-under carried place e = sym (rw (ne-eqb carried 45 e))
+  pub mark-node : (carried ≡ 45 → ⊥) → carried ≡ 110 → [] ≡ markText carried place
+  unfolding markText
+  mark-node d e = sym (rw (ne-eqb carried 45 d, eq-eqb carried 110 e))
 
-module _ (carried b container : ℕ) where
-  pub named-byte : carried ≡ 98 → byteText b ≡ namedText carried b container
+  pub mark-under : (carried ≡ 45 → ⊥) → (carried ≡ 110 → ⊥) → (10 ∷ []) ++ (times place (32 ∷ []) ++ (94 ∷ [])) ≡ markText carried place
+  unfolding markText
+  mark-under d e = sym (rw (ne-eqb carried 45 d, ne-eqb carried 110 e))
+
+module _ (carried place b container : ℕ) where
+  pub named-byte : carried ≡ 98 → byteText b ≡ namedText carried place b container
   unfolding namedText
   named-byte e = sym (rw (eq-eqb carried 98 e))
 
-  pub named-container : (carried ≡ 98 → ⊥) → carried ≡ 99 → containerText container ≡ namedText carried b container
+  pub named-container : (carried ≡ 98 → ⊥) → carried ≡ 99 → containerText container ≡ namedText carried place b container
   unfolding namedText
   named-container d e = sym (rw (ne-eqb carried 98 d, eq-eqb carried 99 e))
 
-  pub named-none : (carried ≡ 98 → ⊥) → (carried ≡ 99 → ⊥) → [] ≡ namedText carried b container
+  pub named-node : (carried ≡ 98 → ⊥) → (carried ≡ 99 → ⊥) → carried ≡ 110 → decimal place ≡ namedText carried place b container
   unfolding namedText
-  named-none d e = sym (rw (ne-eqb carried 98 d, ne-eqb carried 99 e))
+  named-node d e f = sym (rw (ne-eqb carried 98 d, ne-eqb carried 99 e, eq-eqb carried 110 f))
+
+  pub named-none : (carried ≡ 98 → ⊥) → (carried ≡ 99 → ⊥) → (carried ≡ 110 → ⊥) → [] ≡ namedText carried place b container
+  unfolding namedText
+  named-none d e f = sym (rw (ne-eqb carried 98 d, ne-eqb carried 99 e, ne-eqb carried 110 f))
 
 pub refused-is : (line text why reason : List ℕ) (carried : ℕ) → carried ≡ getD line 0 0 → reason ≡ drop (until 32 line + 1) line → shownOrCut text ++
     (markText carried (getD why 1 0) ++ ((10 ∷ 114 ∷ 101 ∷ 102 ∷ 117 ∷ 115 ∷ 101 ∷ 100 ∷ 32 ∷ 40 ∷ []) ++
-    (decimal (getD why 0 0) ++ ((41 ∷ 58 ∷ 32 ∷ []) ++ (reason ++ namedText carried (getD why 2 0) (getD why 3 0))))))
+    (decimal (getD why 0 0) ++ ((41 ∷ 58 ∷ 32 ∷ []) ++ (reason ++ namedText carried (getD why 1 0) (getD why 2 0) (getD why 3 0))))))
     ≡ refusedBy line text why
 unfolding refusedBy
 refused-is line text why reason carried p q = rw (p, q)

@@ -8,6 +8,8 @@ use Rattle.kinds.specs.Byte.{byte, bytes}
 use Rattle.kinds.specs.Print.{decimal}
 use Rattle.helper.specs.declared.Sized.{Sized}
 use Rattle.helper.specs.declared.Sized.the-variants as S
+use Rattle.layout.specs.declared.LaidOut.{LaidOut}
+use Rattle.layout.specs.declared.LaidOut.the-variants as A
 use Rattle.lines.specs.Answer.{until, each, decimals, isDecimals}
 use Rattle.reason.specs.Reason as R
 
@@ -66,14 +68,16 @@ valuesText names k m n =
 unfoldable pub rightText : ℕ → ℕ → List ℕ
 rightText n widest = times (length (decimal widest) - length (decimal n)) (bytes " ") ++ decimal n
 
--- The line of node `i`: its number, in a column for the last one's, and its kind, two columns deeper than its parent's.
-unfoldable pub nodeText : List ℕ → List ℕ → ℕ → ℕ → List ℕ
-nodeText w names i last =
-    rightText i last
-    ++ (bytes " "
-    ++ (times (depthOf w i) (bytes "  ")
+-- A node's kind with its numbers or its name, two columns deeper than its parent's.
+unfoldable pub typeText : List ℕ → List ℕ → ℕ → List ℕ
+typeText w names i =
+    times (depthOf w i) (bytes "  ")
     ++ (lineOf (getD w (4 * i) 0) kindNames
-    ++ valuesText names (getD w (4 * i) 0) (getD w (4 * i + 1) 0) (getD w (4 * i + 2) 0))))
+    ++ valuesText names (getD w (4 * i) 0) (getD w (4 * i + 1) 0) (getD w (4 * i + 2) 0))
+
+-- The line of node `i`: its number, in a column for the last one's, and its type.
+unfoldable pub nodeText : List ℕ → List ℕ → ℕ → ℕ → List ℕ
+nodeText w names i last = rightText i last ++ (bytes " " ++ typeText w names i)
 
 -- A number of a table, two columns behind what stands before it.
 unfoldable pub columnText : ℕ → ℕ → List ℕ
@@ -88,6 +92,39 @@ entryText text list k =
     ++ (columnText (getD list (3 * k + 2) 0) 1000000000
     ++ (bytes "  "
     ++ shownText (take (getD list (3 * k + 1) 0) (drop (getD list (3 * k) 0) text))))))
+
+-- ---- A layout, a node or a hole a line.
+
+-- The offset of a field, and an empty column for what is none.
+unfoldable pub offsetText : Bool → ℕ → List ℕ
+offsetText field offset = cond field (columnText offset 1000000000) (bytes "            ")
+
+-- The size and the alignment of a node, by the library's answer for what it holds as a tree of its own; nothing of a node that is not laid out. Such a part
+-- can be too large where the whole is not: it is the item of an array of length 0.
+unfoldable pub extentText : LaidOut → List ℕ
+extentText (A.Refused why) = bytes "   too large       "
+extentText A.Nothing = bytes "                   "
+extentText (A.Bytes n a) = columnText n 1000000000 ++ columnText a 10000
+
+-- The line of node `i`: its number, its offset if it is a field, its size and alignment, and its type.
+unfoldable pub laidText : List ℕ → List ℕ → ℕ → Bool → ℕ → LaidOut → List ℕ
+laidText w names i field offset x = rightText i 1000 ++ (offsetText field offset ++ (extentText x ++ (bytes "  " ++ typeText w names i)))
+
+-- The line of the padding after node `i`: where it begins, its bytes, and the word, as deep as the node.
+unfoldable pub paddingText : List ℕ → ℕ → ℕ → ℕ → List ℕ
+paddingText w i begin n =
+    bytes "    "
+    ++ (columnText begin 1000000000
+    ++ (columnText n 1000000000
+    ++ (bytes "         "
+    ++ (times (depthOf w i) (bytes "  ")
+    ++ bytes "padding"))))
+
+-- The last line: the size and the alignment of the whole.
+unfoldable pub wholeText : ℕ → ℕ → List ℕ
+wholeText n a = countText n (bytes "byte") ++ (bytes ", alignment " ++ decimal a)
+
+-- ---- Sizes.
 
 -- That a size is above the largest of its row.
 unfoldable pub limitText : ℕ → List ℕ
@@ -123,24 +160,27 @@ unfoldable pub shownOrCut : List ℕ → List ℕ
 shownOrCut text = cond (leb (length text) 2000) (shownText text) (shownText (take 60 text) ++ bytes "...")
 
 -- Why an input was turned away, a line for each number of a refusal. A line says first what the refusal carries (`-` nothing, `^` a place, `b` a
--- place and a byte, `c` a place and a container) and then the reason, up to the byte or container that it names. A refusal more is a line here.
+-- place and a byte, `c` a place and a container, `n` a node) and then the reason, up to the byte, container or node that it names. A refusal more is a line here.
 unfoldable pub refusals : List ℕ
 refusals =
     bytes "-\n- the text has more than 2,000 bytes\n- the lists are too short for the tree\n- the lists hold no tree\n"
-    ++ (bytes "- a name is neither ? nor letters, digits and underscores\n- the output is too short for the text\n- the size is above 2^64 - 1 bytes, or in row 2 above 2^32 - 1\n"
+    ++ (bytes "- a name is neither ? nor letters, digits and underscores\n- the output is too short for the text\n- the size or an offset is above 2^64 - 1 bytes, or in row 2 above 2^32 - 1\n"
     ++ (bytes "^ the text ends where another byte must stand\nb no type starts with \nb f, d or D must follow j, not \n^ a digit must stand here\n"
     ++ (bytes "^ a number is above 2^64 - 1, or a bitfield's size above 255\n^ no ] follows the array's item\n"
     ++ (bytes "c the text ends inside the \nc neither ? nor letters, digits and underscores name the \n^ bytes remain after the type\n"
     ++ (bytes "^ no digit follows the type\n^ the number is above 4294967295\n- the signature is empty\n^ the number starts with a surplus zero\n"
-    ++ bytes "- there is no row of that number: they are 0 to 3")))))
+    ++ bytes "- there is no row of that number: they are 0 to 3\nn a bitfield cannot be laid out: node ")))))
 
--- A line with a mark under the place, unless the refusal has none.
+-- A line with a mark under the place, unless the refusal has none in the text.
 unfoldable pub markText : ℕ → ℕ → List ℕ
-markText carried place = cond (eqb carried (byte "-")) [] (bytes "\n" ++ (times place (bytes " ") ++ bytes "^"))
+markText carried place = cond (eqb carried (byte "-") || eqb carried (byte "n")) [] (bytes "\n" ++ (times place (bytes " ") ++ bytes "^"))
 
--- The byte or the container that a refusal names.
-unfoldable pub namedText : ℕ → ℕ → ℕ → List ℕ
-namedText carried b container = cond (eqb carried (byte "b")) (byteText b) (cond (eqb carried (byte "c")) (containerText container) [])
+-- The byte, the container or the node that a refusal names; a node's number stands where other refusals have a place.
+unfoldable pub namedText : ℕ → ℕ → ℕ → ℕ → List ℕ
+namedText carried place b container =
+    cond (eqb carried (byte "b")) (byteText b)
+    (cond (eqb carried (byte "c")) (containerText container)
+    (cond (eqb carried (byte "n")) (decimal place) []))
 
 -- A refusal by its line of `refusals`: the text, a mark under the place if there is one, and the reason.
 unfoldable pub refusedBy : List ℕ → List ℕ → List ℕ → List ℕ
@@ -151,7 +191,7 @@ refusedBy line text why =
     ++ (decimal (getD why 0 0)
     ++ (bytes "): "
     ++ (drop (until (byte " ") line + 1) line
-    ++ namedText (getD line 0 0) (getD why 2 0) (getD why 3 0))))))
+    ++ namedText (getD line 0 0) (getD why 1 0) (getD why 2 0) (getD why 3 0))))))
 
 unfoldable pub refusedText : List ℕ → List ℕ → List ℕ
 refusedText text why = refusedBy (lineOf (getD why 0 0) refusals) text why

@@ -1,11 +1,13 @@
 // Answers a command on the command line, or commands from standard input, a line each. At most 524,288 bytes of
 // commands are read.
+mod fields;
 mod show;
 
 use helper::Sized;
 use kinds::Compared;
 use kinds::MAX_TEXT;
 use kinds::ROWS;
+use layout::LaidOut;
 use libc::STDERR_FILENO;
 use libc::STDIN_FILENO;
 use libc::STDOUT_FILENO;
@@ -25,6 +27,9 @@ const MAX_ARGUMENT: usize = 4096;
 // The most bytes of a line that is written.
 const MAX_LINE: usize = 8192;
 
+// The most nodes of a tree.
+const MAX_NODES: usize = MAX_TEXT + 1;
+
 // The most numbers that a signature uses: three for each entry.
 const MAX_NUMBERS: usize = 3 * (MAX_TEXT / 2);
 
@@ -42,18 +47,19 @@ fn say_line(out: &mut [u8], at: usize) {
 fn say_usage(to: i32) {
     io::write_all(
         to,
-        b"usage: berzhotun read TEXT         the tree, a node a line\n\
-            \x20      berzhotun read-strict TEXT  the same, but a number with a surplus zero is refused\n\
-            \x20      berzhotun start TEXT        the tree of the type at the start of TEXT, and the rest\n\
-            \x20      berzhotun print TEXT        the printed text of the tree\n\
-            \x20      berzhotun size TEXT [ROW]   its size in each row, or in one: 0 is 64-bit Apple ARM, 1 x86_64, 2 32-bit ARM, 3 as 0 with the guide's long\n\
-            \x20      berzhotun compare A B       whether the trees of A and B are equivalent, by levels, or where they differ\n\
-            \x20      berzhotun compare-all A B   the same with all fields\n\
-            \x20      berzhotun reason A B        the same for programs: yes, or the first difference in bytes\n\
-            \x20      berzhotun reason-all A B    the same with all fields\n\
-            \x20      berzhotun match A TEXT      whether the tree of A is equivalent to TEXT\n\
-            \x20      berzhotun signature TEXT    the types of a method's signature with their numbers, a line each\n\
-            \x20      berzhotun -                 commands from standard input, a line each\n",
+        b"usage: berzhotun read TEXT          the tree, a node a line\n\
+            \x20      berzhotun read-strict TEXT   the same, but a number with a surplus zero is refused\n\
+            \x20      berzhotun start TEXT         the tree of the type at the start of TEXT, and the rest\n\
+            \x20      berzhotun print TEXT         the printed text of the tree\n\
+            \x20      berzhotun size TEXT [ROW]    its size in each row, or in one: 0 is 64-bit Apple ARM, 1 x86_64, 2 32-bit ARM, 3 as 0 with the guide's long\n\
+            \x20      berzhotun layout TEXT [ROW]  where each field lies, and the padding, in a row: 0 if none is given\n\
+            \x20      berzhotun compare A B        whether the trees of A and B are equivalent, by levels, or where they differ\n\
+            \x20      berzhotun compare-all A B    the same with all fields\n\
+            \x20      berzhotun reason A B         the same for programs: yes, or the first difference in bytes\n\
+            \x20      berzhotun reason-all A B     the same with all fields\n\
+            \x20      berzhotun match A TEXT       whether the tree of A is equivalent to TEXT\n\
+            \x20      berzhotun signature TEXT     the types of a method's signature with their numbers, a line each\n\
+            \x20      berzhotun -                  commands from standard input, a line each\n",
     );
 }
 
@@ -226,18 +232,114 @@ fn answer_sizes(text: &[u8]) {
     }
 }
 
-// A text's size in the row whose number is given, or in all rows.
-fn answer_size_command(texts: usize, text: &[u8], row: &[u8]) {
+fn say_laid(nodes: &[u64], names: &[u8], i: u16, offset: u64, row: u64) {
+    let mut out = [0u8; MAX_LINE];
+    if fields::is_laid_out(nodes, i) {
+        let field = fields::is_field(nodes, i);
+        let extent = fields::extent(nodes, row, i);
+        let at = show::put_laid(&mut out, nodes, names, i, field, offset, extent);
+        say_line(&mut out, at);
+    } else {
+        let at = show::put_laid(&mut out, nodes, names, i, false, 0, LaidOut::Nothing);
+        say_line(&mut out, at);
+    }
+}
+
+fn say_padding(nodes: &[u64], offsets: &[u64], row: u64, i: u16) {
+    let mut out = [0u8; MAX_LINE];
+    let hole = fields::hole_after(nodes, offsets, row, i);
+    if 0 < hole.bytes {
+        let at = show::put_padding(&mut out, nodes, i, hole.begin, hole.bytes);
+        say_line(&mut out, at);
+    }
+}
+
+// The padding after each node whose subtree ends with node `last`, the innermost first.
+fn say_paddings(nodes: &[u64], offsets: &[u64], row: u64, last: u16) {
+    let mut left = (last as usize) + 1;
+    while 0 < left {
+        left -= 1;
+        let i = (left % 65536) as u16;
+        if fields::after(nodes, i) == (last as usize) + 1 {
+            say_padding(nodes, offsets, row, i);
+        }
+    }
+}
+
+// A table of `n` nodes with the padding between them; its head has the columns of `show::put_laid`.
+fn say_fields(nodes: &[u64], names: &[u8], offsets: &[u64], row: u64, n: u16) {
+    say(b"node      offset        size  align  type\n");
+    let mut i = 0;
+    while i < n {
+        say_laid(nodes, names, i, lines::word_at(offsets, i as usize), row);
+        say_paddings(nodes, offsets, row, i);
+        i += 1;
+    }
+}
+
+fn say_whole(bytes: u64, alignment: u64) {
+    let mut out = [0u8; 64];
+    let at = show::put_whole(&mut out, bytes, alignment);
+    say_line(&mut out, at);
+}
+
+fn say_layout(text: &[u8], words: &[u64], names: &[u8], row: u64) {
+    let mut offsets = [0u64; MAX_NODES];
+    match layout::layout(words, names, row, &mut offsets) {
+        LaidOut::Refused(why) => say_refused(text, &why.words()),
+        LaidOut::Nothing => say(b"no layout\n"),
+        LaidOut::Bytes(n, alignment) => {
+            let nodes = (lines::word_at(words, 0) % 65536) as u16;
+            let first = lines::word_at(words, 1) as usize;
+            say_fields(from(words, first), names, &offsets, row, nodes);
+            say_whole(n, alignment);
+        }
+    }
+}
+
+fn answer_layout(text: &[u8], row: u64) {
+    let mut words = [0u64; MAX_WORDS];
+    let mut names = [0u8; MAX_TEXT];
+    if reads(text, &mut words, &mut names) {
+        say_layout(text, &words, &names, row);
+    }
+}
+
+// Whether a command takes a row's number after its text.
+fn is_by_row(command: &[u8]) -> bool {
+    if check::same(command, b"size") {
+        return true;
+    }
+    check::same(command, b"layout")
+}
+
+// Without a row: sizes in all of them, the layout in row 0.
+fn answer_without_row(command: &[u8], text: &[u8]) {
+    if check::same(command, b"layout") {
+        return answer_layout(text, 0);
+    }
+    answer_sizes(text);
+}
+
+fn answer_in_row(command: &[u8], text: &[u8], row: u64) {
+    if check::same(command, b"layout") {
+        return answer_layout(text, row);
+    }
+    answer_size(text, row);
+}
+
+// A text's size or layout, in the row whose number is given if there is one.
+fn answer_by_row(command: &[u8], texts: usize, text: &[u8], row: &[u8]) {
     if texts == 1 {
-        return answer_sizes(text);
+        return answer_without_row(command, text);
     }
     if texts == 2 {
         if show::is_number(row) {
-            return answer_size(text, show::number_of(row));
+            return answer_in_row(command, text, show::number_of(row));
         }
         return complain(row, b"' is no row's number\n");
     }
-    complain(b"size", b"' takes one text, and a row's number if wanted\n");
+    complain(command, b"' takes one text, and a row's number if wanted\n");
 }
 
 // The second text is not read: it is held against the tree.
@@ -329,7 +431,7 @@ fn texts_of(command: &[u8]) -> usize {
     if check::same(command, b"print") {
         return 1;
     }
-    if check::same(command, b"size") {
+    if is_by_row(command) {
         return 1;
     }
     if check::same(command, b"compare") {
@@ -353,7 +455,7 @@ fn texts_of(command: &[u8]) -> usize {
     0
 }
 
-// Answers a command that `texts_of` knows, other than `size`, whose texts stand in `a` and `b`.
+// Answers a command that `texts_of` knows, other than those by row, whose texts stand in `a` and `b`.
 fn answer_known(command: &[u8], a: &[u8], b: &[u8]) {
     if check::same(command, b"read") {
         answer_read(false, a);
@@ -384,8 +486,8 @@ fn answer(command: &[u8], texts: usize, a: &[u8], b: &[u8]) {
     if wanted == 0 {
         return complain(command, b"' is no command\n");
     }
-    if check::same(command, b"size") {
-        return answer_size_command(texts, a, b);
+    if is_by_row(command) {
+        return answer_by_row(command, texts, a, b);
     }
     if wanted == texts {
         return answer_known(command, a, b);

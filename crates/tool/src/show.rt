@@ -1,9 +1,10 @@
-// What is shown of a tree, of its sizes, of a signature, of a refusal and of the reason for a no, put into a lent output from a place on; each answers the next place.
+// What is shown of a tree, of its sizes, of its layout, of a signature, of a refusal and of the reason for a no, put into a lent output from a place on; each answers the next place.
 ghost use mathlib.Core.Path.{_≡_};
 ghost use mathlib.Core.List.{[], _∷_};
 ghost use lib.ListN.{take, drop, getD};
 ghost use Rattle.lines.specs.Answer.{Put, decimals};
-ghost use Rattle.tool.specs.Answer.{countOf, shownByte, shownText, times, depthOf, lineOf, countText, kindNames, valuesText, rightText, nodeText, columnText, entryText};
+ghost use Rattle.tool.specs.Answer.{countOf, shownByte, shownText, times, depthOf, lineOf, countText, kindNames, valuesText, rightText, typeText, nodeText, columnText, entryText};
+ghost use Rattle.tool.specs.Answer.{offsetText, extentText, laidText, paddingText, wholeText};
 ghost use Rattle.tool.specs.Answer.{byteText, containerText, shownOrCut, markText, namedText, refusedBy, refusedText};
 ghost use Rattle.tool.specs.Answer.{isNumber, limitText, sizeText, sizeLine};
 ghost use Rattle.tool.specs.Answer.{kindText, placeText, unitText, valueText, differenceBy, differenceText};
@@ -15,6 +16,7 @@ use kinds::PRIMITIVES;
 use kinds::STRUCT;
 use kinds::TYPED_BIT_FIELD;
 use kinds::UNION;
+use layout::LaidOut;
 use lines::Decoded;
 
 // At most `n` items of `s` from `from` on.
@@ -165,19 +167,26 @@ fn put_right(out: &mut [u8], at: usize, n: u64, widest: u64) -> usize
     lines::put_number(out, at, n)
 }
 
-// The line of a node: its number, in a column for the last one's, and its kind, two columns deeper than its parent's.
+// A node's kind with its numbers or its name, two columns deeper than its parent's.
+fn put_type(out: &mut [u8], at: usize, nodes: &[u64], names: &[u8], i: u16) -> usize
+    ensures { λ r. ⌜ Put (now (out .entry)) at (typeText (now (nodes .entry)) (now (names .entry)) i) (now (out .exit)) r ⌝ }
+{
+    let to = put_times(out, at, b"  ", depth(nodes, i));
+    let here = 4 * (i as usize);
+    let kind = lines::word_at(nodes, here);
+    let first = lines::word_at(nodes, here + 1);
+    let second = lines::word_at(nodes, here + 2);
+    let values = put_kind(out, to, kind);
+    put_values(out, values, names, kind, first, second)
+}
+
+// The line of a node: its number, in a column for the last one's, and its type.
 pub fn put_node(out: &mut [u8], nodes: &[u64], names: &[u8], i: u16, last: u16) -> usize
     ensures { λ r. ⌜ Put (now (out .entry)) 0 (nodeText (now (nodes .entry)) (now (names .entry)) i last) (now (out .exit)) r ⌝ }
 {
     let number = put_right(out, 0, i as u64, last as u64);
-    let space = lines::put_bytes(out, number, b" ");
-    let to = put_times(out, space, b"  ", depth(nodes, i));
-    let at = 4 * (i as usize);
-    let kind = lines::word_at(nodes, at);
-    let first = lines::word_at(nodes, at + 1);
-    let second = lines::word_at(nodes, at + 2);
-    let values = put_kind(out, to, kind);
-    put_values(out, values, names, kind, first, second)
+    let to = lines::put_bytes(out, number, b" ");
+    put_type(out, to, nodes, names, i)
 }
 
 // A number of a table, two columns behind what stands before it.
@@ -202,6 +211,70 @@ pub fn put_entry(out: &mut [u8], text: &[u8], list: &[u64], k: u16) -> usize
     let number = put_column(out, length, lines::word_at(list, at + 2), 1000000000);
     let to = lines::put_bytes(out, number, b"  ");
     put_shown(out, to, part(text, first as usize, size as usize))
+}
+
+// The offset of a field, and an empty column for what is none.
+fn put_offset(out: &mut [u8], at: usize, field: bool, offset: u64) -> usize
+    ensures { λ r. ⌜ Put (now (out .entry)) at (offsetText field offset) (now (out .exit)) r ⌝ }
+{
+    if field {
+        return put_column(out, at, offset, 1000000000);
+    }
+    lines::put_bytes(out, at, b"            ")
+}
+
+// The size and the alignment of a node; nothing of one that is not laid out.
+fn put_extent(out: &mut [u8], at: usize, extent: LaidOut) -> usize
+    ensures { λ r. ⌜ Put (now (out .entry)) at (extentText extent) (now (out .exit)) r ⌝ }
+{
+    match extent {
+        LaidOut::Refused(_) => lines::put_bytes(out, at, b"   too large       "),
+        LaidOut::Nothing => lines::put_bytes(out, at, b"                   "),
+        LaidOut::Bytes(n, alignment) => {
+            let to = put_column(out, at, n, 1000000000);
+            put_column(out, to, alignment, 10000)
+        }
+    }
+}
+
+// The line of a node in a layout: its number, its offset if it is a field, its size and alignment, and its type.
+pub fn put_laid(
+    out: &mut [u8],
+    nodes: &[u64],
+    names: &[u8],
+    i: u16,
+    field: bool,
+    offset: u64,
+    extent: LaidOut,
+) -> usize
+    ensures { λ r. ⌜ Put (now (out .entry)) 0 (laidText (now (nodes .entry)) (now (names .entry)) i field offset extent) (now (out .exit)) r ⌝ }
+{
+    let number = put_right(out, 0, i as u64, 1000);
+    let begin = put_offset(out, number, field, offset);
+    let size = put_extent(out, begin, extent);
+    let to = lines::put_bytes(out, size, b"  ");
+    put_type(out, to, nodes, names, i)
+}
+
+// The line of the padding after node `i`: where it begins, its bytes, and the word, as deep as the node.
+pub fn put_padding(out: &mut [u8], nodes: &[u64], i: u16, begin: u64, bytes: u64) -> usize
+    ensures { λ r. ⌜ Put (now (out .entry)) 0 (paddingText (now (nodes .entry)) i begin bytes) (now (out .exit)) r ⌝ }
+{
+    let blank = lines::put_bytes(out, 0, b"    ");
+    let first = put_column(out, blank, begin, 1000000000);
+    let second = put_column(out, first, bytes, 1000000000);
+    let space = lines::put_bytes(out, second, b"         ");
+    let to = put_times(out, space, b"  ", depth(nodes, i));
+    lines::put_bytes(out, to, b"padding")
+}
+
+// The last line of a layout: the size and the alignment of the whole.
+pub fn put_whole(out: &mut [u8], bytes: u64, alignment: u64) -> usize
+    ensures { λ r. ⌜ Put (now (out .entry)) 0 (wholeText bytes alignment) (now (out .exit)) r ⌝ }
+{
+    let size = put_count(out, 0, bytes, b"byte");
+    let to = lines::put_bytes(out, size, b", alignment ");
+    lines::put_number(out, to, alignment)
 }
 
 // That a size is above the largest of its row.
@@ -277,11 +350,14 @@ fn first_byte(s: &[u8]) -> u8
     0
 }
 
-// A line with a mark under the place, unless the refusal has none.
+// A line with a mark under the place, unless the refusal has none in the text.
 fn put_mark(out: &mut [u8], at: usize, carried: u8, place: u64) -> usize
     ensures { λ r. ⌜ Put (now (out .entry)) at (markText carried place) (now (out .exit)) r ⌝ }
 {
     if carried == b'-' {
+        return at;
+    }
+    if carried == b'n' {
         return at;
     }
     let line = lines::put_bytes(out, at, b"\n");
@@ -289,15 +365,18 @@ fn put_mark(out: &mut [u8], at: usize, carried: u8, place: u64) -> usize
     lines::put_bytes(out, to, b"^")
 }
 
-// The byte or the container that a refusal names.
-fn put_named(out: &mut [u8], at: usize, carried: u8, byte: u64, container: u64) -> usize
-    ensures { λ r. ⌜ Put (now (out .entry)) at (namedText carried byte container) (now (out .exit)) r ⌝ }
+// The byte, the container or the node that a refusal names.
+fn put_named(out: &mut [u8], at: usize, carried: u8, place: u64, byte: u64, container: u64) -> usize
+    ensures { λ r. ⌜ Put (now (out .entry)) at (namedText carried place byte container) (now (out .exit)) r ⌝ }
 {
     if carried == b'b' {
         return put_byte(out, at, byte);
     }
     if carried == b'c' {
         return put_container(out, at, container);
+    }
+    if carried == b'n' {
+        return lines::put_number(out, at, place);
     }
     at
 }
@@ -313,7 +392,7 @@ fn put_refused_by(out: &mut [u8], text: &[u8], why: &[u64; 4], line: &[u8]) -> u
     let number = lines::put_number(out, to, why[0]);
     let words = lines::put_bytes(out, number, b"): ");
     let named = lines::put_bytes(out, words, lines::rest(line, b' '));
-    put_named(out, named, carried, why[2], why[3])
+    put_named(out, named, carried, why[1], why[2], why[3])
 }
 
 // The text, a mark under the refusal's place if it has one, and the reason.
@@ -321,14 +400,14 @@ pub fn put_refused(out: &mut [u8], text: &[u8], why: &[u64; 4]) -> usize
     ensures { λ r. ⌜ Put (now (out .entry)) 0 (refusedText (now (text .entry)) (now (why .entry))) (now (out .exit)) r ⌝ }
 {
     // A line for each number of a refusal: what the refusal carries (`-` nothing, `^` a place, `b` a place and a byte, `c` a place and a
-    // container), and the reason, up to the byte or container that it names. A refusal more is a line here.
+    // container, `n` a node), and the reason, up to the byte, container or node that it names. A refusal more is a line here.
     let refusals = b"-\n\
         - the text has more than 2,000 bytes\n\
         - the lists are too short for the tree\n\
         - the lists hold no tree\n\
         - a name is neither ? nor letters, digits and underscores\n\
         - the output is too short for the text\n\
-        - the size is above 2^64 - 1 bytes, or in row 2 above 2^32 - 1\n\
+        - the size or an offset is above 2^64 - 1 bytes, or in row 2 above 2^32 - 1\n\
         ^ the text ends where another byte must stand\n\
         b no type starts with \n\
         b f, d or D must follow j, not \n\
@@ -342,7 +421,8 @@ pub fn put_refused(out: &mut [u8], text: &[u8], why: &[u64; 4]) -> usize
         ^ the number is above 4294967295\n\
         - the signature is empty\n\
         ^ the number starts with a surplus zero\n\
-        - there is no row of that number: they are 0 to 3";
+        - there is no row of that number: they are 0 to 3\n\
+        n a bitfield cannot be laid out: node ";
     put_refused_by(out, text, why, line_of(refusals, why[0]))
 }
 

@@ -133,6 +133,16 @@ extern "C" {
         row: u64,
         answer: *mut [u64; 2],
     ) -> u64;
+    pub fn berzhotun_layout(
+        words: *const u64,
+        words_len: usize,
+        names: *const u8,
+        names_len: usize,
+        row: u64,
+        offsets: *mut u64,
+        offsets_len: usize,
+        answer: *mut [u64; 3],
+    ) -> u64;
     pub fn berzhotun_static_encoding_str_len(
         words: *const u64,
         words_len: usize,

@@ -22,15 +22,21 @@
 //! let record = berzhotun::parse(b"{R=l^vD}").unwrap();
 //! let sizes = Row::ALL.map(|row| record.size(row));
 //! assert_eq!(sizes, [Ok(Some(24)), Ok(Some(32)), Ok(Some(16)), Ok(Some(20))]);
+//!
+//! let layout = rate.layout(Row::AppleArm64).unwrap().unwrap();
+//! assert_eq!((layout.bytes, layout.alignment), (16, 8));
+//! assert_eq!((layout.field(0), layout.field(1)), (Some(0), Some(8)));
 //! ```
 
 mod exported;
+mod layout;
 mod reason;
 mod refusal;
 mod row;
 #[cfg(test)]
 mod trees;
 
+pub use layout::Layout;
 pub use reason::{Difference, Reason};
 pub use refusal::{Container, Refusal};
 pub use row::Row;
@@ -41,7 +47,8 @@ pub const MAX_TEXT: usize = 2000;
 /// The most bytes of a reason.
 pub const MAX_REASON: usize = 8016;
 
-/// A type: a sheet that the library has accepted, so that only sizes and texts can be refused later.
+/// A type: a sheet that the library has accepted, so that only sizes, layouts and texts can be refused
+/// later.
 #[derive(Clone, Debug)]
 pub struct Tree {
     words: Vec<u64>,
@@ -285,7 +292,8 @@ impl Tree {
         accepted(number, answer[0] == 1)
     }
 
-    /// The bytes that the type takes with the row's widths and without padding, if it has a size.
+    /// The bytes that the type takes with the row's widths and without padding, if it has a size; for
+    /// those in memory ask [`Tree::layout`].
     pub fn size(&self, row: Row) -> Result<Option<u64>, Refusal> {
         let mut answer = [0; 2];
         // SAFETY: as in `compare`.

@@ -15,7 +15,8 @@ pub enum Container {
 pub enum Refusal {
     /// 1: the text has more than 2,000 bytes.
     TextTooLong,
-    /// 2: a lent list is shorter than reading needs. This crate always lends enough.
+    /// 2: a lent list is shorter than reading needs, or than a layout's count of nodes. This crate
+    /// always lends enough.
     ListTooShort,
     /// 3: the lists are no sheet.
     BadSheet,
@@ -24,7 +25,7 @@ pub enum Refusal {
     /// 5: the output is shorter than the printed length, or than the reason for a no. This crate
     /// always lends enough.
     OutputTooShort,
-    /// 6: the size is above 2^64 - 1, or on 32-bit ARM above 2^32 - 1.
+    /// 6: the size, or in a layout an offset, is above 2^64 - 1, or on 32-bit ARM above 2^32 - 1.
     SizeTooLarge,
     /// 7: a needed byte is missing at the text's end.
     UnexpectedEnd { place: usize },
@@ -57,10 +58,12 @@ pub enum Refusal {
     /// 20: no row of sizes has this number. This crate has a [`Row`](crate::Row) only for those that
     /// there are.
     NoSuchRow,
+    /// 21: a bitfield is to be laid out: the node of that number, the lowest of them.
+    BitFieldInLayout { node: usize },
 }
 
 impl Refusal {
-    /// From the returned number and the three values: place, byte, kind.
+    /// From the returned number and the three values: place (or node), byte, kind.
     pub(crate) fn new(number: u64, values: [u64; 3]) -> Refusal {
         let place = values[0] as usize;
         let byte = values[1] as u8;
@@ -90,6 +93,7 @@ impl Refusal {
             18 => Refusal::EmptySignature,
             19 => Refusal::SurplusZero { place },
             20 => Refusal::NoSuchRow,
+            21 => Refusal::BitFieldInLayout { node: place },
             _ => unreachable!("the library has no refusal {number}"),
         }
     }
@@ -117,6 +121,7 @@ impl Refusal {
             Refusal::EmptySignature => 18,
             Refusal::SurplusZero { .. } => 19,
             Refusal::NoSuchRow => 20,
+            Refusal::BitFieldInLayout { .. } => 21,
         }
     }
 }
@@ -177,7 +182,8 @@ impl Refusal {
             | Refusal::ExpectedOffset { .. }
             | Refusal::OffsetTooLarge { .. }
             | Refusal::EmptySignature
-            | Refusal::NoSuchRow => Ok(()),
+            | Refusal::NoSuchRow
+            | Refusal::BitFieldInLayout { .. } => Ok(()),
         }
     }
 }
@@ -191,7 +197,10 @@ impl fmt::Display for Refusal {
             Refusal::BadName => write!(f, "a struct or union has a name that is none"),
             Refusal::OutputTooShort => write!(f, "the output is too short"),
             Refusal::SizeTooLarge => {
-                write!(f, "the size is above 2^64 - 1, or on 32-bit ARM 2^32 - 1")
+                write!(
+                    f,
+                    "the size or an offset is above 2^64 - 1, or on 32-bit ARM 2^32 - 1"
+                )
             }
             Refusal::ExpectedOffset { place } => {
                 write!(f, "a number must follow the type at {place}")
@@ -201,6 +210,9 @@ impl fmt::Display for Refusal {
             }
             Refusal::EmptySignature => write!(f, "the signature has no byte"),
             Refusal::NoSuchRow => write!(f, "there is no such row of sizes"),
+            Refusal::BitFieldInLayout { node } => {
+                write!(f, "node {node} is a bitfield and cannot be laid out")
+            }
             _ => self.fmt_type(f),
         }
     }

@@ -1,4 +1,4 @@
-//! The widths that types are measured with.
+//! The widths that types are measured and laid out with.
 
 /// The widths that a size is made of: a row of the library's table of sizes.
 #[derive(Clone, Copy, Debug, PartialEq, Eq, Hash)]

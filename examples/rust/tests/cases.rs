@@ -1,8 +1,9 @@
-//! Cases of the scope document, of signatures, of strict reading, of reasons and of rows of sizes, through the wrapper.
+//! Cases of the scope document, of signatures, of strict reading, of reasons, of rows of sizes and of layouts, through the
+//! wrapper.
 
 use berzhotun::{
-    parse, parse_signature, parse_start, parse_strict, Container, Difference, Entry, Reason,
-    Refusal, Row, Tree, MAX_REASON, MAX_TEXT,
+    parse, parse_signature, parse_start, parse_strict, Container, Difference, Entry, Layout,
+    Reason, Refusal, Row, Tree, MAX_REASON, MAX_TEXT,
 };
 
 fn tree(text: &str) -> Tree {
@@ -218,6 +219,148 @@ fn a_long_in_row_3_counts_as_an_int_in_row_0() {
         let size = tree(&text.replace('l', "i")).size(Row::AppleArm64);
         assert_eq!(tree(text).size(Row::Guide), size, "{text}");
     }
+}
+
+/// The layout of a text that has one.
+fn laid_out(text: &str, row: Row) -> Layout {
+    let layout = tree(text).layout(row).expect(text);
+    layout.unwrap_or_else(|| panic!("{text} has no layout"))
+}
+
+#[test]
+fn layouts_in_each_row() {
+    let layouts: [(&str, [(u64, u64, &[u64]); 4]); 6] = [
+        (
+            "{R=ci^v}",
+            [
+                (16, 8, &[0, 0, 4, 8, 0]),
+                (16, 8, &[0, 0, 4, 8, 0]),
+                (12, 4, &[0, 0, 4, 8, 0]),
+                (16, 8, &[0, 0, 4, 8, 0]),
+            ],
+        ),
+        (
+            "{R=clLc}",
+            [
+                (32, 8, &[0, 0, 8, 16, 24]),
+                (32, 8, &[0, 0, 8, 16, 24]),
+                (16, 4, &[0, 0, 4, 8, 12]),
+                (24, 8, &[0, 0, 4, 8, 16]),
+            ],
+        ),
+        (
+            "{R=cjD}",
+            [
+                (24, 8, &[0, 0, 8]),
+                (48, 16, &[0, 0, 16]),
+                (24, 8, &[0, 0, 8]),
+                (24, 8, &[0, 0, 8]),
+            ],
+        ),
+        ("[2{R=ic}]", [(16, 4, &[0, 0, 0, 4]); 4]),
+        ("(U=c{S=cq}[17c])", [(24, 8, &[0, 0, 0, 0, 8, 0, 0]); 4]),
+        ("[0[18446744073709551615q]]", [(0, 8, &[0, 0, 0]); 4]),
+    ];
+    for (text, rows) in layouts {
+        for (row, (bytes, alignment, offsets)) in Row::ALL.into_iter().zip(rows) {
+            let layout = laid_out(text, row);
+            let numbers = (layout.bytes, layout.alignment, layout.offsets());
+            assert_eq!(numbers, (bytes, alignment, offsets), "{text} {row:?}");
+        }
+    }
+}
+
+#[test]
+fn fields_of_a_layout() {
+    let layout = laid_out("{R=c{S=sq}^{T=b3}i}", Row::AppleArm64);
+    assert_eq!(layout.fields(), [1, 2, 5, 8]);
+    let fields: Vec<_> = (0..5).map(|number| layout.field(number)).collect();
+    assert_eq!(fields, [Some(0), Some(8), Some(24), Some(32), None]);
+    // The record inside has its own start; what is behind the pointer is not laid out.
+    let nodes: Vec<_> = (0..10).map(|node| layout.offset(node)).collect();
+    let offsets = [0, 0, 8, 0, 8, 24, 0, 0, 32].map(Some);
+    assert_eq!(nodes, [&offsets[..], &[None]].concat());
+    for text in ["i", "[2{R=ic}]", "^{R=ic}", "{E=}"] {
+        let layout = laid_out(text, Row::AppleArm64);
+        assert_eq!(
+            (layout.fields(), layout.field(0)),
+            (&[][..], None),
+            "{text}"
+        );
+    }
+}
+
+#[test]
+fn what_has_no_layout() {
+    for text in [
+        "v",
+        "?",
+        "",
+        "(x=)",
+        "(U=vi)",
+        "[0v]",
+        "[3]",
+        "A{R=i}",
+        "A{R=b3}",
+        "{R=iA(U=i)}",
+        "{R=i(V=)}",
+    ] {
+        for row in Row::ALL {
+            assert_eq!(tree(text).layout(row), Ok(None), "{text}");
+        }
+    }
+    for (text, node) in [
+        ("b3", 0),
+        ("b0i3", 0),
+        ("[0b3]", 1),
+        ("Ab3", 1),
+        ("{R=^b3b3}", 3),
+        ("{R=vb3}", 2),
+        ("{R=[18446744073709551615q]ib3}", 4),
+    ] {
+        let refusal = Refusal::BitFieldInLayout { node };
+        for row in Row::ALL {
+            assert_eq!(tree(text).layout(row), Err(refusal), "{text}");
+        }
+        assert_eq!(refusal.number(), 21);
+        assert_eq!(
+            refusal.to_string(),
+            format!("node {node} is a bitfield and cannot be laid out")
+        );
+    }
+}
+
+#[test]
+fn layouts_that_are_too_large() {
+    for text in [
+        "[0{R=[18446744073709551615q]i}]",
+        "{R=[18446744073709551615c]s}",
+        "[18446744073709551615s]",
+        "(U=[18446744073709551613c]i)",
+    ] {
+        for row in Row::ALL {
+            assert_eq!(tree(text).layout(row), Err(Refusal::SizeTooLarge), "{text}");
+        }
+    }
+    for text in [
+        "{R=[4294967295c]c}",
+        "[0{R=[4294967295c]s}]",
+        "(U=[4294967293c]i)",
+    ] {
+        for row in Row::ALL {
+            let refused = tree(text).layout(row) == Err(Refusal::SizeTooLarge);
+            assert_eq!(refused, row == Row::Arm32, "{text} {row:?}");
+        }
+    }
+    // The largest offset of each row.
+    assert_eq!(
+        laid_out("[0{R=[4294967295c]c}]", Row::Arm32).offset(4),
+        Some(4294967295)
+    );
+    assert_eq!(
+        laid_out("[0{R=[18446744073709551615c]c}]", Row::X86_64).offset(4),
+        Some(u64::MAX)
+    );
 }
 
 #[test]

@@ -1,68 +1,49 @@
 use Rattle.layout.proofs.ExtentLaws.{field-added}
 use Rattle.layout.specs.Placing.{storedOf}
 use lib.ListN.{set}
-use mathlib.Core.Path.{_≡_, refl, ap, ap₂, sym, _∙_}
-use Rattle.layout.specs.Placing.{withField}
+use mathlib.Core.Path.{ap, _∙_}
 use borrow.Author.Needs.{needs}
 use Rattle.layout.proofs.add_field.Statement.{statement}
 use Rattle.layout.proofs.add_field.Tie as tie
-use Rattle.layout.proofs.add_field.Reads as reads
-use Rattle.layout.proofs.add_field.Lts as lts
-use Rattle.layout.proofs.begin_of.Reads as begin-of-reads
-use Rattle.layout.proofs.both.Reads as both-reads
-use Rattle.layout.proofs.end_of.Reads as end-of-reads
-use Rattle.layout.proofs.is_bytes.Reads as is-bytes-reads
-use Rattle.layout.proofs.larger.Reads as larger-reads
-use Rattle.layout.proofs.stored.Reads as stored-reads
 
--- src/lib.rt:250:9
 begin-of-requires : tie.Need-begin-of-requires
 begin-of-requires c κs = search needs
 
--- src/lib.rt:251:9
 end-of-requires : tie.Need-end-of-requires
 end-of-requires c κs = search needs
 
--- src/lib.rt:252:9
 larger-requires : tie.Need-larger-requires
 larger-requires c κs = search needs
 
--- src/lib.rt:253:44
 is-bytes-requires : tie.Need-is-bytes-requires
 is-bytes-requires c κs = search needs
 
--- src/lib.rt:253:31
 both-requires : tie.Need-both-requires
 both-requires c κs = search needs
 
--- src/lib.rt:253:9
 both-requires-2 : tie.Need-both-requires-2
 both-requires-2 c κs = search needs
 
--- src/lib.rt:254:18
 stored-requires : tie.Need-stored-requires
 stored-requires c κs = search needs
 
--- src/lib.rt:254:5
 mul-offsets : tie.Need-mul-offsets
 mul-offsets c = search needs
 
--- src/lib.rt:254:5
 slice-write-offsets : tie.Need-slice-write-offsets
 slice-write-offsets c = search needs
 
--- src/lib.rt:243:1
 same-length : tie.Need-same-length
 same-length c = search needs
 
--- src/lib.rt:243:1
 returns : tie.Need-returns
 returns c =
     let c2 = c .before .before in
     let c4 = c2 .before .before in
     let c6 = c4 .before .before in
     let a = c6 .before .before .args in (
-      field-added (a .kind) (a .run) (a .x) (c6 .begin-of .ensures) (c4 .before .end-of .ensures) (c4 .larger .ensures) (c2 .before .is-bytes .ensures) (c2 .both .ensures)
+      field-added (a .kind) (a .run) (a .x) (c6 .begin-of .ensures) (c4 .before .end-of .ensures) (c4 .larger .ensures) (c2 .before .is-bytes .ensures)
+          (c2 .both .ensures)
           (c .before .both2 .ensures),
       ap (set (a .offsets .now) (a .i)) (c .stored .ensures ∙ ap storedOf (c6 .begin-of .ensures)),
     )

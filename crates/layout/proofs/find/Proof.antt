@@ -1,10 +1,10 @@
 -- The invariant: what is laid out from node `i` on tells with what was passed what the whole tree does.
 use Prim.Native.Nat.{_-_}
-use mathlib.Core.Path.{sym, _∙_}
+use mathlib.Core.Path.{refl, sym, _∙_}
 use mathlib.Core.Bool.{true, false}
 use native.Mathlib.Omega.{arith}
 use borrow.Author.Needs.{needs}
-use Rattle.layout.proofs.FindLaws.{Sought, sought-first, sought-end, sought-within, sought-bits, sought-passed, sought-kept}
+use Rattle.layout.proofs.FindLaws.{Sought, sought-first, sought-end, sought-within, sought-bits, sought-passed, sought-kept, sought-code}
 use Rattle.layout.proofs.find.Statement.{statement}
 use Rattle.layout.proofs.find.Tie as tie
 
@@ -19,54 +19,61 @@ loop-holds c = let pre = c .before .pre in sought-first _ _ _ (pre .0) (pre .1)
 
 returns : tie.Need-returns Inv-loop μ-loop
 returns c =
-    let c3 = c .before .before .before in
-    let c4 = c3 .before in
-    sought-bits (c4 .loop .inv) (c3 .loop-test .taken) (sym (c .before .is-bit-field .ensures) ∙ c .if1 .taken)
+    let c4 = c .before .before .before .before in
+    let c5 = c4 .before in
+    sought-bits (c5 .loop .inv) (c4 .loop-test .taken) (sym (c .before .is-bit-field .ensures) ∙ c .if2 .taken)
 
-add-i : tie.Need-add-i Inv-loop μ-loop
-add-i c =
-    let c8 = c .before .before .before .before .before .before .before .before in
-    let c9 = c8 .before in
-    let b = sought-within (c9 .loop .inv) (c8 .loop-test .taken) in omega arith
+add-i-2 : tie.Need-add-i-2 Inv-loop μ-loop
+add-i-2 c =
+    let c9 = c .before .before .before .before .before .before .before .before .before in
+    let c10 = c9 .before in
+    let b = sought-within (c10 .loop .inv) (c9 .loop-test .taken) in omega arith
 
-loop-less : tie.Need-loop-less Inv-loop μ-loop
-loop-less c =
-    let c8 = c .before .before .before .before .before .before .before .before in
-    let c9 = c8 .before in
-    let b = sought-within (c9 .loop .inv) (c8 .loop-test .taken) in omega arith
+loop-less-2 : tie.Need-loop-less-2 Inv-loop μ-loop
+loop-less-2 c =
+    let c9 = c .before .before .before .before .before .before .before .before .before in
+    let c10 = c9 .before in
+    let b = sought-within (c10 .loop .inv) (c9 .loop-test .taken) in omega arith
 
 loop-again : tie.Need-loop-again Inv-loop μ-loop
 loop-again c =
     let c2 = c .before .before in
-    let c3 = c2 .before in
-    let c5 = c3 .before .before in
-    let c6 = c5 .before in
-    let c8 = c6 .before .before in
-    let c9 = c8 .before in
-    sought-passed (c9 .loop .inv) (c8 .loop-test .taken) (sym (c6 .is-bit-field .ensures) ∙ c5 .if1 .left) (c2 .either .ensures) (c3 .is-sizeless .ensures)
-    (sym (c .before .passes .ensures) ∙ c .if2 .taken)
+    let c4 = c2 .before .before in
+    let c5 = c4 .before in
+    sought-code (c5 .loop .inv) (c4 .loop-test .taken) (c2 .if1 .taken) (c .either .ensures) refl
 
 loop-again-2 : tie.Need-loop-again-2 Inv-loop μ-loop
 loop-again-2 c =
     let c2 = c .before .before in
     let c3 = c2 .before in
+    let c5 = c3 .before .before in
+    let c6 = c5 .before in
+    let c9 = c6 .before .before .before in
+    let c10 = c9 .before in
+    sought-passed (c10 .loop .inv) (c9 .loop-test .taken) (sym (c6 .is-bit-field .ensures) ∙ c5 .if2 .left) (c2 .either2 .ensures) (c3 .is-sizeless .ensures)
+    (sym (c .before .passes .ensures) ∙ c .if3 .taken)
+
+loop-again-3 : tie.Need-loop-again-3 Inv-loop μ-loop
+loop-again-3 c =
+    let c2 = c .before .before in
+    let c3 = c2 .before in
     let c4 = c3 .before in
     let c6 = c4 .before .before in
     let c7 = c6 .before in
-    let c9 = c7 .before .before in
-    let c10 = c9 .before in
-    sought-kept (c10 .loop .inv) (c9 .loop-test .taken) (sym (c7 .is-bit-field .ensures) ∙ c6 .if1 .left) (c3 .either .ensures) (c4 .is-sizeless .ensures)
-    (sym (c2 .passes .ensures) ∙ c .before .if2 .left) (c .bottom-after .ensures)
+    let c10 = c7 .before .before .before in
+    let c11 = c10 .before in
+    sought-kept (c11 .loop .inv) (c10 .loop-test .taken) (sym (c7 .is-bit-field .ensures) ∙ c6 .if2 .left) (c3 .either2 .ensures) (c4 .is-sizeless .ensures)
+    (sym (c2 .passes .ensures) ∙ c .before .if3 .left) (c .bottom-after .ensures)
 
 returns-2 : tie.Need-returns-2 Inv-loop μ-loop
 returns-2 c =
     let c2 = c .before .before in
-    sought-end (c2 .loop .inv) (c .before .loop-test .left) true (c .if3 .taken)
+    sought-end (c2 .loop .inv) (c .before .loop-test .left) true (c .if4 .taken)
 
 returns-3 : tie.Need-returns-3 Inv-loop μ-loop
 returns-3 c =
     let c2 = c .before .before in
-    sought-end (c2 .loop .inv) (c .before .loop-test .left) false (c .if3 .left)
+    sought-end (c2 .loop .inv) (c .before .loop-test .left) false (c .if4 .left)
 
 pub find-spec : {M : Type 1} → statement M
 find-spec =
@@ -78,6 +85,11 @@ find-spec =
     (λ c. search needs)
     (λ c. search needs)
     (λ c. search needs)
+    (λ c. search needs)
+    (λ c κs. search needs)
+    (λ c. search needs)
+    (λ c. search needs)
+    loop-again
     (λ c κs. search needs)
     returns
     (λ c. search needs)
@@ -86,12 +98,12 @@ find-spec =
     (λ c κs. search needs)
     (λ c κs. search needs)
     (λ c κs. search needs)
-    add-i
-    loop-less
-    loop-again
+    add-i-2
+    loop-less-2
+    loop-again-2
     (λ c κs. search needs)
     (λ c. search needs)
     (λ c. search needs)
-    loop-again-2
+    loop-again-3
     returns-2
     returns-3)

@@ -1,17 +1,13 @@
-use borrow.Author.Tests.{le-leb, lt-leb, lt-ltb, le-ltb, eq-eqb, ne-eqb}
+use borrow.Author.Tests.{lt-ltb, le-ltb}
 use native.Mathlib.Omega.{arith}
 use Rattle.layout.specs.Placing.{isPlain}
 use Rattle.layout.proofs.is_plain.Statement.{statement}
 use Rattle.layout.proofs.is_plain.Tie as tie
-use Rattle.layout.proofs.is_plain.Reads as reads
-use Rattle.layout.proofs.is_plain.Lts as lts
 
--- src/lib.rt:117:9
 returns : tie.Need-returns
 unfolding isPlain
 returns c = rw (lt-ltb (c .before .args .kind) 27 (omega arith))
 
--- src/lib.rt:113:1
 returns-2 : tie.Need-returns-2
 unfolding isPlain
 returns-2 c = rw (le-ltb (c .before .args .kind) 27 (omega arith))

@@ -7,11 +7,15 @@ use Rattle.layout.proofs.is_sizeless.Tie as tie
 
 returns : tie.Need-returns
 unfolding sizelessKind
-returns c = rw (lt-ltb (c .before .before .args .kind) 24 (c .before .if1 .taken))
+returns c =
+    let c2 = c .before .before in
+    rw (lt-ltb (c2 .args .kind) 24 (c .before .if1 .taken))
 
 returns-2 : tie.Need-returns-2
 unfolding sizelessKind
-returns-2 c = rw (le-ltb (c .before .before .args .kind) 24 (omega arith), lt-ltb (c .before .before .args .kind) 29 (c .if2 .taken))
+returns-2 c =
+    let c2 = c .before .before in
+    rw (le-ltb (c2 .args .kind) 24 (omega arith), lt-ltb (c2 .args .kind) 29 (c .if2 .taken))
 
 returns-3 : tie.Need-returns-3
 unfolding sizelessKind
@@ -28,13 +32,15 @@ returns-4 c =
 returns-5 : tie.Need-returns-5
 unfolding sizelessKind
 returns-5 c =
-    let k = c .before .before .before .before .before .args .kind in
+    let c5 = c .before .before .before .before .before in
+    let k = c5 .args .kind in
     rw (le-ltb k 24 (omega arith), le-ltb k 29 (omega arith), le-ltb 30 k (omega arith), c .before .if4 .left, ne-eqb k 30 (λ e. omega arith))
 
 returns-6 : tie.Need-returns-6
 unfolding sizelessKind
 returns-6 c =
-    let k = c .before .before .before .before .before .args .kind in
+    let c5 = c .before .before .before .before .before in
+    let k = c5 .args .kind in
     rw (le-ltb k 24 (omega arith), le-ltb k 29 (omega arith), le-ltb 30 k (omega arith), c .before .if4 .left, eq-eqb k 30 (omega arith))
 
 pub is-sizeless-spec : {M : Type 1} → statement M

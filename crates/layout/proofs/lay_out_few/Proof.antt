@@ -2,34 +2,26 @@ use Rattle.layout.proofs.AnswerLaws.{zeros-lent}
 use borrow.Author.Needs.{needs}
 use Rattle.layout.proofs.lay_out_few.Statement.{statement}
 use Rattle.layout.proofs.lay_out_few.Tie as tie
-use Rattle.layout.proofs.lay_out_few.Reads as reads
-use Rattle.layout.proofs.lay_out_few.Lts as lts
-use Rattle.layout.proofs.lay_out.Reads as lay-out-reads
 
--- src/lib.rt:499:37
 sub-lay-out : tie.Need-sub-lay-out
 sub-lay-out c = search needs
 
--- src/lib.rt:499:37
 part-numbers-start : tie.Need-part-numbers-start
 part-numbers-start c = search needs
 
--- src/lib.rt:499:37
 part-numbers-end : tie.Need-part-numbers-end
 part-numbers-end c = search needs
 
--- src/lib.rt:499:5
 lay-out-requires : tie.Need-lay-out-requires
-lay-out-requires c κs = 
-    let p = c .before .before .before .before .pre in
-    let z = zeros-lent 64 (c .before .before .before .before .args .n) (p .2) in
+lay-out-requires c κs =
+    let c4 = c .before .before .before .before in
+    let p = c4 .pre in
+    let z = zeros-lent 64 (c4 .args .n) (p .2) in
     (p .0, p .1, p .3, z .0, z .1)
 
--- src/lib.rt:487:1
 same-length : tie.Need-same-length
 same-length c = search needs
 
--- src/lib.rt:487:1
 returns : tie.Need-returns
 returns c = search needs
 

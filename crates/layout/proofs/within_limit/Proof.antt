@@ -1,16 +1,13 @@
 use borrow.Author.Needs.{needs}
 use Rattle.layout.proofs.EndLaws.{within-more, within-end, limit-largest, limit-other}
-use mathlib.Core.Bool.{_&&_}
 use native.Mathlib.Omega.{arith}
-use borrow.Author.Tests.{le-leb, lt-leb, lt-ltb, le-ltb, eq-eqb, ne-eqb}
-use mathlib.Core.Path.{_≡_, refl, ap, ap₂, sym, _∙_}
+use borrow.Author.Tests.{le-leb, lt-leb}
+use mathlib.Core.Path.{_≡_, refl, sym, _∙_}
 use Prim.Native.Nat.{_-_, _≤_}
 use lib.ListN.{length, drop}
 use Rattle.layout.specs.Answer.{allWithin}
 use Rattle.layout.proofs.within_limit.Statement.{statement}
 use Rattle.layout.proofs.within_limit.Tie as tie
-use Rattle.layout.proofs.within_limit.Reads as reads
-use Rattle.layout.proofs.within_limit.Lts as lts
 
 abbrev Inv-loop : tie.InvT-loop
 Inv-loop numbers limit i₀ i = (i ≤ length numbers) × (allWithin limit (drop i numbers) ≡ allWithin limit numbers)
@@ -18,23 +15,18 @@ Inv-loop numbers limit i₀ i = (i ≤ length numbers) × (allWithin limit (drop
 abbrev μ-loop : tie.MeasureT-loop
 μ-loop numbers limit i₀ i = length numbers - i
 
--- src/lib.rt:366:9
 returns : tie.Need-returns Inv-loop μ-loop
 returns c = limit-largest _ _ (c .if1 .taken)
 
--- src/lib.rt:369:5
 loop-holds : tie.Need-loop-holds Inv-loop μ-loop
 loop-holds c = (omega arith, refl)
 
--- src/lib.rt:370:20
 mul-if2 : tie.Need-mul-if2 Inv-loop μ-loop
 mul-if2 c = search needs
 
--- src/lib.rt:370:20
 shared-slice-read-if2 : tie.Need-shared-slice-read-if2 Inv-loop μ-loop
 shared-slice-read-if2 c = search needs
 
--- src/lib.rt:371:13
 returns-2 : tie.Need-returns-2 Inv-loop μ-loop
 returns-2 c =
     let c3 = c .before .before .before in
@@ -42,26 +34,28 @@ returns-2 c =
     limit-other (a .limit) (a .numbers .now) (c3 .before .if1 .left)
     (sym (c3 .loop .inv .1) ∙ within-more (a .limit) (a .numbers .now) (c3 .loop .i) (c .before .before .loop-test .taken) ∙ rw (lt-leb _ _ (c .if2 .taken)))
 
--- src/lib.rt:373:9
 add-i : tie.Need-add-i Inv-loop μ-loop
 add-i c = search needs
 
--- src/lib.rt:369:5
 loop-less : tie.Need-loop-less Inv-loop μ-loop
 loop-less c = search needs
 
--- src/lib.rt:369:5
 loop-again : tie.Need-loop-again Inv-loop μ-loop
 loop-again c =
     let c3 = c .before .before .before in
-    let a = c3 .before .before .args in
-    (omega arith, sym (within-more (a .limit) (a .numbers .now) (c3 .loop .i) (c .before .before .loop-test .taken) ∙ rw (le-leb _ _ (c .if2 .left))) ∙ c3 .loop .inv .1)
+    let a = c3 .before .before .args in (
+      omega arith,
+      sym (within-more (a .limit) (a .numbers .now) (c3 .loop .i) (c .before .before .loop-test .taken) ∙ rw (le-leb _ _ (c .if2 .left)))
+          ∙ c3 .loop .inv .1,
+    )
 
--- src/lib.rt:362:1
 returns-3 : tie.Need-returns-3 Inv-loop μ-loop
 returns-3 c =
-    let a = c .before .before .before .args in
-    limit-other (a .limit) (a .numbers .now) (c .before .before .if1 .left) (sym (c .before .loop .inv .1) ∙ within-end (a .limit) (a .numbers .now) (c .before .loop .i) (c .loop-test .left))
+    let c2 = c .before .before in
+    let c3 = c2 .before in
+    let a = c3 .args in
+    limit-other (a .limit) (a .numbers .now) (c2 .if1 .left)
+    (sym (c .before .loop .inv .1) ∙ within-end (a .limit) (a .numbers .now) (c .before .loop .i) (c .loop-test .left))
 
 pub within-limit-spec : {M : Type 1} → statement M
 within-limit-spec =

@@ -3,10 +3,7 @@ use Rattle.helper.specs.Measure.{fit}
 use Rattle.layout.specs.Placing.{placedOf}
 use Rattle.layout.proofs.Placed.new.Statement.{statement}
 use Rattle.layout.proofs.Placed.new.Tie as tie
-use Rattle.layout.proofs.Placed.new.Reads as reads
-use Rattle.layout.proofs.Placed.new.Lts as lts
 
--- src/lib.rt:155:5
 returns : tie.Need-returns
 unfolding placedOf fit
 returns c = refl

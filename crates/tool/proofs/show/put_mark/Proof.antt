@@ -1,6 +1,6 @@
 -- `tool::show::put_mark` meets its contract. Assumes nothing.
 use Rattle.lines.proofs.PutLaws.{put-same, put-append, put-none}
-use Rattle.tool.proofs.ShowLaws.{mark-none, mark-under}
+use Rattle.tool.proofs.ShowLaws.{mark-none, mark-node, mark-under}
 use borrow.Author.Needs.{needs}
 use Rattle.tool.proofs.show.put_mark.Statement.{statement}
 use Rattle.tool.proofs.show.put_mark.Tie as tie
@@ -12,12 +12,18 @@ returns c =
 
 returns-2 : tie.Need-returns-2
 returns-2 c =
+    let c3 = c .before .before .before in
+    put-same (mark-node (c3 .args .carried) (c3 .args .place) (c .before .if1 .left) (c .if2 .taken)) (put-none _ _)
+
+returns-3 : tie.Need-returns-3
+returns-3 c =
     let c2 = c .before .before in
     let c7 = c2 .before .before .before .before .before in
     let c12 = c7 .before .before .before .before .before in
     let c15 = c12 .before .before .before in
-    let c17 = c15 .before .before in
-    put-same (mark-under (c17 .args .carried) (c17 .args .place) (c15 .if1 .left))
+    let c16 = c15 .before in
+    let c18 = c16 .before .before in
+    put-same (mark-under (c18 .args .carried) (c18 .args .place) (c16 .if1 .left) (c15 .if2 .left))
     (put-append _ _ (c12 .put-bytes .ensures) (put-append _ _ (c7 .put-times .ensures) (c2 .put-bytes2 .ensures)))
 
 pub put-mark-spec : {M : Type 1} → statement M
@@ -25,6 +31,7 @@ put-mark-spec =
     tie.close
     (tie.spec
     returns
+    returns-2
     (λ c. search needs)
     (λ c κs. search needs)
     (λ c. search needs)
@@ -32,4 +39,4 @@ put-mark-spec =
     (λ c. search needs)
     (λ c κs. search needs)
     (λ c. search needs)
-    returns-2)
+    returns-3)

@@ -1,26 +1,17 @@
 -- `tool::show::put_node` meets its contract. Assumes nothing.
-use Rattle.lines.proofs.PutLaws.{put-same, put-append}
-use Rattle.tool.proofs.ShowLaws.{node-is}
+use Rattle.lines.proofs.PutLaws.{put-append}
+use Rattle.tool.specs.Answer.{nodeText}
 use borrow.Author.Needs.{needs}
 use Rattle.tool.proofs.show.put_node.Statement.{statement}
 use Rattle.tool.proofs.show.put_node.Tie as tie
 
 returns : tie.Need-returns
+unfolding nodeText
 returns c =
     let c2 = c .before .before in
     let c6 = c2 .before .before .before .before in
-    let c8 = c6 .before .before in
-    let c9 = c8 .before in
-    let c10 = c9 .before in
-    let c13 = c10 .before .before .before in
-    let c14 = c13 .before in
-    let c19 = c14 .before .before .before .before .before in
-    let c24 = c19 .before .before .before .before .before in
-    let c29 = c24 .before .before .before .before .before in
-    put-same (node-is (c29 .args .nodes .now) (c29 .args .names .now) (c29 .args .i) (c29 .args .last) (c14 .depth .result) (c10 .word-at .result)
-    (c9 .word-at2 .result) (c8 .word-at3 .result) (c14 .depth .ensures) (c10 .word-at .ensures) (c9 .word-at2 .ensures) (c8 .word-at3 .ensures))
-    (put-append _ _ (c24 .put-right .ensures) (put-append _ _ (c19 .put-bytes .ensures)
-    (put-append _ _ (c13 .put-times .ensures) (put-append _ _ (c6 .put-kind .ensures) (c2 .put-values .ensures)))))
+    let c11 = c6 .before .before .before .before .before in
+    put-append _ _ (c11 .put-right .ensures) (put-append _ _ (c6 .put-bytes .ensures) (c2 .put-type .ensures))
 
 pub put-node-spec : {M : Type 1} → statement M
 put-node-spec =
@@ -28,16 +19,6 @@ put-node-spec =
     (tie.spec
     (λ c κs. search needs)
     (λ c. search needs)
-    (λ c κs. search needs)
-    (λ c. search needs)
-    (λ c κs. search needs)
-    (λ c κs. search needs)
-    (λ c. search needs)
-    (λ c κs. search needs)
-    (λ c. search needs)
-    (λ c κs. search needs)
-    (λ c. search needs)
-    (λ c κs. search needs)
     (λ c κs. search needs)
     (λ c κs. search needs)
     (λ c. search needs)
