@@ -7,8 +7,8 @@ use mathlib.Core.Option.{Option, some, none}
 use mathlib.Core.Bool.{Bool, true, false, cond, _&&_, _||_, and-false}
 use borrow.Author.Tests.{le-leb, lt-leb, leb-true, leb-false, eqb-true}
 use lib.Dec.{leb, eqb}
-use lib.ListN.{length, getD, take, replicate, length-replicate, drop-of-length-le, getD-replicate}
-use lib.Seq.{sets, sets-eq, take-suc, getD-take, length-take-le}
+use lib.ListN.{length, getD, take, replicate, length-append, length-replicate, drop-of-length-le, getD-replicate}
+use lib.Seq.{sets, sets-eq, take-suc, take-at, getD-take, length-take-le}
 use Rattle.kinds.specs.Parse.{maxU64}
 use Rattle.kinds.specs.Primitive.{Widths, widths}
 use Rattle.kinds.specs.Sheet.{countAt, trees}
@@ -16,7 +16,7 @@ use Rattle.kinds.specs.Tree.{Trees, count}
 use Rattle.kinds.specs.Walk.{NodeAt}
 use Rattle.kinds.specs.declared.NestingLevel.the-variants.{Top}
 use Rattle.kinds.specs.declared.Refusal.{Refusal}
-use Rattle.kinds.specs.declared.Refusal.the-variants.{SizeTooLarge, ListTooShort, NoSuchRow, BitFieldInLayout}
+use Rattle.kinds.specs.declared.Refusal.the-variants.{SizeTooLarge, ListTooShort, NoSuchRow}
 use Rattle.kinds.proofs.SheetLaws.{trees-count}
 use Rattle.sheet.specs.Answer.{held, refused}
 use Rattle.sheet.specs.Given.{NodesAre}
@@ -27,7 +27,7 @@ use Rattle.helper.specs.declared.Measured.the-variants.{Bytes}
 use Rattle.helper.proofs.SizeLaws.{fit-gt}
 use Rattle.layout.specs.Answer.{offsetsIn, allWithin, fitted, unlessBitField, layoutOf, layoutIn, layoutAnswer, listAfter, listIn, layoutList}
 use Rattle.layout.specs.Layout.{Extent, laidOut, firstBitField, anySizeless, extent, onlyExtent, others}
-use Rattle.layout.specs.Placing.{placedOf, stored, extentAt, offsetsBelow, Zeros, LaidBelow, unlessFound, foundIn, withinLimit, finishBy, finished, numbersAt, fittedAt, listAt}
+use Rattle.layout.specs.Placing.{placedOf, stored, extentAt, offsetsBelow, Zeros, LaidBelow, unlessFound, foundIn, withinLimit, finishBy, finished, byFound, numbersAt, fittedAt, answerAt, listAt, listFor}
 use Rattle.layout.specs.declared.Found.{Found}
 use Rattle.layout.specs.declared.Found.the-variants as F
 use Rattle.layout.specs.declared.LaidOut.{LaidOut}
@@ -120,12 +120,15 @@ zeros-lent m n h = (
   λ k g. getD-take (n - 0) (replicate {A = ℕ} m 0) (0 + k) 0 (omega arith) ∙ getD-replicate {A = ℕ} m (0 + k) 0 0 (omega arith),
 )
 
--- ---- From the pass to the answer.
+-- A part of them that was lent, when it is back before the others.
+module _ (n : ℕ) (xs ys : List ℕ) (e : length xs ≡ n) where
+  pub back-within : n ≤ length (xs ++ ys)
+  back-within = simp length-append (omega arith)
 
-abbrev pub byFound : Found → LaidOut → LaidOut
-byFound (F.BitField i) a = A.Refused (BitFieldInLayout i)
-byFound F.Nothing a = A.Nothing
-byFound F.Sized a = a
+  pub back-taken : take (n - 0) (xs ++ ys) ≡ xs
+  back-taken = take-at xs ys (n - 0) (omega arith)
+
+-- ---- From the pass to the answer.
 
 layout-found : (row : ℕ) (t : Trees) → layoutOf row t ≡ byFound (foundIn (widths row) false (laidOut Top 0 t)) (fitted (maxSize row) (extent (widths row) t) (offsetsIn row t))
 unfolding layoutOf foundIn
@@ -135,6 +138,19 @@ layout-found row t = go (firstBitField (laidOut Top 0 t)) (anySizeless (widths r
     go (some i) b a = refl
     go none true a = refl
     go none false a = refl
+
+module _ (m : Widths) (s w : List ℕ) (limit : ℕ) {n : ℕ} (c : countAt w 0 ≡ n) {f : Found} (e : f ≡ foundIn m false (laidOut Top 0 (trees s w n 0))) where
+  answer-is : answerAt m s w limit ≡ byFound f (fittedAt m s w limit)
+  unfolding answerAt
+  answer-is = ap (λ k. byFound (foundIn m false (laidOut Top 0 (trees s w k 0))) (fittedAt m s w limit)) c ∙ ap (λ g. byFound g (fittedAt m s w limit)) (sym e)
+
+  -- The answer and the list after it, by what was found.
+  pub answer-by : {r : LaidOut} → r ≡ byFound f (fittedAt m s w limit) → r ≡ answerAt m s w limit
+  answer-by d = d ∙ sym answer-is
+
+  pub list-by : (list : List ℕ) {after : List ℕ} → after ≡ listAfter (byFound f (fittedAt m s w limit)) (numbersAt m s w) list → after ≡ listFor m s w limit list
+  unfolding listFor
+  list-by list d = d ∙ sym (ap (λ a. listAfter a (numbersAt m s w) list) answer-is)
 
 module _ (row : ℕ) (h : row < 4) (s w : List ℕ) (n : ℕ) (root : NodeAt w 0) (c : countAt w 0 ≡ n) where
   root-extent : extent (widths row) (trees s w n 0) ≡ extentAt (widths row) s w 0
@@ -157,18 +173,16 @@ module _ (row : ℕ) (h : row < 4) (s w : List ℕ) (n : ℕ) (root : NodeAt w 0
   unfolding layoutIn
   room-answer room r = rw (le-leb row 3 (omega arith), trees-count s w n 0, le-leb n room r)
 
-  module _ (list : List ℕ) (r : n ≤ length list) (f : Found) (e : f ≡ foundIn (widths row) false (laidOut Top 0 (trees s w n 0))) where
-    by-found : layoutIn row (length list) (trees s w n 0) ≡ byFound f (fittedAt (widths row) s w (maxSize row))
-    by-found = room-answer (length list) r ∙ layout-is ∙ ap (λ g. byFound g (fittedAt (widths row) s w (maxSize row))) (sym e)
+  module _ (list : List ℕ) (r : n ≤ length list) where
+    in-row : answerAt (widths row) s w (maxSize row) ≡ layoutIn row (length list) (trees s w n 0)
+    in-row = answer-is (widths row) s w (maxSize row) c refl ∙ sym (room-answer (length list) r ∙ layout-is)
 
-    -- The answer and the list after it, by what was found.
-    pub found-answer : {a : LaidOut} → a ≡ byFound f (fittedAt (widths row) s w (maxSize row)) → a ≡ layoutIn row (length list) (trees s w n 0)
-    found-answer d = d ∙ sym by-found
+    pub row-answer : {a : LaidOut} → a ≡ answerAt (widths row) s w (maxSize row) → a ≡ layoutIn row (length list) (trees s w n 0)
+    row-answer d = d ∙ in-row
 
-    pub found-list : {after : List ℕ} → after ≡ listAfter (byFound f (fittedAt (widths row) s w (maxSize row))) (numbersAt (widths row) s w) list
-        → after ≡ listIn row (trees s w n 0) list
-    unfolding listIn
-    found-list d = d ∙ sym (ap₂ (λ (a : LaidOut) (ns : List ℕ). listAfter a ns list) by-found root-offsets)
+    pub row-list : {after : List ℕ} → after ≡ listFor (widths row) s w (maxSize row) list → after ≡ listIn row (trees s w n 0) list
+    unfolding listIn listFor
+    row-list d = d ∙ ap₂ (λ (a : LaidOut) (ns : List ℕ). listAfter a ns list) in-row (sym root-offsets)
 
 pub listed : (m : Widths) (s w : List ℕ) (limit : ℕ) (list : List ℕ) → listAt m s w limit list ≡ listAfter (fittedAt m s w limit) (numbersAt m s w) list
 unfolding listAt

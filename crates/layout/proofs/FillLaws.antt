@@ -21,6 +21,7 @@ use Rattle.helper.specs.Measure.{RowOf, fit, timesMeasured}
 use Rattle.layout.specs.Answer.{allWithin}
 use Rattle.layout.specs.Layout.{Extent, noRoom, alignments, fieldsEnd, membersEnd, onlyExtent, nodeExtent, extents, Side, fields, others, inNode, begins, holdsInside, offsets, nextMultiple}
 use Rattle.layout.specs.Placing.{placedOf, stored, storedOf, isPlain, isSimple, simplePlaced, plainExtent, beginMeasured, withField, closed, heldBy, endedBy, insideAt, extentAt, offsetsBelow, Zeros, LaidBelow, Laid}
+use Rattle.layout.specs.Walking.{sideOf, endOf, Gathers, Filling}
 use Rattle.layout.specs.declared.Placed.{Placed}
 use Rattle.layout.proofs.ExtentLaws.{stored-fit, times-fit, beginIn, endWith, begin-fit, with-field, closed-fit, plain-extent, plain-inside, plain-positive, held-positive, closed-positive, not-plain}
 
@@ -131,13 +132,6 @@ plain-laid row w i h l z e = record {
 
 -- ---- A container of kind `k`: what its fields make together.
 
-unfoldable pub sideOf : ℕ → Side
-sideOf k = cond (eqb k 29) fields others
-
--- Where the container ends, where it ended at `e` before these fields.
-unfoldable pub endOf : ℕ → ℕ → List Extent → ℕ
-endOf k e xs = cond (eqb k 29) (fieldsEnd e xs) (max e (membersEnd xs))
-
 end-step : (k e : ℕ) (x : Extent) (xs : List Extent) → endOf k e (x ∷ xs) ≡ endOf k (endWith k e x) xs
 unfolding endOf endWith fieldsEnd membersEnd
 end-step k e x xs = go (eqb k 29)
@@ -221,31 +215,6 @@ begin-is : (k : ℕ) (run x : Placed) (d a : ℕ) (f : Bool) (z : Extent) (t : B
 unfolding placedOf
 begin-is k run x d a f z t h i p =
     ap₂ (λ (u v : Placed). storedOf (beginMeasured k (u .bytes) (v .alignment))) h i ∙ ap storedOf (begin-fit k d z p) ∙ stored-fit (beginIn k d z)
-
--- What is gathered of a container's fields: those before node `j`, which ended at `e`, with the `n` nodes from there on make the whole of the `total`
--- nodes from `first` on.
-pub record Gathers (m : Widths) (s w : List ℕ) (k first total : ℕ) (entry now : List ℕ) (j n : ℕ) (run : Placed) : Type 0 where
-  pub ended : ℕ
-  pub aligned : ℕ
-  pub fitted : Bool
-  pub takes : run ≡ placedOf (record { bytes = ended; alignment = aligned }) fitted
-  pub ends : endOf k ended (extents m (trees s w n (4 * j))) ≡ endOf k 0 (extents m (trees s w total (4 * first)))
-  pub aligns : max aligned (alignments (extents m (trees s w n (4 * j)))) ≡ alignments (extents m (trees s w total (4 * first)))
-  pub fits : (fitted && allWithin maxU64 (offsets m (sideOf k) ended (trees s w n (4 * j)))) ≡ allWithin maxU64 (offsets m (sideOf k) 0 (trees s w total (4 * first)))
-  pub leads : n < total → 0 < onlyExtent (extents m (trees s w total (4 * first))) .alignment
-  pub list : sets now j (map stored (offsets m (sideOf k) ended (trees s w n (4 * j)))) ≡ sets entry first (map stored (offsets m (sideOf k) 0 (trees s w total (4 * first))))
-
--- The same for every machine of the row, with what the walk goes by.
-pub record Filling (row w : List ℕ) (k first total : ℕ) (entry now : List ℕ) (j n : ℕ) (run : Placed) : Type 0 where
-  pub there : TreesAt w (4 * j) n
-  pub begun : first ≤ j
-  pub goes-on : j + n ≡ first + total
-  pub room : first + total ≤ length entry
-  pub as-long : length now ≡ length entry
-  pub beyond : (i : ℕ) → first + total ≤ i → getD now i 0 ≡ getD entry i 0
-  pub zeros : Zeros now j n
-  pub positive : 0 < run .alignment
-  pub gathers : (m : Widths) → RowOf row m → (s : List ℕ) → Gathers m s w k first total entry now j n run
 
 module _ {row w : List ℕ} {k first total : ℕ} {entry : List ℕ} where
   pub filling-start : TreesAt w (4 * first) total → first + total ≤ length entry → Zeros entry first total → {run : Placed} → run ≡ placedOf noRoom true

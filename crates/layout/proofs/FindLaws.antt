@@ -21,24 +21,10 @@ use Rattle.kinds.proofs.NodeLaws.{label-primitive, label-bits, label-typed, lab
 use Rattle.helper.specs.Measure.{RowOf}
 use Rattle.layout.specs.Layout.{Part, isPointer, laidOut, isBitField, firstBitField, isNone, sizeless, anySizeless}
 use Rattle.layout.specs.Placing.{sizelessKind, passesKind, bottomAfter, foundIn}
+use Rattle.layout.specs.Walking.{levelOf, ownPart, innerParts, laidFrom, Sought}
 use Rattle.layout.specs.declared.Found.the-variants as F
 
 -- ---- Trees side by side of which the first may stand at the bottom level.
-
-abbrev levelOf : Bool → NestingLevel
-levelOf b = cond b Bottom Within
-
--- A node's own part, and those of what it holds.
-ownPart : NestingLevel → ℕ → Label → Trees → Part
-ownPart v i l cs = record { number = i; label = l; showing = shows l v; empty = isEnd cs }
-
-innerParts : NestingLevel → ℕ → Label → Trees → List Part
-innerParts v i l cs = cond (shows l v && not (isPointer l)) (laidOut (inside l v) (i + 1) cs) []
-
--- The laid-out parts of trees, the first at bottom if `b` and else within, the others within.
-pub laidFrom : Bool → ℕ → Trees → List Part
-laidFrom b i end = []
-laidFrom b i (node l cs ts) = ownPart (levelOf b) i l cs ∷ (innerParts (levelOf b) i l cs ++ laidOut Within (i + 1 + count cs) ts)
 
 laid-within : (i : ℕ) (t : Trees) → laidFrom false i t ≡ laidOut Within i t
 unfolding laidFrom laidOut ownPart innerParts
@@ -320,14 +306,6 @@ found-end : (m : Widths) (b : Bool) → foundIn m b [] ≡ cond b F.Nothing F.Si
 unfolding foundIn firstBitField anySizeless
 found-end m true = refl
 found-end m false = refl
-
--- The nodes before `i` are passed: `none` says whether one of them has no size, and with what is laid out from there on the whole is found. The first
--- tree there stands at bottom if `bottom`.
-pub record Sought (row w : List ℕ) (n i : ℕ) (bottom none : Bool) : Type 0 where
-  pub within : i ≤ n
-  pub there : TreesAt w (4 * i) (n - i)
-  pub rest : (m : Widths) → RowOf row m → (s : List ℕ) → foundIn m none (laidFrom bottom i (trees s w (n - i) (4 * i)))
-      ≡ foundIn m false (laidOut Top 0 (trees s w n 0))
 
 pub sought-first : (row w : List ℕ) (n : ℕ) → NodeAt w 0 → countAt w 0 ≡ n → Sought row w n 0 false false
 sought-first row w n h e = record {

@@ -3,3 +3,4 @@
 pub mod Layout
 pub mod Answer
 pub mod Placing
+pub mod Walking

@@ -11,12 +11,13 @@ use Rattle.kinds.specs.Parse.{maxU64}
 use Rattle.kinds.specs.Primitive.{Widths}
 use Rattle.kinds.specs.Sheet.{kindAt, firstAt, countAt, labelAt, trees}
 use Rattle.kinds.specs.Tree.{Trees, count}
-use Rattle.kinds.specs.declared.Refusal.the-variants.{SizeTooLarge}
+use Rattle.kinds.specs.declared.NestingLevel.the-variants.{Top}
+use Rattle.kinds.specs.declared.Refusal.the-variants.{SizeTooLarge, BitFieldInLayout}
 use Rattle.helper.specs.Measure.{fit, plusMeasured, largerMeasured, timesMeasured, RowOf}
 use Rattle.helper.specs.declared.Measured.{Measured}
 use Rattle.helper.specs.declared.Measured.the-variants.{Nothing, Bytes, TooLarge}
 use Rattle.layout.specs.Answer.{allWithin, fitted, listAfter}
-use Rattle.layout.specs.Layout.{Part, firstBitField, anySizeless, nextMultiple, Extent, noRoom, nodeExtent, extents, inNode, holdsInside, offsets}
+use Rattle.layout.specs.Layout.{Part, laidOut, firstBitField, anySizeless, nextMultiple, Extent, noRoom, nodeExtent, extents, inNode, holdsInside, offsets}
 use Rattle.layout.specs.declared.Found.{Found}
 use Rattle.layout.specs.declared.Found.the-variants as F
 use Rattle.layout.specs.declared.LaidOut.{LaidOut}
@@ -169,3 +170,15 @@ fittedAt m s w limit = fitted limit (extentAt m s w 0) (numbersAt m s w)
 
 unfoldable pub listAt : Widths → List ℕ → List ℕ → ℕ → List ℕ → List ℕ
 listAt m s w limit list = listAfter (fittedAt m s w limit) (numbersAt m s w) list
+
+-- The same by what the pass found: the layout of any tree of the nodes `w`.
+abbrev pub byFound : Found → LaidOut → LaidOut
+byFound (F.BitField i) a = A.Refused (BitFieldInLayout i)
+byFound F.Nothing a = A.Nothing
+byFound F.Sized a = a
+
+unfoldable pub answerAt : Widths → List ℕ → List ℕ → ℕ → LaidOut
+answerAt m s w limit = byFound (foundIn m false (laidOut Top 0 (trees s w (countAt w 0) 0))) (fittedAt m s w limit)
+
+unfoldable pub listFor : Widths → List ℕ → List ℕ → ℕ → List ℕ → List ℕ
+listFor m s w limit list = listAfter (answerAt m s w limit) (numbersAt m s w) list

@@ -1,4 +1,5 @@
-use Rattle.layout.proofs.FillLaws.{walk-end, laid-as, not-simple, simple-laid, Filling, filling-start, filling-node, filling-within, filling-zeros, filling-turn}
+use Rattle.layout.proofs.FillLaws.{walk-end, laid-as, not-simple, simple-laid, filling-start, filling-node, filling-within, filling-zeros, filling-turn}
+use Rattle.layout.specs.Walking.{Filling}
 use Prim.Native.Nat.{ℕ, _+_, _-_, _*_, _<_}
 use borrow.Fn.Kinds.{In}
 use borrow.Fn.PlainCycle.{Measures, is, falls, and}

@@ -4,7 +4,8 @@ use mathlib.Core.Path.{refl, sym, _∙_}
 use mathlib.Core.Bool.{true, false}
 use native.Mathlib.Omega.{arith}
 use borrow.Author.Needs.{needs}
-use Rattle.layout.proofs.FindLaws.{Sought, sought-first, sought-end, sought-within, sought-bits, sought-passed, sought-kept, sought-code}
+use Rattle.layout.specs.Walking.{Sought}
+use Rattle.layout.proofs.FindLaws.{sought-first, sought-end, sought-within, sought-bits, sought-passed, sought-kept, sought-code}
 use Rattle.layout.proofs.find.Statement.{statement}
 use Rattle.layout.proofs.find.Tie as tie
 
