@@ -229,3 +229,22 @@ module _ (k : ℕ) (run x : Room) (p : IsPower (run .alignment)) (q : IsPower (x
   unfolding beginMeasured
   union-room {n} h e f g d s l j =
       field-room (rw (ne-eqb k 29 h)) (rw (ne-eqb k 29 h) (larger-bytes (run .bytes) (x .bytes) (omega arith) ∙ ap Bytes (sym e))) d (g ∙ f) s l j
+
+-- ---- A room, or where it is not said a number.
+
+pub told : (P : Room → Type 0) (Q : ℕ → Type 0) {x r : Room} {n : ℕ} → (0 < x .alignment → r ≡ x) → (x .alignment ≡ 0 → (r .alignment ≡ 0) × (r .bytes ≡ n))
+    → (0 < x .alignment → P x) → Q n → (0 < r .alignment → P r) × (r .alignment ≡ 0 → Q (r .bytes))
+told P Q {x} {r} {n} said unsaid p q = go (ltb 0 (x .alignment)) refl
+  where
+    none : x .alignment ≤ 0 → x .alignment ≡ 0
+    none h = omega arith
+
+    go : (t : Bool) → ltb 0 (x .alignment) ≡ t → (0 < r .alignment → P r) × (r .alignment ≡ 0 → Q (r .bytes))
+    go true e =
+        let h = ltb-true 0 (x .alignment) e in
+        let d : r .alignment ≡ x .alignment = ap (λ (z : Room). z .alignment) (said h) in
+        (λ g. subst P (sym (said h)) (p h), λ z. absurd (omega arith))
+    go false e =
+        let u = unsaid (none (ltb-false 0 (x .alignment) e)) in
+        let z = u .0 in
+        (λ g. absurd (omega arith), λ g. subst Q (sym (u .1)) q)

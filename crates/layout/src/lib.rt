@@ -13,7 +13,7 @@ ghost use Rattle.layout.specs.Answer.{layoutIn, listIn, layoutAnswer, la
 ghost use Rattle.layout.specs.Layout.{nextMultiple, noRoom, laidOut};
 ghost use Rattle.layout.specs.Placing.{nextMeasured, placedOf, storedOf, isBytes, isPlain, isSimple, simplePlaced, partKind, plainExtent, beginMeasured, withField, closed, heldBy, endedBy, Zeros, Laid};
 ghost use Rattle.layout.specs.Placing.{sizelessKind, passesKind, bottomAfter, foundIn, withinLimit, finished, fittedAt, answerAt, listAt, listFor};
-ghost use Rattle.layout.specs.Walking.{IsPower, Powers, most, PlainRoom, SimpleRoom, EndedRoom, AddedRoom, Enters, Walking, Settled};
+ghost use Rattle.layout.specs.Walking.{Sought, IsPower, Powers, most, PlainRoom, SimpleRoom, EndedRoom, AddedRoom, Enters, Walking, Settled};
 use helper::Measured;
 use helper::max_size;
 use kinds::ARRAY;
@@ -443,12 +443,13 @@ fn bottom_after(kind: u64, bottom: bool) -> bool
     false
 }
 
-// One pass over the `n` nodes of a tree for the first bitfield that is laid out, and for a laid-out node that has no size.
-fn find(sizes: &[u8; 24], nodes: &[u64], n: usize) -> Found
-    requires { ⌜ NodeAt (now nodes) 0 × (countAt (now nodes) 0 ≡ n) ⌝ }
+// One pass over the `n` nodes of a tree, from a node on before which there is none of either, for the first bitfield that is laid out, and for a laid-out
+// node that has no size.
+fn find(sizes: &[u8; 24], nodes: &[u64], from: usize, n: usize) -> Found
+    requires { ⌜ Sought (now sizes) (now nodes) n from false false ⌝ }
     ensures { λ r. ⌜ ((m : Widths) → RowOf (now (sizes .entry)) m → (s : List ℕ) → r ≡ foundIn m false (laidOut NestingLevel.Top 0 (trees s (now (nodes .entry)) n 0))) ⌝ }
 {
-    let mut i = 0;
+    let mut i = from;
     let mut bottom = false;
     let mut none = false;
     while i < n {
@@ -546,19 +547,20 @@ fn lay_out(sizes: &[u8; 24], nodes: &[u64], n: usize, limit: u64, offsets: &mut 
     finish(whole, &numbers[0..n], limit, offsets)
 }
 
-// The layout of any tree, in two passes: whether there is one, then its numbers.
+// The layout of any tree, in two passes: whether there is one, which is known of the nodes before `from`, then its numbers.
 fn lay_out_any(
     sizes: &[u8; 24],
     nodes: &[u64],
+    from: usize,
     n: usize,
     limit: u64,
     offsets: &mut [u64],
 ) -> LaidOut
-    requires { ⌜ NodeAt (now nodes) 0 × (countAt (now nodes) 0 ≡ n) × (n ≤ 2001) × (n ≤ length (now offsets)) ⌝ }
+    requires { ⌜ NodeAt (now nodes) 0 × (countAt (now nodes) 0 ≡ n) × (n ≤ 2001) × (n ≤ length (now offsets)) × Sought (now sizes) (now nodes) n from false false ⌝ }
     ensures answers { λ r. ⌜ ((m : Widths) → RowOf (now (sizes .entry)) m → (s : List ℕ) → r ≡ answerAt m s (now (nodes .entry)) limit) ⌝ }
     ensures fills { λ _. ⌜ ((m : Widths) → RowOf (now (sizes .entry)) m → (s : List ℕ) → now (offsets .exit) ≡ listFor m s (now (nodes .entry)) limit (now (offsets .entry))) ⌝ }
 {
-    match find(sizes, &nodes[0..], n) {
+    match find(sizes, &nodes[0..], from, n) {
         Found::BitField(i) => LaidOut::Refused(Refusal::BitFieldInLayout(i)),
         Found::Nothing => LaidOut::Nothing,
         Found::Sized => lay_out(sizes, &nodes[0..], n, limit, offsets),
@@ -603,6 +605,20 @@ impl Room {
             bytes: 0,
             alignment: 1,
         }
+    }
+
+    // The same, or where it is not said the node up to which it is known that none is a bitfield or has no size.
+    fn or_from(self, from: usize) -> Self
+        ensures said { λ r. ⌜ (0 < self .alignment → r ≡ self) ⌝ }
+        ensures unsaid { λ r. ⌜ (self .alignment ≡ 0 → (r .alignment ≡ 0) × (r .bytes ≡ from)) ⌝ }
+    {
+        if self.alignment == 0 {
+            return Room {
+                bytes: from as u64,
+                alignment: 0,
+            };
+        }
+        self
     }
 }
 
@@ -817,10 +833,12 @@ fn step(sizes: &[u8; 24], nodes: &[u64], o: Open, numbers: &mut [u64]) -> Open
     }
 }
 
-// What the whole tree takes, whose root is entered, in one pass that makes no calls for what is nested.
+// What the whole tree takes, whose root is entered, in one pass that makes no calls for what is nested; or else up to which node it is known that none is a
+// bitfield or has no size.
 fn walk(sizes: &[u8; 24], nodes: &[u64], n: usize, numbers: &mut [u64]) -> Room
     requires { ⌜ Powers (now sizes) × NodeAt (now nodes) 0 × Enters (now nodes) 0 × (countAt (now nodes) 0 ≡ n) × (n ≤ 2001) × (length (now numbers) ≡ n) × Zeros (now numbers) 0 n ⌝ }
-    ensures { λ r. ⌜ (0 < r .alignment → Settled (now (sizes .entry)) (now (nodes .entry)) (now (numbers .exit)) r) ⌝ }
+    ensures settles { λ r. ⌜ (0 < r .alignment → Settled (now (sizes .entry)) (now (nodes .entry)) (now (numbers .exit)) r) ⌝ }
+    ensures passed { λ r. ⌜ (r .alignment ≡ 0 → Sought (now (sizes .entry)) (now (nodes .entry)) n (r .bytes) false false) ⌝ }
 {
     let mut o = Open {
         container: 0,
@@ -830,30 +848,33 @@ fn walk(sizes: &[u8; 24], nodes: &[u64], n: usize, numbers: &mut [u64]) -> Room
         run: Room::new(),
     };
     loop {
-        if o.next < o.stop {
+        let from = o.next;
+        if from < o.stop {
             o = step(sizes, nodes, o, numbers);
         } else {
             if o.container == 0 {
-                return ended_room(o.kind, nodes[1], o.run);
+                return ended_room(o.kind, nodes[1], o.run).or_from(0);
             }
             o = close(sizes, nodes, o, numbers);
         }
         let run = o.run;
         if run.alignment == 0 {
-            return run;
+            return run.or_from(from);
         }
     }
 }
 
-// What the whole tree takes, where it is small, each laid-out node has a size and none is a bitfield; the numbers of its nodes are put into the list.
+// What the whole tree takes, where it is small, each laid-out node has a size and none is a bitfield; the numbers of its nodes are put into the list. Or else
+// up to which node that is known.
 fn quick_room(sizes: &[u8; 24], nodes: &[u64], n: usize, numbers: &mut [u64]) -> Room
     requires { ⌜ Powers (now sizes) × NodeAt (now nodes) 0 × (countAt (now nodes) 0 ≡ n) × (n ≤ 2001) × (length (now numbers) ≡ n) × Zeros (now numbers) 0 n ⌝ }
-    ensures { λ r. ⌜ (0 < r .alignment → Settled (now (sizes .entry)) (now (nodes .entry)) (now (numbers .exit)) r) ⌝ }
+    ensures settles { λ r. ⌜ (0 < r .alignment → Settled (now (sizes .entry)) (now (nodes .entry)) (now (numbers .exit)) r) ⌝ }
+    ensures passed { λ r. ⌜ (r .alignment ≡ 0 → Sought (now (sizes .entry)) (now (nodes .entry)) n (r .bytes) false false) ⌝ }
 {
     if enters(nodes, 0) {
         return walk(sizes, nodes, n, numbers);
     }
-    simple_room(sizes, nodes, 0)
+    simple_room(sizes, nodes, 0).or_from(0)
 }
 
 // The layout of any tree, by the quick walk where that comes to the end. The numbers are gathered in another list, which has 0 throughout.
@@ -871,7 +892,7 @@ fn lay_out_quick(
 {
     let x = quick_room(sizes, nodes, n, numbers);
     if x.alignment == 0 {
-        return lay_out_any(sizes, &nodes[0..], n, limit, offsets);
+        return lay_out_any(sizes, &nodes[0..], x.bytes as usize, n, limit, offsets);
     }
     let whole = Placed {
         bytes: Measured::Bytes(x.bytes),

@@ -7,81 +7,61 @@ use Rattle.layout.specs.Walking.{IsPower}
 use Rattle.layout.proofs.WalkLaws.{walking-within, walking-outer, walking-close, outer-index, outer-bytes, outer-alignment, outer-within, outer-added}
 use Rattle.layout.proofs.close.Statement.{statement}
 use Rattle.layout.proofs.close.Tie as tie
-use Rattle.layout.proofs.close.Reads as reads
-use Rattle.layout.proofs.close.Lts as lts
-use Rattle.layout.proofs.add_room.Reads as add-room-reads
-use Rattle.layout.proofs.ended_room.Reads as ended-room-reads
 
--- src/lib.rt:772:38
 mul-ended-room : tie.Need-mul-ended-room
 mul-ended-room c = search needs
 
--- src/lib.rt:772:38
 add-ended-room : tie.Need-add-ended-room
 add-ended-room c = search needs
 
--- src/lib.rt:772:32
 mul-ended-room-2 : tie.Need-mul-ended-room-2
 mul-ended-room-2 c = search needs
 
--- src/lib.rt:772:32
 shared-slice-read-ended-room : tie.Need-shared-slice-read-ended-room
 shared-slice-read-ended-room c = search needs
 
--- src/lib.rt:772:9
 ended-room-requires : tie.Need-ended-room-requires
 ended-room-requires c κs = search needs
 
--- src/lib.rt:773:16
 mul-word : tie.Need-mul-word
 mul-word c = search needs
 
--- src/lib.rt:773:16
 slice-read-word : tie.Need-slice-read-word
 slice-read-word c = search needs
 
--- src/lib.rt:779:22
 mul-kind : tie.Need-mul-kind
 mul-kind c = search needs
 
--- src/lib.rt:779:16
 mul-kind-2 : tie.Need-mul-kind-2
 mul-kind-2 c = search needs
 
--- src/lib.rt:779:16
 shared-slice-read-kind : tie.Need-shared-slice-read-kind
 shared-slice-read-kind c =
     let b = walking-within (c .before .before .before .before .before .before .pre .0) in
     let u = outer-within (c .before .before .before .before .before .before .pre .0) (c .before .before .before .before .before .before .pre .2) (outer-index (c .before .before .before .before .before .before .pre .0) (c .before .before .before .before .before .before .pre .2)) in
     omega arith
 
--- src/lib.rt:783:25
 mul-t11 : tie.Need-mul-t11
 mul-t11 c = search needs
 
--- src/lib.rt:783:25
 add-t13 : tie.Need-add-t13
 add-t13 c = search needs
 
--- src/lib.rt:783:19
 mul-t12 : tie.Need-mul-t12
 mul-t12 c = search needs
 
--- src/lib.rt:783:19
 shared-slice-read-t15 : tie.Need-shared-slice-read-t15
 shared-slice-read-t15 c =
     let b = walking-within (c .before .before .before .before .before .before .before .pre .0) in
     let u = outer-within (c .before .before .before .before .before .before .before .pre .0) (c .before .before .before .before .before .before .before .pre .2) (outer-index (c .before .before .before .before .before .before .before .pre .0) (c .before .before .before .before .before .before .before .pre .2)) in
     omega arith
 
--- src/lib.rt:783:15
 add-t22 : tie.Need-add-t22
 add-t22 c =
     let f = c .before .before .before .before .before .before .before .pre .0 .few in
     let u = outer-within (c .before .before .before .before .before .before .before .pre .0) (c .before .before .before .before .before .before .before .pre .2) (outer-index (c .before .before .before .before .before .before .before .pre .0) (c .before .before .before .before .before .before .before .pre .2)) in
     omega arith
 
--- src/lib.rt:785:14
 add-room-requires : tie.Need-add-room-requires
 add-room-requires c κs =
     let g = c .before .before .before .before .before .before .before .before .pre .0 in
@@ -91,11 +71,9 @@ add-room-requires c κs =
     let e = outer-bytes g (c .before .before .before .before .before .before .before .before .pre .2) in
     (subst IsPower (sym (outer-alignment g (c .before .before .before .before .before .before .before .before .pre .2))) (a .power), omega arith, λ h. let q = c .before .before .before .before .ended-room .ensures h in (q .power, q .small), omega arith)
 
--- src/lib.rt:767:1
 same-length : tie.Need-same-length
 same-length c = search needs
 
--- src/lib.rt:767:1
 returns : tie.Need-returns
 returns c =
     λ h. let g = c .before .before .before .before .before .before .before .before .before .before .before .pre .0 in

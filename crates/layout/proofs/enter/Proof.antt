@@ -4,63 +4,46 @@ use mathlib.Core.Path.{refl}
 use Rattle.layout.proofs.WalkLaws.{walking-within, walking-count, walking-enter}
 use Rattle.layout.proofs.enter.Statement.{statement}
 use Rattle.layout.proofs.enter.Tie as tie
-use Rattle.layout.proofs.enter.Reads as reads
-use Rattle.layout.proofs.enter.Lts as lts
-use Rattle.layout.proofs.Room.new.Reads as new-reads
 
--- src/lib.rt:756:19
 mul-numbers : tie.Need-mul-numbers
 mul-numbers c = search needs
 
--- src/lib.rt:756:19
 add-numbers : tie.Need-add-numbers
 add-numbers c = search needs
 
--- src/lib.rt:756:18
 mul-numbers-2 : tie.Need-mul-numbers-2
 mul-numbers-2 c = search needs
 
--- src/lib.rt:756:18
 add-numbers-2 : tie.Need-add-numbers-2
 add-numbers-2 c = search needs
 
--- src/lib.rt:756:5
 mul-numbers-3 : tie.Need-mul-numbers-3
 mul-numbers-3 c = search needs
 
--- src/lib.rt:756:5
 slice-write-numbers : tie.Need-slice-write-numbers
 slice-write-numbers c = search needs
 
--- src/lib.rt:759:21
 mul-t12 : tie.Need-mul-t12
 mul-t12 c = search needs
 
--- src/lib.rt:759:15
 mul-t14 : tie.Need-mul-t14
 mul-t14 c = search needs
 
--- src/lib.rt:759:15
 shared-slice-read-t7 : tie.Need-shared-slice-read-t7
 shared-slice-read-t7 c = search needs
 
--- src/lib.rt:760:25
 mul-t16 : tie.Need-mul-t16
 mul-t16 c = search needs
 
--- src/lib.rt:760:25
 add-t17 : tie.Need-add-t17
 add-t17 c = search needs
 
--- src/lib.rt:760:19
 mul-t18 : tie.Need-mul-t18
 mul-t18 c = search needs
 
--- src/lib.rt:760:19
 shared-slice-read-t11 : tie.Need-shared-slice-read-t11
 shared-slice-read-t11 c = search needs
 
--- src/lib.rt:760:15
 add-t21 : tie.Need-add-t21
 add-t21 c =
     let b = walking-within (c .before .before .before .before .before .before .before .pre .0) in
@@ -68,19 +51,15 @@ add-t21 c =
     let f = c .before .before .before .before .before .before .before .pre .0 .few in
     omega arith
 
--- src/lib.rt:761:15
 add-t22 : tie.Need-add-t22
 add-t22 c = search needs
 
--- src/lib.rt:762:14
 new-requires : tie.Need-new-requires
 new-requires c κs = search needs
 
--- src/lib.rt:750:1
 same-length : tie.Need-same-length
 same-length c = search needs
 
--- src/lib.rt:750:1
 returns : tie.Need-returns
 returns c = (walking-enter (c .before .before .before .before .before .before .before .before .pre .0) (c .before .before .before .before .before .before .before .before .pre .1) (c .before .before .before .before .before .before .before .before .pre .2) refl refl refl refl refl (c .new .ensures .0) (c .new .ensures .1), omega arith)
 

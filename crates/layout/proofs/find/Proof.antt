@@ -5,18 +5,18 @@ use mathlib.Core.Bool.{true, false}
 use native.Mathlib.Omega.{arith}
 use borrow.Author.Needs.{needs}
 use Rattle.layout.specs.Walking.{Sought}
-use Rattle.layout.proofs.FindLaws.{sought-first, sought-end, sought-within, sought-bits, sought-passed, sought-kept, sought-code}
+use Rattle.layout.proofs.FindLaws.{sought-end, sought-within, sought-bits, sought-passed, sought-kept, sought-code}
 use Rattle.layout.proofs.find.Statement.{statement}
 use Rattle.layout.proofs.find.Tie as tie
 
 abbrev Inv-loop : tie.InvT-loop
-Inv-loop sizes nodes n i₀ bottom₀ none₀ i bottom none = Sought sizes nodes n i bottom none
+Inv-loop sizes nodes from n i₀ bottom₀ none₀ i bottom none = Sought sizes nodes n i bottom none
 
 abbrev μ-loop : tie.MeasureT-loop
-μ-loop sizes nodes n i₀ bottom₀ none₀ i bottom none = n - i
+μ-loop sizes nodes from n i₀ bottom₀ none₀ i bottom none = n - i
 
 loop-holds : tie.Need-loop-holds Inv-loop μ-loop
-loop-holds c = let pre = c .before .pre in sought-first _ _ _ (pre .0) (pre .1)
+loop-holds c = c .before .pre
 
 returns : tie.Need-returns Inv-loop μ-loop
 returns c =

@@ -15,7 +15,7 @@ part-find-end : tie.Need-part-find-end
 part-find-end c = search needs
 
 find-requires : tie.Need-find-requires
-find-requires c κs = rw whole (c .before .before .before .pre .0, c .before .before .before .pre .1)
+find-requires c κs = rw whole (c .before .before .before .pre .4)
 
 enum-known-i : tie.Need-enum-known-i
 enum-known-i c = search needs

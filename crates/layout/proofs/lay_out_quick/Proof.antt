@@ -21,7 +21,7 @@ part-lay-out-any-end c = search needs
 lay-out-any-requires : tie.Need-lay-out-any-requires
 lay-out-any-requires c κs =
     let p = c .before .before .before .before .before .before .before .before .before .before .before .pre in
-    rw whole (p .1, p .2, p .3, p .4)
+    rw whole (p .1, p .2, p .3, p .4, c .before .before .before .before .before .before .quick-room .ensures .1 (c .before .before .if1 .taken))
 
 same-length : tie.Need-same-length
 same-length c = search needs
@@ -33,10 +33,10 @@ returns : tie.Need-returns
 returns c =
     (λ m o s. rw whole at (c .before .before .lay-out-any .ensures .0 m o s), λ m o s. rw whole at (c .before .before .lay-out-any .ensures .1 m o s))
 
-cast-t19 : tie.Need-cast-t19
-cast-t19 c =
+cast-t20 : tie.Need-cast-t20
+cast-t20 c =
     let h = c .before .if1 .left in
-    let s = c .before .before .before .before .before .quick-room .ensures (omega arith) in
+    let s = c .before .before .before .before .before .quick-room .ensures .0 (omega arith) in
     let b = s .power .1 in
     omega arith
 
@@ -64,7 +64,7 @@ returns-2 c =
     let p = c .before .before .before .before .before .before .before .before .before .before .before .before .before .before .before .before .pre in
     let q = c .before .before .before .before .before .before .before .before .before .before .before .quick-room in
     let h = c .before .before .before .before .before .before .before .if1 .left in
-    let g = q .ensures (omega arith) in
+    let g = q .ensures .0 (omega arith) in
     let f = rw whole at (c .before .before .finish .ensures) in
     let n = p .1 .some-node in
     let w = a .nodes .now in (
@@ -87,7 +87,7 @@ lay-out-quick-spec =
     same-length
     same-length-2
     returns
-    cast-t19
+    cast-t20
     sub-finish
     part-finish-start
     part-finish-end

@@ -6,46 +6,31 @@ use Rattle.layout.proofs.RoomLaws.{simple-plain}
 use Rattle.layout.proofs.WalkLaws.{walking-within, walking-node, walking-count, walking-put}
 use Rattle.layout.proofs.step.Statement.{statement}
 use Rattle.layout.proofs.step.Tie as tie
-use Rattle.layout.proofs.step.Reads as reads
-use Rattle.layout.proofs.step.Lts as lts
-use Rattle.layout.proofs.add_room.Reads as add-room-reads
-use Rattle.layout.proofs.code_room.Reads as code-room-reads
-use Rattle.layout.proofs.enter.Reads as enter-reads
-use Rattle.layout.proofs.enters.Reads as enters-reads
-use Rattle.layout.proofs.simple_room.Reads as simple-room-reads
 
--- src/lib.rt:795:22
 mul-kind : tie.Need-mul-kind
 mul-kind c = search needs
 
--- src/lib.rt:795:16
 mul-kind-2 : tie.Need-mul-kind-2
 mul-kind-2 c = search needs
 
--- src/lib.rt:795:16
 shared-slice-read-kind : tie.Need-shared-slice-read-kind
 shared-slice-read-kind c = search needs
 
--- src/lib.rt:801:19
 add-t13 : tie.Need-add-t13
 add-t13 c = search needs
 
--- src/lib.rt:802:42
 code-room-requires : tie.Need-code-room-requires
 code-room-requires c κs = search needs
 
--- src/lib.rt:802:18
 add-room-requires : tie.Need-add-room-requires
 add-room-requires c κs =
     let g = c .before .before .before .before .before .before .pre .1 in
     let b = walking-within g in
     (g .level .power, g .level .small, λ h. let q = c .before .code-room .ensures h in let s = q .small in (q .power, omega arith), omega arith)
 
--- src/lib.rt:797:9
 same-length : tie.Need-same-length
 same-length c = search needs
 
--- src/lib.rt:797:9
 returns : tie.Need-returns
 returns c =
     λ h. let g = c .before .before .before .before .before .before .before .before .before .pre .1 in
@@ -55,51 +40,39 @@ returns c =
     let n = leaf-count _ _ (walking-node g (c .before .before .before .before .before .before .before .before .before .pre .2)) (omega arith) in
     (walking-put g (c .before .before .before .before .before .before .before .before .before .pre .2) (simple-plain _ _ _ (omega arith) q) a (omega arith), omega arith)
 
--- src/lib.rt:805:39
 mul-simple-room : tie.Need-mul-simple-room
 mul-simple-room c = search needs
 
--- src/lib.rt:805:9
 simple-room-requires : tie.Need-simple-room-requires
 simple-room-requires c κs = (c .before .before .before .before .pre .0, walking-node (c .before .before .before .before .pre .1) (c .before .before .before .before .pre .2))
 
--- src/lib.rt:807:26
 mul-enters : tie.Need-mul-enters
 mul-enters c = search needs
 
--- src/lib.rt:807:12
 enters-requires : tie.Need-enters-requires
 enters-requires c κs = walking-node (c .before .before .before .before .before .before .before .pre .1) (c .before .before .before .before .before .before .before .pre .2)
 
--- src/lib.rt:808:13
 enter-requires : tie.Need-enter-requires
 enter-requires c κs = (c .before .before .before .before .before .before .before .before .before .before .pre .1, c .before .before .before .before .before .before .before .before .before .before .pre .2, c .before .before .enters .ensures (c .before .if3 .taken))
 
--- src/lib.rt:808:13
 same-length-2 : tie.Need-same-length-2
 same-length-2 c = search needs
 
--- src/lib.rt:808:13
 returns-2 : tie.Need-returns-2
 returns-2 c = search needs
 
--- src/lib.rt:815:25
 mul-t9 : tie.Need-mul-t9
 mul-t9 c = search needs
 
--- src/lib.rt:815:25
 add-t8 : tie.Need-add-t8
 add-t8 c = search needs
 
--- src/lib.rt:815:19
 mul-t23 : tie.Need-mul-t23
 mul-t23 c = search needs
 
--- src/lib.rt:815:19
 shared-slice-read-t11 : tie.Need-shared-slice-read-t11
 shared-slice-read-t11 c = search needs
 
--- src/lib.rt:815:15
 add-t26 : tie.Need-add-t26
 add-t26 c =
     let b = walking-within (c .before .before .before .before .before .before .before .before .pre .1) in
@@ -107,18 +80,15 @@ add-t26 c =
     let f = c .before .before .before .before .before .before .before .before .pre .1 .few in
     omega arith
 
--- src/lib.rt:816:14
 add-room-requires-2 : tie.Need-add-room-requires-2
 add-room-requires-2 c κs =
     let g = c .before .before .before .before .before .before .before .before .before .pre .1 in
     let b = walking-within g in
     (g .level .power, g .level .small, λ h. let q = c .before .before .before .before .simple-room .ensures h in (q .power, q .small), omega arith)
 
--- src/lib.rt:790:1
 same-length-3 : tie.Need-same-length-3
 same-length-3 c = search needs
 
--- src/lib.rt:790:1
 returns-3 : tie.Need-returns-3
 returns-3 c =
     λ h. let g = c .before .before .before .before .before .before .before .before .before .before .before .before .pre .1 in
