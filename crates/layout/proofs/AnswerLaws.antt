@@ -23,7 +23,6 @@ use Rattle.sheet.specs.Given.{NodesAre}
 use Rattle.sheet.proofs.GivenLaws.{answer-refused, answer-held}
 use Rattle.helper.specs.Answer.{maxSize}
 use Rattle.helper.specs.Measure.{fit}
-use Rattle.helper.specs.declared.Measured.the-variants.{Bytes}
 use Rattle.helper.proofs.SizeLaws.{fit-gt}
 use Rattle.layout.specs.Answer.{offsetsIn, allWithin, fitted, unlessBitField, layoutOf, layoutIn, layoutAnswer, listAfter, listIn, layoutList}
 use Rattle.layout.specs.Layout.{Extent, laidOut, firstBitField, anySizeless, extent, onlyExtent, others}

@@ -4,22 +4,18 @@ use native.Mathlib.Omega.{arith}
 use mathlib.Core.Path.{_≡_, refl, ap, ap₂, sym, _∙_, subst, subst₂}
 use mathlib.Core.List.{List, map}
 use mathlib.Core.Bool.{Bool, true, false, _||_}
-use mathlib.Core.Logic.{_⊎_}
-use borrow.Author.Tests.{ne-eqb, lt-ltb, le-ltb, lt-leb, eqb-true, eqb-false}
-use lib.Bits.{bitAnd}
+use borrow.Author.Tests.{ne-eqb, eqb-true, eqb-false}
 use lib.Dec.{eqb}
 use lib.ListN.{length, getD, set, length-set}
 use lib.Seq.{sets, set-set, set-getD, getD-set-same, getD-set-other}
-use Rattle.kinds.specs.Primitive.{Widths}
 use Rattle.kinds.specs.Sheet.{kindAt, firstAt, countAt}
 use Rattle.kinds.specs.Walk.{NodeAt, TreesAt}
 use Rattle.kinds.proofs.NodeLaws.{node-inner}
 use Rattle.kinds.proofs.StoreLaws.{set-sets}
-use Rattle.helper.specs.Measure.{RowOf}
 use Rattle.helper.specs.declared.Measured.the-variants.{Bytes}
 use Rattle.layout.specs.Layout.{noRoom}
-use Rattle.layout.specs.Placing.{placedOf, stored, storedOf, offsetsBelow, beginMeasured, withField, endedBy, sizelessKind, passesKind, bottomAfter, Zeros, LaidBelow, Laid}
-use Rattle.layout.specs.Walking.{Filling, Sought, roomPlaced, IsPower, most, IsSized, SimpleRoom, EndedRoom, AddedRoom, frame, Enters, Level, Around, Stack, Walking, Settled}
+use Rattle.layout.specs.Placing.{placedOf, stored, storedOf, offsetsBelow, beginMeasured, withField, endedBy, sizelessKind, passesKind, bottomAfter, Zeros, Laid}
+use Rattle.layout.specs.Walking.{Sought, roomPlaced, IsPower, most, SimpleRoom, EndedRoom, AddedRoom, frame, Enters, Level, Around, Stack, Walking, Settled}
 use Rattle.layout.specs.declared.Open.{Open}
 use Rattle.layout.specs.declared.Placed.{Placed}
 use Rattle.layout.specs.declared.Room.{Room}

@@ -11,7 +11,7 @@ use lib.ListN.{length, getD, set}
 use lib.Seq.{sets}
 use Rattle.kinds.specs.Parse.{maxU64}
 use Rattle.kinds.specs.Primitive.{Widths}
-use Rattle.kinds.specs.Sheet.{kindAt, firstAt, countAt, trees}
+use Rattle.kinds.specs.Sheet.{kindAt, countAt, trees}
 use Rattle.kinds.specs.Tree.{Label, Trees, end, node, isEnd, count, inside, shows}
 use Rattle.kinds.specs.Walk.{NodeAt, TreesAt}
 use Rattle.kinds.specs.declared.NestingLevel.{NestingLevel}

@@ -37,8 +37,9 @@ mul-kind-2 c = search needs
 
 shared-slice-read-kind : tie.Need-shared-slice-read-kind
 shared-slice-read-kind c =
-    let b = walking-within (c .before .before .before .before .before .before .pre .0) in
-    let u = outer-within (c .before .before .before .before .before .before .pre .0) (c .before .before .before .before .before .before .pre .2) (outer-index (c .before .before .before .before .before .before .pre .0) (c .before .before .before .before .before .before .pre .2)) in
+    let c6 = c .before .before .before .before .before .before in
+    let b = walking-within (c6 .pre .0) in
+    let u = outer-within (c6 .pre .0) (c6 .pre .2) (outer-index (c6 .pre .0) (c6 .pre .2)) in
     omega arith
 
 mul-t11 : tie.Need-mul-t11
@@ -52,37 +53,47 @@ mul-t12 c = search needs
 
 shared-slice-read-t15 : tie.Need-shared-slice-read-t15
 shared-slice-read-t15 c =
-    let b = walking-within (c .before .before .before .before .before .before .before .pre .0) in
-    let u = outer-within (c .before .before .before .before .before .before .before .pre .0) (c .before .before .before .before .before .before .before .pre .2) (outer-index (c .before .before .before .before .before .before .before .pre .0) (c .before .before .before .before .before .before .before .pre .2)) in
+    let c7 = c .before .before .before .before .before .before .before in
+    let b = walking-within (c7 .pre .0) in
+    let u = outer-within (c7 .pre .0) (c7 .pre .2) (outer-index (c7 .pre .0) (c7 .pre .2)) in
     omega arith
 
 add-t22 : tie.Need-add-t22
 add-t22 c =
-    let f = c .before .before .before .before .before .before .before .pre .0 .few in
-    let u = outer-within (c .before .before .before .before .before .before .before .pre .0) (c .before .before .before .before .before .before .before .pre .2) (outer-index (c .before .before .before .before .before .before .before .pre .0) (c .before .before .before .before .before .before .before .pre .2)) in
+    let c7 = c .before .before .before .before .before .before .before in
+    let f = c7 .pre .0 .few in
+    let u = outer-within (c7 .pre .0) (c7 .pre .2) (outer-index (c7 .pre .0) (c7 .pre .2)) in
     omega arith
 
 add-room-requires : tie.Need-add-room-requires
 add-room-requires c κs =
-    let g = c .before .before .before .before .before .before .before .before .pre .0 in
+    let c4 = c .before .before .before .before in
+    let c8 = c4 .before .before .before .before in
+    let g = c8 .pre .0 in
     let b = walking-within g in
-    let a = walking-outer g (c .before .before .before .before .before .before .before .before .pre .2) .around .level in
+    let a = walking-outer g (c8 .pre .2) .around .level in
     let s = a .small in
-    let e = outer-bytes g (c .before .before .before .before .before .before .before .before .pre .2) in
-    (subst IsPower (sym (outer-alignment g (c .before .before .before .before .before .before .before .before .pre .2))) (a .power), omega arith, λ h. let q = c .before .before .before .before .ended-room .ensures h in (q .power, q .small), omega arith)
+    let e = outer-bytes g (c8 .pre .2) in
+    (subst IsPower (sym (outer-alignment g (c8 .pre .2))) (a .power), omega arith, λ h. let q = c4 .ended-room .ensures h in (q .power, q .small), omega arith)
 
 same-length : tie.Need-same-length
 same-length c = search needs
 
 returns : tie.Need-returns
 returns c =
-    λ h. let g = c .before .before .before .before .before .before .before .before .before .before .before .pre .0 in
-    let p = c .before .before .before .before .before .before .before .before .before .before .before .pre .2 in
+    let c2 = c .before .before in
+    let c7 = c2 .before .before .before .before .before in
+    let c11 = c7 .before .before .before .before in
+    λ h. let g = c11 .pre .0 in
+    let p = c11 .pre .2 in
     let i = outer-index g p in
-    let a = c .before .before .add-room .ensures h in
-    let q = c .before .before .before .before .before .before .before .ended-room .ensures (a .some-room) in
-    let w = c .before .before .before .before .before .before .before .before .before .before .before .args .nodes .now in
-    (walking-close g p (c .before .before .before .before .before .before .before .before .before .before .before .pre .1) q (outer-added g p a) i (ap (λ (c : ℕ). kindAt w (4 * c)) i) (ap (λ (c : ℕ). c + countAt w (4 * c)) i) refl refl, refl, outer-within g p i .0)
+    let a = c2 .add-room .ensures h in
+    let q = c7 .ended-room .ensures (a .some-room) in
+    let w = c11 .args .nodes .now in (
+      walking-close g p (c11 .pre .1) q (outer-added g p a) i (ap (λ (c : ℕ). kindAt w (4 * c)) i) (ap (λ (c : ℕ). c + countAt w (4 * c)) i) refl refl,
+      refl,
+      outer-within g p i .0,
+    )
 
 pub close-spec : {M : Type 1} → statement M
 close-spec =

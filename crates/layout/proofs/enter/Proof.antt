@@ -46,9 +46,10 @@ shared-slice-read-t11 c = search needs
 
 add-t21 : tie.Need-add-t21
 add-t21 c =
-    let b = walking-within (c .before .before .before .before .before .before .before .pre .0) in
-    let n = walking-count (c .before .before .before .before .before .before .before .pre .0) (c .before .before .before .before .before .before .before .pre .1) in
-    let f = c .before .before .before .before .before .before .before .pre .0 .few in
+    let c7 = c .before .before .before .before .before .before .before in
+    let b = walking-within (c7 .pre .0) in
+    let n = walking-count (c7 .pre .0) (c7 .pre .1) in
+    let f = c7 .pre .0 .few in
     omega arith
 
 add-t22 : tie.Need-add-t22
@@ -61,7 +62,9 @@ same-length : tie.Need-same-length
 same-length c = search needs
 
 returns : tie.Need-returns
-returns c = (walking-enter (c .before .before .before .before .before .before .before .before .pre .0) (c .before .before .before .before .before .before .before .before .pre .1) (c .before .before .before .before .before .before .before .before .pre .2) refl refl refl refl refl (c .new .ensures .0) (c .new .ensures .1), omega arith)
+returns c =
+    let c8 = c .before .before .before .before .before .before .before .before in
+    (walking-enter (c8 .pre .0) (c8 .pre .1) (c8 .pre .2) refl refl refl refl refl (c .new .ensures .0) (c .new .ensures .1), omega arith)
 
 pub enter-spec : {M : Type 1} → statement M
 enter-spec =

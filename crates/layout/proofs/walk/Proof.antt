@@ -1,10 +1,9 @@
 use borrow.Author.Needs.{needs}
-use Prim.Native.Nat.{ℕ, _+_, _-_, _*_, _<_}
+use Prim.Native.Nat.{ℕ}
 use native.Mathlib.Omega.{arith}
 use lib.ListN.{length}
 use mathlib.Core.Path.{_≡_, refl, ap, sym, _∙_, subst}
 use mathlib.Core.Logic.{⊎-elim}
-use Rattle.kinds.specs.Sheet.{firstAt, countAt}
 use mathlib.Core.Bool.{false}
 use Rattle.layout.specs.Walking.{Sought, Walking, Settled}
 use Rattle.layout.proofs.FindLaws.{sought-first}
@@ -20,7 +19,9 @@ abbrev μ-loop : tie.MeasureT-loop
 μ-loop sizes nodes n numbers₀ o₀ numbers o = rank nodes o
 
 shared-slice-read-t9 : tie.Need-shared-slice-read-t9 Inv-loop μ-loop
-shared-slice-read-t9 c = let r = c .before .before .before .pre .1 .room in let n = c .before .before .before .pre .1 .some-node in omega arith
+shared-slice-read-t9 c =
+    let c3 = c .before .before .before in
+    let r = c3 .pre .1 .room in let n = c3 .pre .1 .some-node in omega arith
 
 new-requires : tie.Need-new-requires Inv-loop μ-loop
 new-requires c κs = search needs
@@ -32,10 +33,15 @@ loop-holds c =
     walking-first (p .1) (p .2) (omega arith) (p .5 ∙ sym e) (λ k h. p .6 k (omega arith)) refl refl (sym e) refl (c .new .ensures .0) (c .new .ensures .1)
 
 step-requires : tie.Need-step-requires Inv-loop μ-loop
-step-requires c κs = (c .before .before .before .before .before .before .before .before .pre .0, c .before .before .before .loop .inv, c .before .if1 .taken)
+step-requires c κs =
+    let c3 = c .before .before .before in
+    let c8 = c3 .before .before .before .before .before in
+    (c8 .pre .0, c3 .loop .inv, c .before .if1 .taken)
 
 shared-slice-read-ended-room : tie.Need-shared-slice-read-ended-room Inv-loop μ-loop
-shared-slice-read-ended-room c = let r = c .before .before .before .before .before .before .before .before .before .before .pre .1 .room in let n = c .before .before .before .before .before .before .before .before .before .before .pre .1 .some-node in omega arith
+shared-slice-read-ended-room c =
+    let c10 = c .before .before .before .before .before .before .before .before .before .before in
+    let r = c10 .pre .1 .room in let n = c10 .pre .1 .some-node in omega arith
 
 ended-room-requires : tie.Need-ended-room-requires Inv-loop μ-loop
 ended-room-requires c κs =
@@ -53,40 +59,61 @@ same-length c = let a = walking-within (c .before .before .before .before .befor
 
 returns : tie.Need-returns Inv-loop μ-loop
 returns c =
-    let a = c .before .before .before .before .before .before .before .before .before .before .before .before .args in
-    told (Settled (a .sizes .now) (a .nodes .now) (c .before .before .before .before .before .before .before .loop .numbers)) (λ (i : ℕ). Sought (a .sizes .now) (a .nodes .now) (a .n) i false false)
+    let c3 = c .before .before .before in
+    let c5 = c3 .before .before in
+    let c7 = c5 .before .before in
+    let c12 = c7 .before .before .before .before .before in
+    let a = c12 .args in
+    told (Settled (a .sizes .now) (a .nodes .now) (c7 .loop .numbers)) (λ (i : ℕ). Sought (a .sizes .now) (a .nodes .now) (a .n) i false false)
     (c .or-from .ensures .0) (c .or-from .ensures .1)
-    (λ h. walking-end (c .before .before .before .before .before .before .before .loop .inv) (c .before .before .before .before .before .if1 .left) (c .before .before .before .if2 .taken) (ended-as (a .nodes .now) (c .before .before .before .if2 .taken) (c .before .ended-room .ensures h)))
-    (sought-first (a .sizes .now) (a .nodes .now) (a .n) (c .before .before .before .before .before .before .before .before .before .before .before .before .pre .1) (c .before .before .before .before .before .before .before .before .before .before .before .before .pre .3))
+    (λ h. walking-end (c7 .loop .inv) (c5 .if1 .left) (c3 .if2 .taken) (ended-as (a .nodes .now) (c3 .if2 .taken) (c .before .ended-room .ensures h)))
+    (sought-first (a .sizes .now) (a .nodes .now) (a .n) (c12 .pre .1) (c12 .pre .3))
 
 close-requires : tie.Need-close-requires Inv-loop μ-loop
-close-requires c κs = let z = c .before .if2 .left in (c .before .before .before .before .before .loop .inv, c .before .before .before .if1 .left, omega arith)
+close-requires c κs =
+    let c3 = c .before .before .before in
+    let c5 = c3 .before .before in
+    let z = c .before .if2 .left in (c5 .loop .inv, c3 .if1 .left, omega arith)
 
 or-from-requires-2 : tie.Need-or-from-requires-2 Inv-loop μ-loop
 or-from-requires-2 c κs = search needs
 
 same-length-2 : tie.Need-same-length-2 Inv-loop μ-loop
 same-length-2 c =
-    let l = walking-within (c .before .before .before .before .before .before .loop .inv) .3 in
-    let p = c .before .before .before .before .before .before .before .before .before .before .before .pre in
+    let c4 = c .before .before .before .before in
+    let c6 = c4 .before .before in
+    let c11 = c6 .before .before .before .before .before in
+    let l = walking-within (c6 .loop .inv) .3 in
+    let p = c11 .pre in
     let n = p .3 in
     let m = p .5 in
-    let k : length (c .before .before .before .before .before .before .loop .numbers) ≡ length (c .before .before .before .before .before .before .before .before .before .before .before .args .numbers .now) = omega arith in
-    ⊎-elim (λ j. ap length (j .5) ∙ j .3 .given ∙ k) (λ j. ap length (j .7) ∙ j .5 .given ∙ k) (c .before .before .before .before .if1 .came)
+    let k : length (c6 .loop .numbers) ≡ length (c11 .args .numbers .now) = omega arith in
+    ⊎-elim (λ j. ap length (j .5) ∙ j .3 .given ∙ k) (λ j. ap length (j .7) ∙ j .5 .given ∙ k) (c4 .if1 .came)
 
 returns-2 : tie.Need-returns-2 Inv-loop μ-loop
 returns-2 c =
-    let a = c .before .before .before .before .before .before .before .before .before .before .before .args in
+    let c4 = c .before .before .before .before in
+    let c6 = c4 .before .before in
+    let c11 = c6 .before .before .before .before .before in
+    let a = c11 .args in
     let e = c .before .if3 .taken in
-    told (Settled (a .sizes .now) (a .nodes .now) (c .before .before .before .before .if1 .numbers)) (λ (i : ℕ). Sought (a .sizes .now) (a .nodes .now) (a .n) i false false)
+    told (Settled (a .sizes .now) (a .nodes .now) (c4 .if1 .numbers)) (λ (i : ℕ). Sought (a .sizes .now) (a .nodes .now) (a .n) i false false)
     (c .or-from2 .ensures .0) (c .or-from2 .ensures .1) (λ h. absurd (omega arith))
-    (subst (λ (n : ℕ). Sought (a .sizes .now) (a .nodes .now) n (c .before .before .before .before .before .before .loop .o .next) false false) (c .before .before .before .before .before .before .before .before .before .before .before .pre .3) (c .before .before .before .before .before .before .loop .inv .sought))
+    (subst (λ (n : ℕ). Sought (a .sizes .now) (a .nodes .now) n (c6 .loop .o .next) false false) (c11 .pre .3) (c6 .loop .inv .sought))
 
 loop-less : tie.Need-loop-less Inv-loop μ-loop
-loop-less c = (⊎-elim (λ j. stepped (c .before .before .before .before .before .loop .o) (j .2 .ensures) (j .5) (j .6) (c .if3 .left)) (λ j. closed (c .before .before .before .before .before .loop .o) (j .4 .ensures) (j .7) (j .8) (c .if3 .left)) (c .before .before .before .if1 .came)) .1
+loop-less c =
+    let c3 = c .before .before .before in
+    let c5 = c3 .before .before in
+    (⊎-elim (λ j. stepped (c5 .loop .o) (j .2 .ensures) (j .5) (j .6) (c .if3 .left)) (λ j. closed (c5 .loop .o) (j .4 .ensures) (j .7) (j .8) (c .if3 .left))
+    (c3 .if1 .came)) .1
 
 loop-again : tie.Need-loop-again Inv-loop μ-loop
-loop-again c = (⊎-elim (λ j. stepped (c .before .before .before .before .before .loop .o) (j .2 .ensures) (j .5) (j .6) (c .if3 .left)) (λ j. closed (c .before .before .before .before .before .loop .o) (j .4 .ensures) (j .7) (j .8) (c .if3 .left)) (c .before .before .before .if1 .came)) .0
+loop-again c =
+    let c3 = c .before .before .before in
+    let c5 = c3 .before .before in
+    (⊎-elim (λ j. stepped (c5 .loop .o) (j .2 .ensures) (j .5) (j .6) (c .if3 .left)) (λ j. closed (c5 .loop .o) (j .4 .ensures) (j .7) (j .8) (c .if3 .left))
+    (c3 .if1 .came)) .0
 
 pub walk-spec : {M : Type 1} → statement M
 walk-spec =
