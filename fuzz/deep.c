@@ -142,13 +142,31 @@ static void run_pair(size_t at) {
     }
 }
 
-/* As it is, and with an int as its last node: None there has no layout. Bitfields are refused. */
+/* An int as its last node; or, if that is held by the one before it, an array of 2^31 chars as both. */
+static void end_other(int with_array) {
+    uint64_t *last = other.words + 4 * BERZHOTUN_MAX_NODES;
+    uint64_t array[4] = {BERZHOTUN_ARRAY, UINT64_C(1) << 31, 0, 2};
+    last[0] = BERZHOTUN_INT;
+    if (!with_array || last[-1] != 2) {
+        return;
+    }
+    last[0] = BERZHOTUN_CHAR;
+    if (last[-4] == BERZHOTUN_STRUCT || last[-4] == BERZHOTUN_UNION) {
+        other.words[2] = --other.names_length;
+    }
+    memcpy(last - 4, array, sizeof array);
+}
+
+/* As it is, and with other last nodes: None there has no layout, and a large array is laid out the longer way. Bitfields are
+ * refused. */
 static void run_layouts(void) {
-    int with_int;
-    other = tree;
-    other.words[4 * BERZHOTUN_MAX_NODES] = BERZHOTUN_INT;
-    for (with_int = 0; with_int < 2; with_int++) {
-        lend_sheet(0, with_int ? &other : &tree);
+    int ending;
+    for (ending = 0; ending < 3; ending++) {
+        other = tree;
+        if (ending != 0) {
+            end_other(ending == 2);
+        }
+        lend_sheet(0, &other);
         for (row = 0; row <= BERZHOTUN_ROW_GUIDE; row++) {
             uint64_t refusal = call_on_stack(LAYOUT);
             if (refusal != 0 && refusal != BERZHOTUN_BIT_FIELD_IN_LAYOUT) {

@@ -1,6 +1,7 @@
 //! Document 01, "The sheet": a plain test of the layout and of the names, written from that paragraph.
 
 /// The kinds that are spoken of by name; 0 to 23 are the primitives in the crate's order.
+pub const CHAR: u64 = 0;
 pub const INT: u64 = 2;
 pub const LONG: u64 = 3;
 pub const UNSIGNED_LONG: u64 = 8;

@@ -24,8 +24,8 @@ pub fn run(kibibytes: usize) -> bool {
     fits
 }
 
-/// Chains of 2,001 nodes, of each kind that holds something and of all in turn; and records that are not the
-/// last field of theirs, so that a walk must come back to each.
+/// Chains of 2,001 nodes, of each kind that holds something and of all in turn; records that are not the last field
+/// of theirs, so that a walk must come back to each; and records around an array that only the longer way lays out.
 fn deepest() -> Vec<Tree> {
     let kinds: [&[u64]; 8] = [
         &[POINTER],
@@ -37,7 +37,7 @@ fn deepest() -> Vec<Tree> {
         &[STRUCT, POINTER, UNION, ARRAY],
         &[ARRAY, TYPED_BITFIELD],
     ];
-    kinds.iter().map(|kinds| chain(kinds)).chain([records()]).collect()
+    kinds.iter().map(|kinds| chain(kinds)).chain([records(), large_records()]).collect()
 }
 
 fn chain(kinds: &[u64]) -> Tree {
@@ -71,6 +71,15 @@ fn records() -> Tree {
         tree.nodes.push(Node { kind: STRUCT, first: depth, second: 1, count: MOST_NODES - 2 * depth });
     }
     tree.nodes.resize(MOST_NODES as usize, Node { kind: INT, first: 0, second: 0, count: 1 });
+    tree
+}
+
+/// Records, one in the other, and in the last an array of 2^31 chars.
+fn large_records() -> Tree {
+    let mut tree = chain(&[STRUCT]);
+    tree.names.pop();
+    tree.nodes[MOST_NODES as usize - 2] = Node { kind: ARRAY, first: 1 << 31, second: 0, count: 2 };
+    tree.nodes[MOST_NODES as usize - 1].kind = CHAR;
     tree
 }
 

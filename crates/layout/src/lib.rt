@@ -456,7 +456,7 @@ fn find(sizes: &[u8; 24], nodes: &[u64], from: usize, n: usize) -> Found
         let at = 4 * i;
         let kind = nodes[at];
         if kind < PRIMITIVES {
-            // codes, which are most of all nodes
+            // codes, which come in long rows, before the rest
             none = either(none, sizes[kind as usize] == 0);
             bottom = false;
             i += 1;
