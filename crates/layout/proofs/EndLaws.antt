@@ -1,12 +1,13 @@
 -- Laws of the end: the limit, the copy of the numbers, and the answer for a whole tree.
-use Prim.Native.Nat.{ℕ, _+_, _-_, _≤_, _<_}
+use Prim.Native.Nat.{ℕ, zero, suc, _+_, _-_, _≤_, _<_}
 use native.Mathlib.Omega.{arith}
 use native.Mathlib.Numerals.{add-one}
-use mathlib.Core.Path.{_≡_, refl, ap, ap₂, sym, _∙_}
-use mathlib.Core.List.{List, _++_}
-use mathlib.Core.Bool.{Bool, true, false, not, _&&_}
-use borrow.Author.Tests.{le-leb, eq-eqb, ne-eqb, not-true, not-false}
-use lib.Dec.{leb}
+use mathlib.Core.Path.{_≡_, refl, ap, ap₂, sym, _∙_, subst}
+use mathlib.Core.List.{List, [], _∷_, _++_}
+use mathlib.Core.Bool.{Bool, true, false, not, _&&_, _||_}
+use borrow.Author.Tests.{le-leb, eq-eqb, ne-eqb, not-true, not-false, ltb-true, ltb-false}
+use lib.Bits.{bitOr, or-add-and, and-le-l, and-le-r}
+use lib.Dec.{leb, ltb, eqb}
 use lib.ListN.{length, getD, set, drop}
 use lib.Seq.{sets, sets-eq}
 use Rattle.kinds.specs.Parse.{maxU64}
@@ -37,6 +38,50 @@ limit-largest limit ns e = rw (eq-eqb limit maxU64 e)
 pub limit-other : (limit : ℕ) (ns : List ℕ) → (limit ≡ maxU64 → ⊥) → {b : Bool} → allWithin limit ns ≡ b → b ≡ withinLimit limit ns
 unfolding withinLimit
 limit-other limit ns e h = sym (rw (ne-eqb limit maxU64 e) h)
+
+all-below : (limit : ℕ) (ns : List ℕ) → ((k : ℕ) → getD ns k 0 ≤ limit) → allWithin limit ns ≡ true
+unfolding allWithin
+all-below limit [] h = refl
+all-below limit (n ∷ ns) h = rw (le-leb n limit (h 0)) (all-below limit ns (λ k. h (suc k)))
+
+pub limit-joined : (limit : ℕ) (ns : List ℕ) {r : ℕ} → ((k : ℕ) → getD ns k 0 ≤ r) → r ≤ limit → true ≡ withinLimit limit ns
+unfolding withinLimit
+limit-joined limit ns {r} h p = sym (rw (all-below limit ns (λ k. let q = h k in omega arith)) (or-true (eqb limit maxU64)))
+  where
+    or-true : (t : Bool) → (t || true) ≡ true
+    or-true true = refl
+    or-true false = refl
+
+beyond : (ns : List ℕ) (k : ℕ) → length ns ≤ k → getD ns k 0 ≡ 0
+beyond [] k h = refl
+beyond (n ∷ ns) zero h = absurd (omega arith)
+beyond (n ∷ ns) (suc k) h = beyond ns k (omega arith)
+
+-- All bits together are no less than any.
+or-above : (a b : ℕ) → (a ≤ bitOr a b) × (b ≤ bitOr a b)
+or-above a b =
+    let s = or-add-and a b in
+    let l = and-le-l a b in
+    let r = and-le-r a b in
+    (omega arith, omega arith)
+
+module _ (ns : List ℕ) (i all : ℕ) (h : (k : ℕ) → k < i → getD ns k 0 ≤ all) where
+  pub joined-more : (k : ℕ) → k < i + 1 → getD ns k 0 ≤ bitOr all (getD ns i 0)
+  joined-more k p = go (ltb k i) refl
+    where
+      here : i ≤ k → k ≡ i
+      here q = omega arith
+
+      go : (t : Bool) → ltb k i ≡ t → getD ns k 0 ≤ bitOr all (getD ns i 0)
+      go true e = let a = h k (ltb-true k i e) in let b = or-above all (getD ns i 0) .0 in omega arith
+      go false e = subst (λ (j : ℕ). getD ns j 0 ≤ bitOr all (getD ns i 0)) (sym (here (ltb-false k i e))) (or-above all (getD ns i 0) .1)
+
+  pub joined-end : length ns ≤ i → (k : ℕ) → getD ns k 0 ≤ all
+  joined-end p k = go (ltb k i) refl
+    where
+      go : (t : Bool) → ltb k i ≡ t → getD ns k 0 ≤ all
+      go true e = h k (ltb-true k i e)
+      go false e = let q = ltb-false k i e in let z : getD ns k 0 ≡ 0 = beyond ns k (omega arith) in omega arith
 
 -- ---- The copy.
 

@@ -4,7 +4,7 @@ ghost use mathlib.Core.Path.{_≡_};
 ghost use mathlib.Core.Bool.{true, false, cond, _&&_, _||_};
 ghost use mathlib.Core.List.{List, _++_};
 ghost use lib.Dec.{eqb};
-ghost use lib.ListN.{length, set, drop};
+ghost use lib.ListN.{length, getD, set, drop};
 ghost use Rattle.kinds.specs.Primitive.{Widths};
 ghost use Rattle.kinds.specs.Sheet.{countAt, trees};
 ghost use Rattle.kinds.specs.Walk.{NodeAt};
@@ -481,11 +481,27 @@ fn find(sizes: &[u8; 24], nodes: &[u64], from: usize, n: usize) -> Found
     Found::Sized
 }
 
+// A number that none of them is above: all their bits together, for which the compiler takes several at a time.
+fn joined(numbers: &[u64]) -> u64
+    ensures { λ r. ⌜ ((i : ℕ) → getD (now (numbers .entry)) i 0 ≤ r) ⌝ }
+{
+    let mut i = 0;
+    let mut all = 0;
+    while i < numbers.len() {
+        all = all | numbers[i];
+        i += 1;
+    }
+    all
+}
+
 // Whether no number is above the limit. Where the limit is the largest number there is nothing to look for.
 fn within_limit(numbers: &[u64], limit: u64) -> bool
     ensures { λ r. ⌜ r ≡ withinLimit limit (now (numbers .entry)) ⌝ }
 {
     if limit == 18446744073709551615 {
+        return true;
+    }
+    if joined(numbers) <= limit {
         return true;
     }
     let mut i = 0;
