@@ -751,6 +751,7 @@ fn ended_room(kind: u64, n: u64, run: Room) -> Room
     }
 }
 
+// The room, unless it ends too far for the quick walk.
 fn small_room(bytes: u64, alignment: u64) -> Room
     ensures { λ r. ⌜ (0 < r .alignment → (r .alignment ≡ alignment) × (r .bytes ≡ bytes) × (bytes ≤ most)) ⌝ }
 {
