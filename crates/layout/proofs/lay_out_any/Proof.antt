@@ -36,7 +36,9 @@ part-lay-out-end : tie.Need-part-lay-out-end
 part-lay-out-end c = search needs
 
 lay-out-requires : tie.Need-lay-out-requires
-lay-out-requires c κs = rw whole (c .before .before .before .before .before .before .before .before .pre .0, c .before .before .before .before .before .before .before .before .pre .1, c .before .before .before .before .before .before .before .before .pre .2, c .before .before .before .before .before .before .before .before .pre .3)
+lay-out-requires c κs =
+    let c8 = c .before .before .before .before .before .before .before .before in
+    rw whole (c8 .pre .0, c8 .pre .1, c8 .pre .2, c8 .pre .3)
 
 returns : tie.Need-returns
 returns c =
