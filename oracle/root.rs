@@ -47,6 +47,8 @@ mod damage;
 #[cfg(diff)]
 mod diff;
 #[cfg(diff)]
+mod draw;
+#[cfg(diff)]
 mod grow;
 #[cfg(diff)]
 mod grow_layouts;

@@ -1,6 +1,7 @@
 //! Layouts in every row, against the driver's own (layout.rs) and a plain pass over the crate's trees.
 
 use crate::damage;
+use crate::draw;
 use crate::grow_layouts;
 use crate::layout::{self, Answer, Places, WorkedOut};
 use crate::library::{self, reply, Sheet, MARK};
@@ -10,7 +11,6 @@ use crate::random::Random;
 use crate::report::{expect, refusal_name, Case, Difference, Lent, Tally};
 use crate::rows::{self, LARGEST, NO_SUCH_ROW, ROWS, TOO_LARGE};
 use crate::sheet::{BITFIELD, MOST_NODES, POINTER, TYPED_BITFIELD};
-use crate::texts;
 use crate::trees::Tree;
 use crate::EncodingBox;
 
@@ -34,17 +34,11 @@ const TOKENS: [&str; 20] = [
 
 /// Every text of up to `most` tokens that can be read.
 pub fn short_inputs(most: usize) -> impl Iterator<Item = Case> {
-    let mut random = Random::new(0);
-    let trees = texts::every(&TOKENS, most).filter_map(|text| text.parse::<EncodingBox>().ok());
-    trees.map(move |tree| Case { a: Tree::from_box(&tree), extra: random.next(), ..Case::default() })
+    draw::every_tree(&TOKENS, most)
 }
 
 pub fn inputs(seed: u64, count: u64) -> impl Iterator<Item = Case> {
-    let mut random = Random::new(seed);
-    (0..count).map(move |_| {
-        let a = grow_layouts::tree(&mut random);
-        Case { a, extra: random.next(), ..Case::default() }
-    })
+    draw::cases(seed, count, |random| draw::with_tree(grow_layouts::tree(random), random))
 }
 
 /// What is used again from case to case.

@@ -2,6 +2,7 @@
 //! and all lent memory.
 
 use crate::ask::{self, Refusal};
+use crate::draw;
 use crate::library::{self, reply, Reader, MARK, MARK_BYTE};
 use crate::random::Random;
 use crate::report::{expect, refusal_name, Case, Difference, Tally};
@@ -14,18 +15,12 @@ pub const MOST_TEXT: usize = 2000;
 pub const BEYOND: usize = 8;
 
 pub fn inputs(seed: u64, count: u64) -> impl Iterator<Item = Case> {
-    let mut random = Random::new(seed);
-    (0..count).map(move |_| {
-        let text = texts::any(&mut random);
-        Case { text, extra: random.next(), ..Case::default() }
-    })
+    draw::cases(seed, count, |random| draw::with_text(texts::any(random), random))
 }
 
 /// Every text of up to `most` tokens, and of one more over fewer tokens.
 pub fn short_inputs(most: usize) -> impl Iterator<Item = Case> {
-    let mut random = Random::new(0);
-    let all = texts::every(&TOKENS, most).chain(texts::every(&FEW_TOKENS, most + 1));
-    all.map(move |text| Case { text, extra: random.next(), ..Case::default() })
+    draw::each(texts::every(&TOKENS, most).chain(texts::every(&FEW_TOKENS, most + 1)))
 }
 
 /// What reading must answer: the tree and a place, or a refusal.

@@ -3,6 +3,7 @@
 
 use crate::ask;
 use crate::damage::{self, Raw};
+use crate::draw;
 use crate::grow;
 use crate::helper::{compare_encodings, NestingLevel};
 use crate::library::{self, reply, Reply, Sheet, MARK_BYTE};
@@ -38,8 +39,7 @@ pub fn short_inputs(most: usize) -> impl Iterator<Item = Case> {
 }
 
 pub fn inputs(seed: u64, count: u64) -> impl Iterator<Item = Case> {
-    let mut random = Random::new(seed);
-    (0..count).map(move |_| pair(&mut random))
+    draw::cases(seed, count, pair)
 }
 
 /// A tree and mostly a changed copy of it, in either order.

@@ -2,6 +2,7 @@
 
 use crate::ask;
 use crate::damage;
+use crate::draw;
 use crate::grow_sizes;
 use crate::library::{self, reply, Reply, Sheet};
 use crate::plain;
@@ -9,9 +10,7 @@ use crate::random::Random;
 use crate::report::{expect, refusal_name, Case, Difference, Lent, Tally};
 use crate::rows::{self, Answer, LARGEST, ROWS, TOO_LARGE};
 use crate::sheet::{INT, LONG, UNSIGNED_LONG};
-use crate::texts;
 use crate::trees::{Arena, Tree};
-use crate::EncodingBox;
 
 /// Row numbers that are none, such as would be one if a part of their bits were looked at.
 const NO_ROWS: [u64; 8] = [4, 7, 256, 256 + 3, 1 << 32, (1 << 32) + 3, (1 << 63) + 3, u64::MAX];
@@ -28,17 +27,11 @@ const TOKENS: [&str; 23] = [
 
 /// Every text of up to `most` tokens that can be read.
 pub fn short_inputs(most: usize) -> impl Iterator<Item = Case> {
-    let mut random = Random::new(0);
-    let trees = texts::every(&TOKENS, most).filter_map(|text| text.parse::<EncodingBox>().ok());
-    trees.map(move |tree| Case { a: Tree::from_box(&tree), extra: random.next(), ..Case::default() })
+    draw::every_tree(&TOKENS, most)
 }
 
 pub fn inputs(seed: u64, count: u64) -> impl Iterator<Item = Case> {
-    let mut random = Random::new(seed);
-    (0..count).map(move |_| {
-        let a = grow_sizes::tree(&mut random);
-        Case { a, extra: random.next(), ..Case::default() }
-    })
+    draw::cases(seed, count, |random| draw::with_tree(grow_sizes::tree(random), random))
 }
 
 /// What is used again from case to case.

@@ -2,6 +2,7 @@
 //! all of the lent list.
 
 use crate::ask::{self, Entry, Refusal};
+use crate::draw;
 use crate::library::{self, reply, MARK};
 use crate::random::Random;
 use crate::report::{expect, refusal_name, Case, Difference, Tally};
@@ -21,17 +22,11 @@ const FEW_TOKENS: [&str; 14] =
 
 /// Every signature of up to `most` tokens, and of one more over fewer tokens.
 pub fn short_inputs(most: usize) -> impl Iterator<Item = Case> {
-    let mut random = Random::new(0);
-    let all = texts::every(&TOKENS, most).chain(texts::every(&FEW_TOKENS, most + 1));
-    all.map(move |text| Case { text, extra: random.next(), ..Case::default() })
+    draw::each(texts::every(&TOKENS, most).chain(texts::every(&FEW_TOKENS, most + 1)))
 }
 
 pub fn inputs(seed: u64, count: u64) -> impl Iterator<Item = Case> {
-    let mut random = Random::new(seed);
-    (0..count).map(move |_| {
-        let text = any(&mut random);
-        Case { text, extra: random.next(), ..Case::default() }
-    })
+    draw::cases(seed, count, |random| draw::with_text(any(random), random))
 }
 
 /// A signature, well-formed or spoilt, and seldom something that is none.

@@ -2,6 +2,7 @@
 //! and against ordinary reading, from which only refusal 19 may tell it.
 
 use crate::ask::{self, Refusal};
+use crate::draw;
 use crate::library;
 use crate::random::Random;
 use crate::report::{refusal_name, Case, Difference, Tally};
@@ -19,17 +20,11 @@ const FEW_TOKENS: [&str; 11] = ["[", "]", "{", "}", "=", "x", "b", "i", "0", "7"
 
 /// Every text of up to `most` bytes, and of two more over fewer bytes.
 pub fn short_inputs(most: usize) -> impl Iterator<Item = Case> {
-    let mut random = Random::new(0);
-    let all = texts::every(&TOKENS, most).chain(texts::every(&FEW_TOKENS, most + 2));
-    all.map(move |text| Case { text, extra: random.next(), ..Case::default() })
+    draw::each(texts::every(&TOKENS, most).chain(texts::every(&FEW_TOKENS, most + 2)))
 }
 
 pub fn inputs(seed: u64, count: u64) -> impl Iterator<Item = Case> {
-    let mut random = Random::new(seed);
-    (0..count).map(move |_| {
-        let text = any(&mut random);
-        Case { text, extra: random.next(), ..Case::default() }
-    })
+    draw::cases(seed, count, |random| draw::with_text(any(random), random))
 }
 
 fn any(random: &mut Random) -> String {

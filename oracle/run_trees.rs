@@ -1,6 +1,7 @@
 //! Valid sheets without bad names, against the crate: printed length, print, size, comparisons.
 
 use crate::ask;
+use crate::draw;
 use crate::grow;
 use crate::library::{self, reply, Sheet, MARK_BYTE};
 use crate::plain;
@@ -18,8 +19,7 @@ const BEYOND: usize = 32;
 const OUT: usize = 1 << 17;
 
 pub fn inputs(seed: u64, count: u64) -> impl Iterator<Item = Case> {
-    let mut random = Random::new(seed);
-    (0..count).map(move |_| pair(&mut random))
+    draw::cases(seed, count, pair)
 }
 
 /// Two trees that are related more often than not.
