@@ -1,7 +1,6 @@
 // Answers a command on the command line, or commands from standard input, a line each. At most 524,288 bytes of
 // commands are read.
 mod fields;
-mod show;
 
 use helper::Sized;
 use kinds::Compared;
@@ -44,14 +43,13 @@ fn say_line(out: &mut [u8], at: usize) {
 }
 
 // The commands, a line each. `\x20` is a space that the line break before it does not take away.
-fn say_usage(to: i32) {
-    io::write_all(
-        to,
+fn say_usage() {
+    say(
         b"usage: berzhotun read TEXT          the tree, a node a line\n\
             \x20      berzhotun read-strict TEXT   the same, but a number with a surplus zero is refused\n\
             \x20      berzhotun start TEXT         the tree of the type at the start of TEXT, and the rest\n\
             \x20      berzhotun print TEXT         the printed text of the tree\n\
-            \x20      berzhotun size TEXT [ROW]    its size in each row, or in one: 0 is 64-bit Apple ARM, 1 x86_64, 2 32-bit ARM, 3 as 0 with the guide's long\n\
+            \x20      berzhotun size TEXT [ROW]    its size in each row, or in one: 0, 1, 2 or 3\n\
             \x20      berzhotun layout TEXT [ROW]  where each field lies, and the padding, in a row: 0 if none is given\n\
             \x20      berzhotun compare A B        whether the trees of A and B are equivalent, by levels, or where they differ\n\
             \x20      berzhotun compare-all A B    the same with all fields\n\
@@ -63,12 +61,11 @@ fn say_usage(to: i32) {
     );
 }
 
-// Names what is wrong with a command, before the usage, on standard error.
+// Names what is wrong with a command, on standard error.
 fn complain(command: &[u8], why: &[u8]) {
     io::write_all(STDERR_FILENO, b"berzhotun: '");
     io::write_all(STDERR_FILENO, command);
     io::write_all(STDERR_FILENO, why);
-    say_usage(STDERR_FILENO);
 }
 
 fn say_refused(text: &[u8], why: &[u64; 4]) {
@@ -149,14 +146,6 @@ fn reads(text: &[u8], words: &mut [u64], names: &mut [u8]) -> bool {
     reads_by(false, text, words, names)
 }
 
-fn answer_read(strict: bool, text: &[u8]) {
-    let mut words = [0u64; MAX_WORDS];
-    let mut names = [0u8; MAX_TEXT];
-    if reads_by(strict, text, &mut words, &mut names) {
-        say_tree(&words, &names);
-    }
-}
-
 fn answer_start(text: &[u8]) {
     let mut words = [0u64; MAX_WORDS];
     let mut names = [0u8; MAX_TEXT];
@@ -178,14 +167,6 @@ fn say_print(text: &[u8], words: &[u64], names: &[u8]) {
     }
 }
 
-fn answer_print(text: &[u8]) {
-    let mut words = [0u64; MAX_WORDS];
-    let mut names = [0u8; MAX_TEXT];
-    if reads(text, &mut words, &mut names) {
-        say_print(text, &words, &names);
-    }
-}
-
 fn say_bytes(n: u64) {
     let mut out = [0u8; 64];
     let at = show::put_count(&mut out, 0, n, b"byte");
@@ -197,14 +178,6 @@ fn say_size(text: &[u8], words: &[u64], names: &[u8], row: u64) {
         Sized::Refused(why) => say_refused(text, &why.words()),
         Sized::Nothing => say(b"no size\n"),
         Sized::Bytes(n) => say_bytes(n),
-    }
-}
-
-fn answer_size(text: &[u8], row: u64) {
-    let mut words = [0u64; MAX_WORDS];
-    let mut names = [0u8; MAX_TEXT];
-    if reads(text, &mut words, &mut names) {
-        say_size(text, &words, &names, row);
     }
 }
 
@@ -221,14 +194,6 @@ fn say_rows(words: &[u64], names: &[u8]) {
     while row < ROWS {
         say_row(words, names, row);
         row += 1;
-    }
-}
-
-fn answer_sizes(text: &[u8]) {
-    let mut words = [0u64; MAX_WORDS];
-    let mut names = [0u8; MAX_TEXT];
-    if reads(text, &mut words, &mut names) {
-        say_rows(&words, &names);
     }
 }
 
@@ -297,11 +262,35 @@ fn say_layout(text: &[u8], words: &[u64], names: &[u8], row: u64) {
     }
 }
 
-fn answer_layout(text: &[u8], row: u64) {
+// The size in the row, if one was given, else in all of them.
+fn say_sizes(text: &[u8], words: &[u64], names: &[u8], given: bool, row: u64) {
+    if given {
+        return say_size(text, words, names, row);
+    }
+    say_rows(words, names);
+}
+
+// What a command says of the tree of its text; a layout is in row 0 where no row was given.
+fn say_of_tree(command: &[u8], text: &[u8], words: &[u64], names: &[u8], given: bool, row: u64) {
+    if check::same(command, b"print") {
+        return say_print(text, words, names);
+    }
+    if check::same(command, b"size") {
+        return say_sizes(text, words, names, given, row);
+    }
+    if check::same(command, b"layout") {
+        return say_layout(text, words, names, row);
+    }
+    say_tree(words, names);
+}
+
+// Answers a command on one text, which is read.
+fn answer_tree(command: &[u8], text: &[u8], given: bool, row: u64) {
     let mut words = [0u64; MAX_WORDS];
     let mut names = [0u8; MAX_TEXT];
-    if reads(text, &mut words, &mut names) {
-        say_layout(text, &words, &names, row);
+    let strict = check::same(command, b"read-strict");
+    if reads_by(strict, text, &mut words, &mut names) {
+        say_of_tree(command, text, &words, &names, given, row);
     }
 }
 
@@ -313,29 +302,14 @@ fn is_by_row(command: &[u8]) -> bool {
     check::same(command, b"layout")
 }
 
-// Without a row: sizes in all of them, the layout in row 0.
-fn answer_without_row(command: &[u8], text: &[u8]) {
-    if check::same(command, b"layout") {
-        return answer_layout(text, 0);
-    }
-    answer_sizes(text);
-}
-
-fn answer_in_row(command: &[u8], text: &[u8], row: u64) {
-    if check::same(command, b"layout") {
-        return answer_layout(text, row);
-    }
-    answer_size(text, row);
-}
-
 // A text's size or layout, in the row whose number is given if there is one.
 fn answer_by_row(command: &[u8], texts: usize, text: &[u8], row: &[u8]) {
     if texts == 1 {
-        return answer_without_row(command, text);
+        return answer_tree(command, text, false, 0);
     }
     if texts == 2 {
         if show::is_number(row) {
-            return answer_in_row(command, text, show::number_of(row));
+            return answer_tree(command, text, true, show::number_of(row));
         }
         return complain(row, b"' is no row's number\n");
     }
@@ -457,14 +431,8 @@ fn texts_of(command: &[u8]) -> usize {
 
 // Answers a command that `texts_of` knows, other than those by row, whose texts stand in `a` and `b`.
 fn answer_known(command: &[u8], a: &[u8], b: &[u8]) {
-    if check::same(command, b"read") {
-        answer_read(false, a);
-    } else if check::same(command, b"read-strict") {
-        answer_read(true, a);
-    } else if check::same(command, b"start") {
+    if check::same(command, b"start") {
         answer_start(a);
-    } else if check::same(command, b"print") {
-        answer_print(a);
     } else if check::same(command, b"compare") {
         answer_compare(false, true, a, b);
     } else if check::same(command, b"compare-all") {
@@ -475,8 +443,10 @@ fn answer_known(command: &[u8], a: &[u8], b: &[u8]) {
         answer_compare(true, false, a, b);
     } else if check::same(command, b"match") {
         answer_match(a, b);
-    } else {
+    } else if check::same(command, b"signature") {
         answer_signature(a);
+    } else {
+        answer_tree(command, a, false, 0);
     }
 }
 
@@ -484,7 +454,7 @@ fn answer_known(command: &[u8], a: &[u8], b: &[u8]) {
 fn answer(command: &[u8], texts: usize, a: &[u8], b: &[u8]) {
     let wanted = texts_of(command);
     if wanted == 0 {
-        return complain(command, b"' is no command\n");
+        return complain(command, b"' is no command: berzhotun alone lists them\n");
     }
     if is_by_row(command) {
         return answer_by_row(command, texts, a, b);
@@ -556,7 +526,7 @@ fn answer_command(texts: usize) {
 fn main() {
     let words = os::arg_count();
     if words < 2 {
-        say_usage(STDOUT_FILENO);
+        say_usage();
     } else {
         answer_command(words - 2);
     }
