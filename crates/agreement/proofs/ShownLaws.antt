@@ -18,6 +18,7 @@ use Rattle.kinds.specs.Tree.{Label, Trees, end, node, primitive, bitField, type
 use Rattle.kinds.specs.declared.NestingLevel.{NestingLevel}
 use Rattle.kinds.specs.declared.NestingLevel.the-variants.{Top, Within, Bottom}
 use Rattle.kinds.proofs.TableLaws.{both, each}
+use Rattle.kinds.proofs.TreeLaws.{end-shown}
 use Rattle.agreement.specs.ShownAlike.{ShownAlike}
 
 -- Only a container at the bottom hides its fields.
@@ -63,11 +64,6 @@ unfolding sizes shown
 sizes-shown w v end = refl
 sizes-shown w v (node l cs ts) = ap₂ (λ x y. x ∷ y) (kept (λ x. nodeSize w l v x) (λ u. sizes w (inside l v) u) (shows l v) cs (shown (inside l v) cs) (size-hidden w l v)
     (sizes-shown w (inside l v) cs)) (sizes-shown w v ts)
-
-end-shown : (v : NestingLevel) (ts : Trees) → isEnd (shown v ts) ≡ isEnd ts
-unfolding isEnd shown
-end-shown v end = refl
-end-shown v (node l cs ts) = refl
 
 -- Tree against text: of the children, whether there are any and what they match.
 abbrev Matcher : Type 0

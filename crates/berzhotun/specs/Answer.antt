@@ -1,4 +1,5 @@
--- The answers as numbers: 0 where the input is accepted, else 01's number of the refusal; and what stands in the lent answer, 0 throughout on a refusal.
+-- The answers as numbers: 0 where the input is accepted, else the number of the refusal (01 and 02); and what stands in the lent answer: on a refusal the values that
+-- it carries, if it carries any and the call has room for them, else 0 throughout.
 use Prim.Native.Nat.{ℕ, _-_}
 use mathlib.Core.Bool.{true, false}
 use mathlib.Core.List.{List, [], _∷_}

@@ -35,7 +35,7 @@ startWord (closeContainer Struct) = 36
 startWord (closeContainer Union) = 37
 startWord nothing = 255
 
--- The kind of the primitive whose whole code a byte is; 255 where it is none.
+-- The kind of the primitive whose code a byte is that never goes on behind it; 255 where it is none.
 unfoldable pub codeOf : Start → ℕ
 codeOf (single p) = p
 codeOf complex = 255

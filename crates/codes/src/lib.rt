@@ -60,9 +60,9 @@ const UNION_END: u64 = 37;
 
 const NO_KIND: u64 = 255;
 
-// What a byte begins, by its kind or a number above: the one list of type codes. They stand in the order of the table in Apple's guide
+// What a byte begins, by its kind or a number above: the list of all type codes. They stand in the order of the table in Apple's guide
 // ("Type Encodings"), then those that the crate adds, in the order of its parser (parse.rs, `parse_inner`). A closer is no code and
-// comes after them.
+// comes after them. What opens something (`^`, `A`, `[`, `{`, `(`) reading also tells by tests of its own, before it asks here.
 pub fn start(b: u8) -> u64
     ensures { λ r. ⌜ r ≡ startWord (start b) ⌝ }
 {
@@ -101,7 +101,7 @@ pub fn start(b: u8) -> u64
     }
 }
 
-// The kind of the primitive whose whole code is this byte; `NO_KIND` where there is none.
+// The kind of the primitive whose code is this byte and never goes on behind it; `NO_KIND` where there is none, as of `@`, which `?` or a name may follow.
 pub fn single_kind(b: u8) -> u64
     ensures { λ r. ⌜ r ≡ codeOf (start b) ⌝ }
 {
@@ -281,7 +281,7 @@ pub fn token_at(text: &[u8], at: usize) -> Token
     }
 }
 
-// Two tests, which cost reading less than the list does.
+// Reading asks this of every type first: two tests, which cost it less than the list does.
 fn is_indirection(b: u8) -> bool
     ensures { λ r. ⌜ r ≡ isIndirection b ⌝ }
 {
@@ -308,7 +308,7 @@ fn is_code(b: u8) -> bool
     single_kind(b) < PRIMITIVES
 }
 
-// The place after the codes from `at` on.
+// The place after the codes that `single_kind` knows, from `at` on.
 pub fn codes_end(text: &[u8], at: usize) -> usize
     ensures { λ r. ⌜ r ≡ runEnd isCode (now (text .entry)) at ⌝ }
 {

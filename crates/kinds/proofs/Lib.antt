@@ -8,6 +8,8 @@ pub mod SheetLaws
 pub mod NodeLaws
 pub mod KindLaws
 pub mod ParseLaws
+pub mod BeginLaws
+pub mod TreeLaws
 pub mod DecimalLaws
 pub mod SizeLaws
 pub mod LayoutLaws

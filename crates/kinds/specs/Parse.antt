@@ -76,7 +76,7 @@ pub data Start : Type 0 where
   closeContainer : ContainerKind → Start
   nothing : Start
 
--- The bytes that are a primitive's whole code, with its kind.
+-- The bytes that are a primitive's code and never go on behind it, with its kind (`@` may: `parseObject`).
 unfoldable pub singles : List (ℕ × ℕ)
 singles =
     (byte "c", 0) ∷ (byte "s", 1) ∷ (byte "i", 2) ∷ (byte "l", 3) ∷ (byte "q", 4)
@@ -283,6 +283,7 @@ encodingOrNone (containerEnd k t) = notEncoded (Unknown (endByte k)) t
 encodingOrNone (arrayEnd t) = notEncoded (Unknown (byte "]")) t
 encodingOrNone (refused e t) = notEncoded e t
 
+-- `parse_encoding_or_none` with the qualifiers before it dropped, as whoever calls it in the crate does first.
 unfoldable pub parseEncodingOrNone : List ℕ → Encoded
 parseEncodingOrNone s = encodingOrNone (parse (stripLeadingQualifiers s))
 

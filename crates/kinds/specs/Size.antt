@@ -1,6 +1,6 @@
 -- `size` (helper.rs) on a machine (02, N5 and N6), in numbers of any length. `none` is no size.
 use Prim.Native.Nat.{ℕ, zero, suc, _+_, _*_, _/_, max}
-use mathlib.Core.Bool.{cond}
+use mathlib.Core.Bool.{Bool, true, false, cond}
 use mathlib.Core.List.{List, [], _∷_}
 use mathlib.Core.Option.{Option, some, none, Option·getD}
 use lib.Dec.{leb}
@@ -19,6 +19,11 @@ raised (suc fuel) n p = cond (leb n p) p (raised fuel n (2 * p))
 -- The bits of a bitfield raised to a power of two, at least 8, divided by 8.
 unfoldable pub bitBytes : ℕ → ℕ
 bitBytes n = raised n n 8 / 8
+
+-- There is no size.
+unfoldable pub isNone : Option ℕ → Bool
+isNone none = true
+isNone (some n) = false
 
 unfoldable pub plus : Option ℕ → Option ℕ → Option ℕ
 plus none b = none

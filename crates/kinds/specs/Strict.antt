@@ -20,7 +20,7 @@ digitCount (b ∷ s) = elim (isDigit b) [ true ↦ suc (digitCount s) | false �
 unfoldable pub surplusZero : List ℕ → Bool
 surplusZero s = ltb 1 (digitCount s) && eqb (getD s 0 0) (byte "0")
 
--- ---- The numbers that reading meets, in order; each is given as the text from where it begins.
+-- ---- The numbers that reading meets, in order; each is given as the text from where it begins, also where reading finds that no digit stands there.
 
 -- After the first number of a bitfield: a second where a type is there with a digit behind it (`try_parse_bitfield_gnustep`).
 unfoldable pub typedNumber : List ℕ → List (List ℕ)

@@ -2,7 +2,7 @@
 use Prim.Native.Nat.{ℕ, zero, _+_, _-_, _≤_, _<_}
 use native.Mathlib.Omega.{arith}
 use mathlib.Core.Path.{_≡_, refl, ap, ap₂, sym, _∙_}
-use mathlib.Core.List.{List, [], _∷_, _++_, map}
+use mathlib.Core.List.{List, [], _∷_, _++_, map, append-nil}
 use mathlib.Core.Option.{Option, some, none}
 use mathlib.Core.Bool.{Bool, true, false, cond, _&&_, _||_, and-false}
 use borrow.Author.Tests.{le-leb, lt-leb, leb-true, leb-false, eqb-true}
@@ -23,7 +23,7 @@ use Rattle.sheet.specs.Given.{NodesAre}
 use Rattle.sheet.proofs.GivenLaws.{answer-refused, answer-held}
 use Rattle.helper.specs.Answer.{maxSize}
 use Rattle.helper.specs.Measure.{fit}
-use Rattle.helper.proofs.SizeLaws.{fit-gt}
+use Rattle.helper.proofs.SizeLaws.{fit-le, fit-gt}
 use Rattle.layout.specs.Answer.{offsetsIn, allWithin, fitted, unlessBitField, layoutOf, layoutIn, layoutAnswer, listAfter, listIn, layoutList}
 use Rattle.layout.specs.Layout.{Extent, laidOut, firstBitField, anySizeless, extent, onlyExtent, others}
 use Rattle.layout.specs.Placing.{placedOf, stored, extentAt, offsetsBelow, Zeros, LaidBelow, unlessFound, foundIn, withinLimit, finishBy, finished, byFound, numbersAt, fittedAt, answerAt, listAt, listFor}
@@ -32,8 +32,7 @@ use Rattle.layout.specs.declared.Found.the-variants as F
 use Rattle.layout.specs.declared.LaidOut.{LaidOut}
 use Rattle.layout.specs.declared.LaidOut.the-variants as A
 use Rattle.layout.specs.declared.Placed.{Placed}
-use Rattle.layout.proofs.ExtentLaws.{fit-low}
-use Rattle.layout.proofs.FillLaws.{all-stored, map-length, extents-step, offsets-step, below-length, no-offsets, append-none}
+use Rattle.layout.proofs.FillLaws.{all-stored, map-length, extents-step, offsets-step, below-length, no-offsets}
 
 -- ---- From the walk to the answer.
 
@@ -64,7 +63,7 @@ module _ (entry : List ℕ) (n : ℕ) (h : length entry ≡ n) (p : 1 ≤ n) (z 
   numbers-left =
       sets-eq vs entry 1 (omega arith)
       ∙ ap₂ (λ (x y : List ℕ). x ++ vs ++ y) (take-suc entry 0 0 (omega arith) ∙ ap (λ (x : ℕ). x ∷ []) (z 0 (omega arith))) (drop-of-length-le entry {i = 1 + length vs} (omega arith))
-      ∙ ap (λ (x : List ℕ). 0 ∷ x) (append-none vs)
+      ∙ ap (λ (x : List ℕ). 0 ∷ x) (append-nil vs)
 
 module _ (limit : ℕ) (g : limit ≤ maxU64) (x : Extent) (below : List ℕ) where
   -- What is found with numbers that are cut off is what is so.
@@ -77,7 +76,7 @@ module _ (limit : ℕ) (g : limit ≤ maxU64) (x : Extent) (below : List ℕ) wh
 
       large : (t : Bool) → leb (x .bytes) maxU64 ≡ t → allWithin maxU64 below ≡ true
           → finishBy limit (x .alignment) (0 ∷ below) true (fit (x .bytes)) ≡ cond (leb (x .bytes) limit && allWithin limit (0 ∷ below)) (A.Bytes (x .bytes) (x .alignment)) (A.Refused SizeTooLarge)
-      large true e f = ap (finishBy limit (x .alignment) (0 ∷ below) true) (fit-low (x .bytes) (leb-true (x .bytes) maxU64 e))
+      large true e f = ap (finishBy limit (x .alignment) (0 ∷ below) true) (fit-le (x .bytes) (leb-true (x .bytes) maxU64 e))
           ∙ ap (λ t. cond (leb (x .bytes) limit && t) (A.Bytes (x .bytes) (x .alignment)) (A.Refused SizeTooLarge)) (limit-within limit (0 ∷ below) (zero-too f))
       large false e f = let q = leb-false (x .bytes) maxU64 e in
           ap (finishBy limit (x .alignment) (0 ∷ below) true) (fit-gt (x .bytes) q) ∙ sym (rw (lt-leb (x .bytes) limit (omega arith)))
@@ -160,7 +159,7 @@ module _ (row : ℕ) (h : row < 4) (s w : List ℕ) (n : ℕ) (root : NodeAt w 0
   unfolding offsetsIn numbersAt
   root-offsets = offsets-step (widths row) s w 0 n (root .some-node) (omega arith) others 0
       ∙ ap (λ (xs : List ℕ). 0 ∷ (offsetsBelow (widths row) s w 0 ++ xs)) (no-offsets (widths row) others _ s w (n - countAt w 0) _ (omega arith))
-      ∙ ap (λ (xs : List ℕ). 0 ∷ xs) (append-none (offsetsBelow (widths row) s w 0))
+      ∙ ap (λ (xs : List ℕ). 0 ∷ xs) (append-nil (offsetsBelow (widths row) s w 0))
 
   -- The layout by what the pass found.
   layout-is : layoutOf row (trees s w n 0) ≡ byFound (foundIn (widths row) false (laidOut Top 0 (trees s w n 0))) (fittedAt (widths row) s w (maxSize row))

@@ -39,7 +39,8 @@ pub limit-other : (limit : ℕ) (ns : List ℕ) → (limit ≡ maxU64 → ⊥) �
 unfolding withinLimit
 limit-other limit ns e h = sym (rw (ne-eqb limit maxU64 e) h)
 
-all-below : (limit : ℕ) (ns : List ℕ) → ((k : ℕ) → getD ns k 0 ≤ limit) → allWithin limit ns ≡ true
+-- Numbers that are each within the limit are all within it.
+pub all-below : (limit : ℕ) (ns : List ℕ) → ((k : ℕ) → getD ns k 0 ≤ limit) → allWithin limit ns ≡ true
 unfolding allWithin
 all-below limit [] h = refl
 all-below limit (n ∷ ns) h = rw (le-leb n limit (h 0)) (all-below limit ns (λ k. h (suc k)))

@@ -16,7 +16,7 @@ use Rattle.kinds.proofs.TableLaws.{everyBelow, passBelow}
 use Rattle.helper.specs.Measure.{fit, clip, plusMeasured, largerMeasured, timesMeasured, RowOf}
 use Rattle.helper.specs.declared.Measured.{Measured}
 use Rattle.helper.specs.declared.Measured.the-variants.{Bytes, TooLarge}
-use Rattle.helper.proofs.SizeLaws.{fit-gt, clip-plus, clip-larger, clip-times}
+use Rattle.helper.proofs.SizeLaws.{fit-le, fit-gt, clip-plus, clip-larger, clip-times}
 use Rattle.kinds.specs.Size.{plus, larger, times}
 use Rattle.layout.specs.Layout.{nextMultiple, Extent, noRoom, primitiveAlignment, primitiveExtent, nodeExtent, holdsInside}
 use Rattle.layout.specs.Placing.{nextMeasured, placedOf, stored, storedOf, isBytes, isPlain, partKind, plainExtent, beginMeasured, withField, closed, heldBy}
@@ -61,22 +61,18 @@ bytes-fit n = go (leb n maxU64)
     go true = refl
     go false = refl
 
-pub fit-low : (n : ℕ) → n ≤ maxU64 → fit n ≡ Bytes n
-unfolding fit
-fit-low n h = rw (le-leb n maxU64 h)
-
 -- A number rounded up, by what is left over.
 module _ (a n : ℕ) (p : 0 < a) where
   pub rounded-sum : {b r : ℕ} → b ≡ a → r ≡ (n + (b - 1)) % a → n + (b - 1) ≤ maxU64 → Bytes (n + (b - 1) - r) ≡ fit (nextMultiple a n)
   rounded-sum {b} {r} e d h =
       let f : n + (b - 1) - r ≡ nextMultiple a n = ap₂ (λ (x y : ℕ). x - y) (ap (λ (x : ℕ). n + (x - 1)) e) (d ∙ ap (λ (x : ℕ). (n + (x - 1)) % a) e) ∙ by-remainder a n in
-      sym (ap fit (sym f) ∙ fit-low (n + (b - 1) - r) (omega arith))
+      sym (ap fit (sym f) ∙ fit-le (n + (b - 1) - r) (omega arith))
 
   pub rounded-there : n ≤ maxU64 → {r : ℕ} → r ≡ n % a → r ≡ 0 → Bytes n ≡ fit (nextMultiple a n)
-  rounded-there h e z = sym (ap fit (there-already a n p (sym e ∙ z)) ∙ fit-low n h)
+  rounded-there h e z = sym (ap fit (there-already a n p (sym e ∙ z)) ∙ fit-le n h)
 
   pub rounded-up : {r b : ℕ} → r ≡ n % a → b ≡ a → (r ≡ 0 → ⊥) → n ≤ maxU64 - (b - r) → b - r ≤ maxU64 → Bytes (n + (b - r)) ≡ fit (nextMultiple a n)
-  rounded-up {r} {b} e f z h k = sym (ap fit (not-there a n p (some-left e z) ∙ ap₂ (λ (x y : ℕ). n + (x - y)) (sym f) (sym e)) ∙ fit-low (n + (b - r)) (omega arith))
+  rounded-up {r} {b} e f z h k = sym (ap fit (not-there a n p (some-left e z) ∙ ap₂ (λ (x y : ℕ). n + (x - y)) (sym f) (sym e)) ∙ fit-le (n + (b - r)) (omega arith))
     where
       some-left : r ≡ n % a → (r ≡ 0 → ⊥) → 0 < n % a
       some-left e z = omega arith
@@ -102,7 +98,7 @@ begin-fit k e x p = go (eqb k 29)
   where
     go : (t : Bool) → cond t (nextMeasured (x .alignment) (fit e)) (Bytes 0) ≡ fit (cond t (nextMultiple (x .alignment) e) 0)
     go true = next-fit (x .alignment) e p
-    go false = sym (fit-low 0 (omega arith))
+    go false = sym (fit-le 0 (omega arith))
 
 module _ (k : ℕ) (y x : Extent) (f g : Bool) (p : 0 < x .alignment) where
   pub with-field : withField k (placedOf y f) (placedOf x g)
@@ -226,12 +222,12 @@ module _ (row : List ℕ) (k : ℕ) {b a : ℕ} (h : b ≤ maxU64) where
   pub placed-code : k < 24 → b ≡ getD row k 0 → a ≡ max 1 (getD row (partKind k) 0)
       → _≡_ {A = Placed} (record { bytes = Bytes b; alignment = a; fits = true }) (placedOf (plainExtent row k) true)
   unfolding placedOf plainExtent
-  placed-code p e f = rw (lt-ltb k 24 p) (ap₂ (λ x y. record { bytes = x; alignment = y; fits = true }) (sym (fit-low b h) ∙ ap fit e) f)
+  placed-code p e f = rw (lt-ltb k 24 p) (ap₂ (λ x y. record { bytes = x; alignment = y; fits = true }) (sym (fit-le b h) ∙ ap fit e) f)
 
   pub placed-pointer : k ≡ 26 → b ≡ getD row 18 0 → a ≡ max 1 (getD row 18 0)
       → _≡_ {A = Placed} (record { bytes = Bytes b; alignment = a; fits = true }) (placedOf (plainExtent row k) true)
   unfolding placedOf plainExtent
-  placed-pointer p e f = rw p (ap₂ (λ x y. record { bytes = x; alignment = y; fits = true }) (sym (fit-low b h) ∙ ap fit e) f)
+  placed-pointer p e f = rw p (ap₂ (λ x y. record { bytes = x; alignment = y; fits = true }) (sym (fit-le b h) ∙ ap fit e) f)
 
 pub placed-none : (row : List ℕ) (k : ℕ) → 24 ≤ k → (k ≡ 26 → ⊥) → placedOf noRoom true ≡ placedOf (plainExtent row k) true
 unfolding plainExtent

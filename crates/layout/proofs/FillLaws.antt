@@ -2,7 +2,7 @@
 use Prim.Native.Nat.{ℕ, zero, suc, _+_, _-_, _*_, _≤_, _<_, max}
 use native.Mathlib.Omega.{arith}
 use mathlib.Core.Path.{_≡_, refl, ap, ap₂, sym, _∙_, subst}
-use mathlib.Core.List.{List, [], _∷_, _++_, map}
+use mathlib.Core.List.{List, [], _∷_, _++_, map, append-nil}
 use mathlib.Core.Bool.{Bool, true, false, cond, _&&_, _||_, false≢true, and-true}
 use borrow.Author.Tests.{le-leb, leb-true, ne-eqb, eqb-true, eqb-false, ltb-true, ltb-false}
 use lib.Dec.{leb, ltb, eqb}
@@ -343,10 +343,6 @@ stored-zero : stored 0 ≡ 0
 unfolding stored
 stored-zero = refl
 
-pub append-none : (xs : List ℕ) → xs ++ [] ≡ xs
-append-none [] = refl
-append-none (x ∷ xs) = ap (λ (t : List ℕ). x ∷ t) (append-none xs)
-
 pub no-offsets : (m : Widths) (k : Side) (e : ℕ) (s w : List ℕ) (n at : ℕ) → n ≤ 0 → offsets m k e (trees s w n at) ≡ []
 unfolding offsets
 no-offsets m k e s w n at h = ap (offsets m k e) (no-trees s w n at h)
@@ -417,7 +413,7 @@ module _ (m : Widths) (s w : List ℕ) (i : ℕ) (h : NodeAt w (4 * i)) (lo : 27
       let c = counts in
       offsets-step m s w (4 * i + 4) (countAt w (4 * i) - 1) (child .some-node) (omega arith) others 0
       ∙ ap (λ (xs : List ℕ). 0 ∷ (offsetsBelow m s w (4 * i + 4) ++ xs)) (no-offsets m others _ s w _ _ (omega arith))
-      ∙ ap (λ (xs : List ℕ). 0 ∷ xs) (append-none (offsetsBelow m s w (4 * i + 4)))
+      ∙ ap (λ (xs : List ℕ). 0 ∷ xs) (append-nil (offsetsBelow m s w (4 * i + 4)))
       ∙ ap (λ (at : ℕ). 0 ∷ offsetsBelow m s w at) (omega arith)
 
   held-extent : extentAt m s w (4 * i) ≡ heldExtent (kindAt w (4 * i)) (firstAt w (4 * i)) (extentAt m s w (4 * (i + 1)))

@@ -10,6 +10,7 @@ use lib.Dec.{ltb, eqb}
 use lib.ListN.{length, getD}
 use Rattle.kinds.specs.Primitive.{Widths, entry}
 use Rattle.kinds.specs.Sheet.{kindAt, firstAt, secondAt, countAt, label, labelAt, trees, nests}
+use Rattle.kinds.specs.Size.{isNone}
 use Rattle.kinds.specs.Tree as T
 use Rattle.kinds.specs.Tree.{Label, Trees, end, node, primitive, bitField, typedBitField, pointer, atomic, array, struct, union, isEnd, count, inside, shows}
 use Rattle.kinds.specs.Walk.{NodeAt, TreesAt}
@@ -19,7 +20,7 @@ use Rattle.kinds.proofs.SheetLaws.{trees-step, trees-count}
 use Rattle.kinds.proofs.NodeLaws.{leaf-count, none-count, node-inner, child-count, node-child, first-some, first-within, first-node, other-trees, inner-count, inner-end, inner-trees}
 use Rattle.kinds.proofs.NodeLaws.{label-primitive, label-bits, label-typed, label-pointer, label-atomic, label-array, label-struct, label-union, label-none, no-trees, some-trees}
 use Rattle.helper.specs.Measure.{RowOf}
-use Rattle.layout.specs.Layout.{Part, isPointer, laidOut, isBitField, firstBitField, isNone, sizeless, anySizeless}
+use Rattle.layout.specs.Layout.{Part, isPointer, laidOut, isBitField, firstBitField, sizeless, anySizeless}
 use Rattle.layout.specs.Placing.{sizelessKind, passesKind, bottomAfter, foundIn}
 use Rattle.layout.specs.Walking.{levelOf, ownPart, innerParts, laidFrom, Sought}
 use Rattle.layout.specs.declared.Found.the-variants as F

@@ -17,12 +17,13 @@ use Rattle.kinds.proofs.TableLaws.{both, everyBelow, passBelow}
 use Rattle.helper.specs.Measure.{fit, plusMeasured, largerMeasured, timesMeasured}
 use Rattle.helper.specs.declared.Measured.{Measured}
 use Rattle.helper.specs.declared.Measured.the-variants.{Bytes}
+use Rattle.helper.proofs.SizeLaws.{fit-le}
 use Rattle.layout.specs.Layout.{nextMultiple}
 use Rattle.layout.specs.Placing.{nextMeasured, placedOf, isPlain, isSimple, simplePlaced, partKind, plainExtent, beginMeasured, withField, closed, heldBy, endedBy}
 use Rattle.layout.specs.Walking.{IsPower, Powers, most, IsSized, PlainRoom, SimpleRoom, EndedRoom, AddedRoom}
 use Rattle.layout.specs.declared.Room.{Room}
 use Rattle.layout.proofs.MultipleLaws.{mask-remainder, by-remainder, within-a-step}
-use Rattle.layout.proofs.ExtentLaws.{fit-low, plus-fit, larger-fit, times-fit, placed-code, placed-pointer}
+use Rattle.layout.proofs.ExtentLaws.{plus-fit, larger-fit, times-fit, placed-code, placed-pointer}
 
 -- ---- Powers of two.
 
@@ -128,7 +129,7 @@ unfolding endedBy heldBy
 array-room n x p q h =
     let m = array-small n (x .bytes) h q in
     let e : Bytes (n * x .bytes) ≡ timesMeasured n (Bytes (x .bytes)) =
-    sym (ap (timesMeasured n) (sym (fit-low (x .bytes) (omega arith))) ∙ times-fit n (x .bytes) ∙ fit-low (n * x .bytes) (omega arith)) in
+    sym (ap (timesMeasured n) (sym (fit-le (x .bytes) (omega arith))) ∙ times-fit n (x .bytes) ∙ fit-le (n * x .bytes) (omega arith)) in
     record { power = p; small = m; takes = ap (λ (z : Measured). record { bytes = z; alignment = x .alignment; fits = true }) e }
 
 module _ (row w : List ℕ) (at : ℕ) where
@@ -194,14 +195,14 @@ container-room k n x h p q {b} e =
     record {
       power = p;
       small = omega arith;
-      takes = rw (le-ltb k 29 h) (ap (λ (z : Measured). record { bytes = z; alignment = x .alignment; fits = true }) (sym (ap fit (sym e) ∙ fit-low b (omega arith))));
+      takes = rw (le-ltb k 29 h) (ap (λ (z : Measured). record { bytes = z; alignment = x .alignment; fits = true }) (sym (ap fit (sym e) ∙ fit-le b (omega arith))));
     }
 
 plus-bytes : (m n : ℕ) → m + n ≤ maxU64 → plusMeasured (Bytes m) (Bytes n) ≡ Bytes (m + n)
-plus-bytes m n h = ap₂ plusMeasured (sym (fit-low m (omega arith))) (sym (fit-low n (omega arith))) ∙ plus-fit m n ∙ fit-low (m + n) h
+plus-bytes m n h = ap₂ plusMeasured (sym (fit-le m (omega arith))) (sym (fit-le n (omega arith))) ∙ plus-fit m n ∙ fit-le (m + n) h
 
 larger-bytes : (m n : ℕ) → max m n ≤ maxU64 → largerMeasured (Bytes m) (Bytes n) ≡ Bytes (max m n)
-larger-bytes m n h = ap₂ largerMeasured (sym (fit-low m (omega arith))) (sym (fit-low n (omega arith))) ∙ larger-fit m n ∙ fit-low (max m n) h
+larger-bytes m n h = ap₂ largerMeasured (sym (fit-le m (omega arith))) (sym (fit-le n (omega arith))) ∙ larger-fit m n ∙ fit-le (max m n) h
 
 module _ (k : ℕ) (run x : Room) (p : IsPower (run .alignment)) (q : IsPower (x .alignment)) where
   -- By where the field begins, and where the container ends with it.
@@ -222,7 +223,7 @@ module _ (k : ℕ) (run x : Room) (p : IsPower (run .alignment)) (q : IsPower (x
       → y .alignment ≡ a → y .bytes ≡ b + x .bytes → b + x .bytes ≤ most → (l : List ℕ) (j : ℕ) → AddedRoom k run x l (set l j b) j y
   unfolding beginMeasured nextMeasured
   struct-room {b} h r e f g d s l j =
-      field-room (rw h (ap fit (sym e) ∙ fit-low b (omega arith))) (rw h (plus-bytes b (x .bytes) (omega arith))) d (g ∙ f) s l j
+      field-room (rw h (ap fit (sym e) ∙ fit-le b (omega arith))) (rw h (plus-bytes b (x .bytes) (omega arith))) d (g ∙ f) s l j
 
   pub union-room : {n a : ℕ} {y : Room} → (k ≡ 29 → ⊥) → n ≡ max (run .bytes) (x .bytes) → a ≡ max (run .alignment) (x .alignment)
       → y .alignment ≡ a → y .bytes ≡ n → n ≤ most → (l : List ℕ) (j : ℕ) → AddedRoom k run x l (set l j 0) j y

@@ -13,13 +13,13 @@ use Rattle.kinds.specs.Walk.{NodeAt, TreesAt}
 use Rattle.kinds.proofs.NodeLaws.{node-inner}
 use Rattle.kinds.proofs.StoreLaws.{set-sets}
 use Rattle.helper.specs.declared.Measured.the-variants.{Bytes}
+use Rattle.helper.proofs.SizeLaws.{fit-le}
 use Rattle.layout.specs.Layout.{noRoom}
 use Rattle.layout.specs.Placing.{placedOf, stored, storedOf, offsetsBelow, beginMeasured, withField, endedBy, sizelessKind, passesKind, bottomAfter, Zeros, Laid}
 use Rattle.layout.specs.Walking.{Sought, roomPlaced, IsPower, most, SimpleRoom, EndedRoom, AddedRoom, frame, Enters, Level, Around, Stack, Walking, Settled}
 use Rattle.layout.specs.declared.Open.{Open}
 use Rattle.layout.specs.declared.Placed.{Placed}
 use Rattle.layout.specs.declared.Room.{Room}
-use Rattle.layout.proofs.ExtentLaws.{fit-low}
 use Rattle.layout.proofs.FillLaws.{filling-start, filling-node, filling-within, filling-zeros, filling-turn, walk-end, simple-laid}
 use Rattle.layout.proofs.FindLaws.{sought-first, sought-kept, sought-end}
 use Rattle.layout.proofs.SimpleLaws.{sought-simple}
@@ -76,7 +76,7 @@ module _ {row w : List ℕ} {c : ℕ} {entry now : List ℕ} {j left : ℕ} {run
 empty-room : (run : Room) → run .bytes ≡ 0 → run .alignment ≡ 1 → roomPlaced run ≡ placedOf noRoom true
 unfolding placedOf
 empty-room run b a = ap₂ (λ (x y : ℕ). record { bytes = Bytes x; alignment = y; fits = true }) b a
-    ∙ ap (λ x. record { bytes = x; alignment = 1; fits = true }) (sym (fit-low 0 (omega arith)))
+    ∙ ap (λ x. record { bytes = x; alignment = 1; fits = true }) (sym (fit-le 0 (omega arith)))
 
 module _ {row w : List ℕ} {c : ℕ} {list : List ℕ} where
   pub level-start : NodeAt w (4 * c) → Enters w (4 * c) → c + countAt w (4 * c) ≤ countAt w 0 → c + countAt w (4 * c) ≤ length list

@@ -5,6 +5,7 @@ use mathlib.Core.List.{List, [], _∷_, _++_, map}
 use mathlib.Core.Option.{Option, some, none, Option·getD}
 use lib.ListN.{getD, replicate}
 use Rattle.kinds.specs.Primitive.{Widths, width, primitives, primitiveSize}
+use Rattle.kinds.specs.Size.{isNone}
 use Rattle.kinds.specs.Tree as T
 use Rattle.kinds.specs.Tree.{Label, Trees, end, node, primitive, bitField, typedBitField, pointer, atomic, array, struct, union, isEnd, count, inside, shows}
 use Rattle.kinds.specs.declared.NestingLevel.{NestingLevel}
@@ -55,10 +56,6 @@ unfoldable pub firstBitField : List Part → Option ℕ
 firstBitField [] = none
 firstBitField (p ∷ ps) = cond (isBitField (p .label)) (some (p .number)) (firstBitField ps)
 
-unfoldable pub isNone : Option ℕ → Bool
-isNone none = true
-isNone (some n) = false
-
 -- A node has no size of its own: void, Unknown and None, an empty union, and a container that does not show its fields. An array and an atomic have
 -- none if what they hold has none, and that is laid out too.
 unfoldable pub sizeless : Widths → Label → Bool → Bool → Bool
@@ -78,7 +75,7 @@ anySizeless w [] = false
 anySizeless w (p ∷ ps) = sizeless w (p .label) (p .showing) (p .empty) || anySizeless w ps
 
 -- ---- Sizes with padding, and alignments. They are asked for only where every laid-out node has a size and none is a bitfield: what a node without one
--- counts for is left open by 02, and here it takes no room.
+-- counts for is left open by 02; here void, Unknown and None take no room, and a container at bottom that of its fields.
 
 -- The next multiple of `a` at or after `n`.
 unfoldable pub nextMultiple : ℕ → ℕ → ℕ

@@ -128,7 +128,7 @@ pub record Laid (row w : List ℕ) (i : ℕ) (entry exit : List ℕ) (r : Placed
 
 -- ---- The pass for bitfields and nodes without a size, and the end.
 
--- What a pass finds in laid-out nodes; `b` says whether one before them has no size.
+-- A bitfield goes before all else that is found.
 abbrev pub unlessFound : Option ℕ → Found → Found
 unlessFound (some i) f = F.BitField i
 unlessFound none f = f
@@ -138,12 +138,15 @@ unfoldable pub sizelessKind : List ℕ → ℕ → ℕ → Bool → Bool
 sizelessKind row k c bottom =
     cond (ltb k 24) (eqb (getD row k 0) 0) (cond (ltb k 29) false (cond (ltb 30 k) true (bottom || (eqb k 30 && eqb c 1))))
 
+-- What a node of this kind holds is passed over: a pointer's, and that of a container at bottom.
 unfoldable pub passesKind : ℕ → Bool → Bool
 passesKind k bottom = eqb k 26 || (leb 29 k && bottom)
 
+-- What it holds is at bottom: an atomic's, and an array's that is at bottom itself.
 unfoldable pub bottomAfter : ℕ → Bool → Bool
 bottomAfter k bottom = eqb k 27 || (eqb k 28 && bottom)
 
+-- What a pass finds in laid-out nodes; `b` says whether one before them has no size.
 unfoldable pub foundIn : Widths → Bool → List Part → Found
 foundIn m b ps = unlessFound (firstBitField ps) (cond (b || anySizeless m ps) F.Nothing F.Sized)
 

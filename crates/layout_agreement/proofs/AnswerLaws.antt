@@ -20,6 +20,7 @@ use Rattle.layout.specs.Answer.{offsetsIn, allWithin, fitted, unlessBitField, l
 use Rattle.layout.specs.Layout.{Part, laidOut, firstBitField, anySizeless, extent}
 use Rattle.layout.specs.declared.LaidOut.{LaidOut}
 use Rattle.layout.specs.declared.LaidOut.the-variants as A
+use Rattle.layout.proofs.EndLaws.{all-below}
 use Rattle.layout_agreement.specs.Laid.{Fits}
 
 -- ---- Numbers within a limit.
@@ -29,11 +30,6 @@ unfolding allWithin
 within-all m [] h i = omega arith
 within-all m (n ∷ ns) h zero = leb-true n m (both (leb n m) (allWithin m ns) h .0)
 within-all m (n ∷ ns) h (suc i) = within-all m ns (both (leb n m) (allWithin m ns) h .1) i
-
-pub all-within : (m : ℕ) (ns : List ℕ) → ((i : ℕ) → getD ns i 0 ≤ m) → allWithin m ns ≡ true
-unfolding allWithin
-all-within m [] h = refl
-all-within m (n ∷ ns) h = rw (le-leb n m (h 0)) (all-within m ns (λ i. h (suc i)))
 
 -- ---- What is told of a tree: by its first bitfield, whether a node has no size, and whether all fits.
 
@@ -98,7 +94,7 @@ module _ (row : ℕ) (t : Trees) where
       (leb-true (extent (widths row) t .bytes) (maxSize row) (p .0), within-all (maxSize row) (offsetsIn row t) (p .1))
 
   says-fits : Fits row t → fits ≡ true
-  says-fits f = rw (le-leb (extent (widths row) t .bytes) (maxSize row) (f .0), all-within (maxSize row) (offsetsIn row t) (f .1))
+  says-fits f = rw (le-leb (extent (widths row) t .bytes) (maxSize row) (f .0), all-below (maxSize row) (offsetsIn row t) (f .1))
 
   pub layout-bits : (i : ℕ) → (layoutOf row t ≡ A.Refused (R.BitFieldInLayout i)) ↔ (firstBitField parts ≡ some i)
   layout-bits i = (

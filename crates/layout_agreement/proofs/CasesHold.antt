@@ -6,11 +6,12 @@ use Rattle.kinds.specs.Parse.{moreDigits, bounded, parseNumber, singles, others
 use Rattle.kinds.specs.Parse.{typed, untyped, parseBitField, parseBits, checkName, parseName, held, closeItem, item, contained, addItem, begin, nextItem, parseInner, parseItems}
 use Rattle.kinds.specs.Parse.{parse, qualifiers, isQualifier, stripLeadingQualifiers, encodingOrNone, parseEncodingOrNone, whole, fromStr}
 use Rattle.kinds.specs.Primitive.{primitiveSize}
+use Rattle.kinds.specs.Size.{isNone}
 use Rattle.kinds.specs.Tree.{isEnd, count}
 use Rattle.agreement.proofs.ByteLaws.{_also_}
 use Rattle.helper.specs.Answer.{maxSize}
 use Rattle.layout.specs.Answer.{offsetsIn, allWithin, fitted, layoutOf, layoutIn, listIn}
-use Rattle.layout.specs.Layout.{isPointer, laidOut, isBitField, firstBitField, isNone, sizeless, anySizeless, nextMultiple, primitiveAlignment, primitiveExtent, alignments, fieldsEnd}
+use Rattle.layout.specs.Layout.{isPointer, laidOut, isBitField, firstBitField, sizeless, anySizeless, nextMultiple, primitiveAlignment, primitiveExtent, alignments, fieldsEnd}
 use Rattle.layout.specs.Layout.{membersEnd, onlyExtent, nodeExtent, extents, extent, inNode, holdsInside, offsets}
 use Rattle.layout_agreement.specs.Cases.{toldWith, after, toldOf, AllHold, request, plain, behind, large, lentLists, cases}
 

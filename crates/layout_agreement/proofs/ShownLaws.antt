@@ -3,7 +3,7 @@ use Prim.Native.Nat.{ℕ, zero, suc, _+_}
 use native.Mathlib.Nat.{zero-add, suc-add}
 use native.Mathlib.Omega.{arith}
 use mathlib.Core.Bool.{Bool, true, false, cond, not, _&&_, _||_}
-use mathlib.Core.List.{List, [], _∷_, _++_, append-assoc}
+use mathlib.Core.List.{List, [], _∷_, _++_, append-assoc, append-nil}
 use mathlib.Core.Option.{Option, some, none}
 use mathlib.Core.Path.{_≡_, refl, sym, ap, ap₂, _∙_}
 use borrow.Author.Tests.{not-false}
@@ -15,17 +15,13 @@ use Rattle.kinds.specs.Tree as T
 use Rattle.kinds.specs.Tree.{Label, Trees, end, node, primitive, bitField, typedBitField, pointer, atomic, array, struct, union, isEnd, count, inside, shows, keep, shown}
 use Rattle.kinds.specs.declared.NestingLevel.{NestingLevel}
 use Rattle.kinds.specs.declared.NestingLevel.the-variants.{Top}
+use Rattle.kinds.proofs.TreeLaws.{end-shown}
 use Rattle.layout.specs.Layout.{Extent, isPointer, laidOut, isBitField, firstBitField, sizeless, anySizeless, nodeExtent, extents, Side, inNode, begins, holdsInside, offsets}
 use Rattle.layout_agreement.specs.Shown.{shownOnly, upFrom, shownNumbers, numberIn}
 use Rattle.layout_agreement.proofs.OffsetLaws.{below, below-length}
 use Rattle.layout_agreement.proofs.PartLaws.{neither, _orElse_, first-append, any-append, held, sized-parts}
 
 -- ---- Whether a node has no size.
-
-end-shown : (v : NestingLevel) (ts : Trees) → isEnd (shown v ts) ≡ isEnd ts
-unfolding isEnd shown
-end-shown v end = refl
-end-shown v (node l cs ts) = refl
 
 -- Of a node that hides its fields it does not matter whether there are any.
 hidden-size : (w : Widths) (l : Label) (x y : Bool) → sizeless w l false x ≡ sizeless w l false y
@@ -116,12 +112,12 @@ unfolding upFrom
 up-length i zero = refl
 up-length i (suc n) = ap suc (up-length (i + 1) n)
 
+plain : (n : ℕ) → n ≡ n + 0
+plain n = omega arith
+
 up-append : (i n m : ℕ) → upFrom i (n + m) ≡ upFrom i n ++ upFrom (i + n) m
 unfolding upFrom
 up-append i zero m = ap₂ upFrom (plain i) (zero-add m)
-  where
-    plain : (n : ℕ) → n ≡ n + 0
-    plain n = omega arith
 up-append i (suc n) m = ap (upFrom i) (suc-add n m) ∙ ap (λ x. i ∷ x) (up-append (i + 1) n m ∙ ap (λ k. upFrom (i + 1) n ++ upFrom k m) (further i n))
   where
     further : (i n : ℕ) → i + 1 + n ≡ i + suc n
@@ -141,9 +137,6 @@ numbers-are v i (node l cs ts) =
 
 head-at : (L : List ℕ) (k i : ℕ) (rest : List ℕ) → drop k L ≡ i ∷ rest → getD L k 0 ≡ i
 head-at L k i rest h = ap (λ n. getD L n 0) (plain k) ∙ sym (getD-drop k L 0 0) ∙ ap (λ x. getD x 0 0) h
-  where
-    plain : (n : ℕ) → n ≡ n + 0
-    plain n = omega arith
 
 rest-at : (L : List ℕ) (k i : ℕ) (rest : List ℕ) → drop k L ≡ i ∷ rest → drop (k + 1) L ≡ rest
 rest-at L k i rest h = sym (drop-drop 1 k L) ∙ ap (drop 1) h
@@ -187,10 +180,6 @@ bits-in L Q v k i (node l cs ts) h =
     go : (b : Bool) (x y : Option ℕ) → getD L k 0 ≡ i → x ≡ numberIn L y → cond b (some i) x ≡ numberIn L (cond b (some k) y)
     go true x y e d = ap some (sym e)
     go false x y e d = d
-
-append-nil : (xs : List ℕ) → xs ++ [] ≡ xs
-append-nil [] = refl
-append-nil (x ∷ xs) = ap (λ ys. x ∷ ys) (append-nil xs)
 
 pub bits-shown : (t : Trees) → firstBitField (laidOut Top 0 t) ≡ numberIn (shownNumbers t) (firstBitField (laidOut Top 0 (shown Top t)))
 bits-shown t = bits-in (shownNumbers t) [] Top 0 0 t (numbers-are Top 0 t ∙ sym (append-nil (numbers Top 0 t)))

@@ -9,7 +9,7 @@ use mathlib.Core.Path.{_≡_, refl, sym, ap, ap₂, _∙_}
 use borrow.Author.Tests.{le-leb, not-false}
 use Rattle.kinds.specs.Level.{showsFields}
 use Rattle.kinds.specs.Primitive.{Widths, primitiveSize, widths}
-use Rattle.kinds.specs.Size.{plus, larger, times, sum, largest, only, nodeSize, sizes, size}
+use Rattle.kinds.specs.Size.{isNone, plus, larger, times, sum, largest, only, nodeSize, sizes, size}
 use Rattle.kinds.specs.Sound.{validLabel, validCount, valid}
 use Rattle.kinds.specs.Tree as T
 use Rattle.kinds.specs.Tree.{Label, Trees, end, node, primitive, bitField, typedBitField, pointer, atomic, array, struct, union, isEnd, isOne, count, inside, shows}
@@ -22,7 +22,7 @@ use Rattle.sheet.proofs.GivenLaws.{held-says, answer-held}
 use Rattle.helper.specs.Answer.{maxSize, sized, sizedIn, sizeAnswer}
 use Rattle.helper.specs.declared.Sized.the-variants as S
 use Rattle.layout.specs.Answer.{layoutIn, layoutAnswer}
-use Rattle.layout.specs.Layout.{Extent, isPointer, laidOut, isBitField, firstBitField, isNone, sizeless, anySizeless, nextMultiple, primitiveExtent, alignments, fieldsEnd, membersEnd}
+use Rattle.layout.specs.Layout.{Extent, isPointer, laidOut, isBitField, firstBitField, sizeless, anySizeless, nextMultiple, primitiveExtent, alignments, fieldsEnd, membersEnd}
 use Rattle.layout.specs.Layout.{onlyExtent, nodeExtent, extents, extent}
 use Rattle.layout.specs.declared.LaidOut.the-variants as A
 use Rattle.layout.proofs.MultipleLaws.{at-or-after}

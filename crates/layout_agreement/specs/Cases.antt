@@ -70,7 +70,7 @@ abbrev pub AllHold : List Case → Type 0
 AllHold [] = Unit {0}
 AllHold (c ∷ cs) = Holds c × AllHold cs
 
--- What the request names.
+-- What the request's rules decide, a rule or two in each.
 unfoldable pub request : List Case
 request =
     inEach (bytes "[2{R=ic}]") (laid 16 4 (0 ∷ 0 ∷ 0 ∷ 4 ∷ []))

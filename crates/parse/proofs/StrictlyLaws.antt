@@ -12,44 +12,10 @@ use Rattle.kinds.specs.Strict.{surplusZero, numbersOf, numbersInside, numbersAf
 use Rattle.kinds.specs.Tree.{Label, Trees}
 use Rattle.kinds.specs.declared.ContainerKind.{ContainerKind}
 use Rattle.kinds.specs.declared.ErrorKind.the-variants.{SurplusZero}
+use Rattle.kinds.proofs.BeginLaws.{same-begin, same-next}
 use Rattle.parse.specs.Strictly.{orSurplus, judged, parseInnerBy, parseItemsBy}
 
 -- ---- Not strict.
-
--- Two ways to read a type, and two to read the items of a container, that agree.
-module _ (s : List ℕ) (inner other : List ℕ → Parsed) (fields parts : ContainerKind → List ℕ → Items)
-    (types : (t : List ℕ) → inner t ≡ other t) (within : (k : ContainerKind) (t : List ℕ) → fields k t ≡ parts k t) where
-  same-array : (q : Number) → _≡_ {A = Parsed} (elim q [ value n t ↦ item n (inner t) | noNumber e t ↦ refused e t ])
-      (elim q [ value n t ↦ item n (other t) | noNumber e t ↦ refused e t ])
-  same-array (value n t) = ap (item n) (types t)
-  same-array (noNumber e t) = refl
-
-  same-named : (k : ContainerKind) (q : Named)
-      → _≡_ {A = Parsed} (elim q [ named m t ↦ contained k m (fields k t) | unnamed e t ↦ refused e t ])
-      (elim q [ named m t ↦ contained k m (parts k t) | unnamed e t ↦ refused e t ])
-  same-named k (named m t) = ap (contained k m) (within k t)
-  same-named k (unnamed e t) = refl
-
-  same-begin : (b : ℕ) (S : Start) → begin b S s inner fields ≡ begin b S s other parts
-  unfolding begin
-  same-begin b (single p) = refl
-  same-begin b complex = refl
-  same-begin b object = refl
-  same-begin b bits = refl
-  same-begin b (indirection l) = ap (held l s) (types s)
-  same-begin b openArray = same-array (parseNumber maxU64 s)
-  same-begin b closeArray = refl
-  same-begin b (openContainer k) = same-named k (parseName k [] s)
-  same-begin b (closeContainer k) = refl
-  same-begin b nothing = refl
-
-same-next : (k : ContainerKind) (more rest : List ℕ → Items) → ((t : List ℕ) → more t ≡ rest t) → (q : Parsed) → nextItem k q more ≡ nextItem k q rest
-unfolding nextItem
-same-next k more rest e empty = refl
-same-next k more rest e (encoding m ds t) = ap (addItem m ds) (e t)
-same-next k more rest e (containerEnd j t) = refl
-same-next k more rest e (arrayEnd t) = refl
-same-next k more rest e (refused r t) = refl
 
 mutual
   unfolding parseInner parseItems parseInnerBy parseItemsBy judged
@@ -58,14 +24,14 @@ mutual
   ordinary-inner zero s = refl
   ordinary-inner (suc f) [] = refl
   ordinary-inner (suc f) (b ∷ s) =
-      same-begin s (λ t. parseInnerBy false f t) (λ t. parseInner f t) (λ k t. parseItemsBy false f k t) (λ k t. parseItems f k t)
-      (λ t. ordinary-inner f t) (λ k t. ordinary-items f k t) b (start b)
+      same-begin (λ t. Unit {0}) s (λ t. parseInnerBy false f t) (λ t. parseInner f t) (λ k t. parseItemsBy false f k t) (λ k t. parseItems f k t)
+      (λ t a. ordinary-inner f t) (λ k t a. ordinary-items f k t) tt (λ n t e. tt) (λ k m t e. tt) b (start b)
 
   pub ordinary-items : (f : ℕ) (k : ContainerKind) (s : List ℕ) → parseItemsBy false f k s ≡ parseItems f k s
   ordinary-items zero k s = refl
   ordinary-items (suc f) k s =
       ap (λ q. nextItem k q (λ t. parseItemsBy false f k t)) (ordinary-inner f s)
-      ∙ same-next k (λ t. parseItemsBy false f k t) (λ t. parseItems f k t) (λ t. ordinary-items f k t) (parseInner f s)
+      ∙ same-next (λ t. Unit {0}) k (λ t. parseItemsBy false f k t) (λ t. parseItems f k t) (λ t a. ordinary-items f k t) (parseInner f s) (λ l ds t e. tt)
 
 -- ---- Strict.
 

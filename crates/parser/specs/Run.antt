@@ -1,4 +1,4 @@
--- Runs of bytes that pass a test, and the place after one (parse.rs, the loops of `chomp_digits` and of a run of pointers).
+-- Runs of bytes that pass a test, and the place after one (parse.rs, the loop of `chomp_digits`; runs of pointers and of codes, which it reads one by one, likewise).
 use Prim.Native.Nat.{ℕ, _+_, _-_}
 use mathlib.Core.Bool.{Bool, true, false}
 use mathlib.Core.List.{List, [], _∷_}

@@ -155,7 +155,7 @@ unfolding spotted
 within-here at n none p = tt
 within-here at n (some d) p = record { number = 0; is = omega arith; few = p }
 
-else-none : (s : Option Spot) → orElse s none ≡ s
+pub else-none : (s : Option Spot) → orElse s none ≡ s
 unfolding orElse
 else-none none = refl
 else-none (some s) = refl

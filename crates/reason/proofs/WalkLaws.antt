@@ -24,6 +24,7 @@ use Rattle.reason.specs.declared.Aspect.the-variants as A
 use Rattle.reason.specs.declared.Counts.the-variants as C
 use Rattle.reason.specs.declared.Found.the-variants as F
 use Rattle.reason.proofs.SpotLaws.{resume, resume-level, resume-end, resume-short, resume-own, resume-over, resume-count, resume-items, resume-plain, spotted-kinds}
+use Rattle.reason.proofs.ReasonLaws.{else-none}
 
 pub zero-left : (m : ℕ) → m ≡ 0 → m ≤ 0
 zero-left m e = omega arith
@@ -61,11 +62,6 @@ module _ {at₀ n₀ at n : ℕ} (p : Part at₀ n₀ at n) where
   part-value v = record { node = part-node (v .node); whole = v .whole; named = v .named }
 
 -- ---- What is left.
-
-else-none : (x : Option Spot) → orElse x none ≡ x
-unfolding orElse
-else-none none = refl
-else-none (some x) = refl
 
 -- What is left to find is `s`.
 pub record Left (all : Bool) (v : NestingLevel) (an a bn b : List ℕ) (at n bt m : ℕ) (here : NestingLevel) (at₀ n₀ bt₀ m₀ : ℕ) (s : Option Spot) : Type 0 where

@@ -28,6 +28,7 @@ use Rattle.reason.specs.Reason.{dotted, pathText, valueText, valuesText, differ
 use Rattle.reason.specs.declared.Reasoned.the-variants.{Bytes}
 use Rattle.reason_agreement.specs.Limits.{maxReason, pointersTo, farStruct, mostPointers, farthestR, farthestS}
 use Rattle.reason_agreement.proofs.AlongLaws.{reason}
+use Rattle.reason_agreement.proofs.KindLaws.{one-items}
 
 -- ---- The trees.
 
@@ -83,12 +84,6 @@ one-item all v (node l cs end) (node m ds us) a b = else-none (under 0 (firstDif
     else-none : (z : Option Reason) → orElse z none ≡ z
     else-none none = refl
     else-none (some r) = refl
-
-one-items : (x : Trees) → isOne x ≡ true → items x ≡ 1
-unfolding isOne isEnd items
-one-items end h = absurd (false≢true h)
-one-items (node l cs end) h = refl
-one-items (node l cs (node m ds us)) h = absurd (false≢true h)
 
 -- A pointer on each side.
 pointer-difference : (all : Bool) (v : NestingLevel) (x y : Trees) → isOne x ≡ true → isOne y ≡ true

@@ -42,16 +42,16 @@ kind-alone i o k j h e = go (eqb k j) refl h
     go true f q = sym (eqb-true k j f) ∙ e
     go false f q = absurd (false≢true (sym o ∙ ap isObject (sym e) ∙ both (isObject k) (isObject j) q .0))
 
+pub flip : (x y : Bool) → (x && y) ≡ (y && x)
+flip true true = refl
+flip true false = refl
+flip false true = refl
+flip false false = refl
+
 pub equivalent-turned : (k j : ℕ) → equivalent j k ≡ equivalent k j
 unfolding equivalent
 equivalent-turned k j = go (eqb k j) refl (isObject k) (isObject j)
   where
-    flip : (x y : Bool) → (x && y) ≡ (y && x)
-    flip true true = refl
-    flip true false = refl
-    flip false true = refl
-    flip false false = refl
-
     go : (y : Bool) → eqb k j ≡ y → (p q : Bool) → (eqb j k || (q && p)) ≡ (eqb k j || (p && q))
     go true e p q = rw (e, eq-eqb j k (sym (eqb-true k j e)))
     go false e p q = rw (e, ne-eqb j k (λ f. eqb-false k j e (sym f))) (flip q p)
@@ -176,7 +176,7 @@ unfolding isEnd items
 end-items end h = refl
 end-items (node l cs ts) h = absurd (false≢true h)
 
-one-items : (cs : Trees) → isOne cs ≡ true → items cs ≡ 1
+pub one-items : (cs : Trees) → isOne cs ≡ true → items cs ≡ 1
 unfolding isOne items
 one-items end h = absurd (false≢true h)
 one-items (node l cs ts) h = ap suc (end-items ts h)

@@ -7,14 +7,10 @@ use Rattle.kinds.specs.Sound.{validLabel, valid}
 use Rattle.kinds.specs.Tree as T
 use Rattle.kinds.specs.Tree.{Label, Trees, end, node, primitive, bitField, typedBitField, pointer, atomic, array, struct, union, isEnd, isContainer, inside, shows, keep, shown}
 use Rattle.kinds.specs.declared.NestingLevel.{NestingLevel}
+use Rattle.kinds.proofs.TreeLaws.{end-shown}
 use Rattle.reason.specs.Reason.{Difference, Reason, orElse, ownDifference, items, itemsCompared, countDifference, here, under, nodeDifference, itemsDifference, firstDifference}
 use Rattle.reason_agreement.proofs.KindLaws.{labels-alike, valid-parts}
 use Rattle.reason_agreement.proofs.RightLaws.{own-same}
-
-end-shown : (v : NestingLevel) (t : Trees) → isEnd (shown v t) ≡ isEnd t
-unfolding isEnd shown
-end-shown v end = refl
-end-shown v (node l cs ts) = refl
 
 items-shown : (v : NestingLevel) (t : Trees) → items (shown v t) ≡ items t
 unfolding items shown

@@ -15,7 +15,7 @@ use Rattle.kinds.specs.declared.NestingLevel.{NestingLevel}
 use Rattle.reason.specs.Reason.{Difference, kind, size, offset, length, name, count, Reason, orElse, unless, offsetOf, lengthOf, ownDifference, items, itemsCompared, countDifference}
 use Rattle.reason.specs.Reason.{here, under, nodeDifference, itemsDifference, firstDifference}
 use Rattle.reason_agreement.specs.Along.{turned, swapped}
-use Rattle.reason_agreement.proofs.KindLaws.{equivalent-turned, Alike, labels-alike, ValidParts, valid-parts}
+use Rattle.reason_agreement.proofs.KindLaws.{flip, equivalent-turned, Alike, labels-alike, ValidParts, valid-parts}
 use Rattle.reason_agreement.proofs.RightLaws.{own-same}
 
 -- ---- The parts of the definition.
@@ -87,12 +87,6 @@ count-turned cs ds = turn-unless (count (items cs) (items ds)) (eqb-turned (item
 compared-turned : (l m : Label) → Alike l m → (v : NestingLevel) (cs ds : Trees) → itemsCompared m v ds cs ≡ itemsCompared l v cs ds
 unfolding itemsCompared
 compared-turned l m a v cs ds = rw (a .container, a .shown v) (ap (λ x. cond (isContainer m) (shows m v && x) true) (flip (not (isEnd ds)) (not (isEnd cs))))
-  where
-    flip : (x y : Bool) → (x && y) ≡ (y && x)
-    flip true true = refl
-    flip true false = refl
-    flip false true = refl
-    flip false false = refl
 
 node-turned : (l m : Label) (v : NestingLevel) (cs ds : Trees) (x x' : Option Reason) → validLabel l ≡ true → validLabel m ≡ true → (Alike l m → x' ≡ swapped x)
     → nodeDifference m l v ds cs x' ≡ swapped (nodeDifference l m v cs ds x)

@@ -11,7 +11,7 @@ use lib.Dec.{leb}
 use Rattle.kinds.specs.Parse.{maxU64}
 use Rattle.kinds.specs.Primitive.{Widths, isRow, widths}
 use Rattle.kinds.specs.Sheet.{isSheet, treeOf}
-use Rattle.kinds.specs.Size.{sizes, size}
+use Rattle.kinds.specs.Size.{isNone, sizes, size}
 use Rattle.kinds.specs.Sound.{goodNames}
 use Rattle.kinds.specs.Tree.{Trees, end, node, array, struct}
 use Rattle.kinds.specs.declared.NestingLevel.the-variants.{Top, Within}
@@ -21,7 +21,7 @@ use Rattle.sheet.specs.Answer.{Held, held, refused, holding, ofHeld, ofSheet}
 use Rattle.helper.specs.Answer.{maxSize, sized, sizedIn, sizeAnswer}
 use Rattle.helper.specs.declared.Sized.{Sized}
 use Rattle.helper.specs.declared.Sized.the-variants as S
-use Rattle.row_agreement.specs.Lacking.{sizeFrom, isNone, oneNone, noLongDouble, noLong, intsForLongs}
+use Rattle.row_agreement.specs.Lacking.{sizeFrom, oneNone, noLongDouble, noLong, intsForLongs}
 use Rattle.row_agreement.proofs.CodeLaws.{without-long-double, without-long, ints-for-longs}
 use Rattle.row_agreement.proofs.NoneLaws.{size-none, struct-none, zero-items, none-is}
 

@@ -8,14 +8,14 @@ use mathlib.Core.Path.{_≡_, refl, sym, ap, ap₂, _∙_}
 use lib.ListN.{getD}
 use Rattle.kinds.specs.Level.{showsFields}
 use Rattle.kinds.specs.Primitive.{Widths, width, primitives, primitiveSize}
-use Rattle.kinds.specs.Size.{plus, larger, times, sum, largest, only, nodeSize, sizes}
+use Rattle.kinds.specs.Size.{isNone, plus, larger, times, sum, largest, only, nodeSize, sizes}
 use Rattle.kinds.specs.Tree as T
 use Rattle.kinds.specs.Tree.{Label, Trees, end, node, primitive, bitField, typedBitField, pointer, atomic, array, struct, union, inside}
 use Rattle.kinds.specs.declared.NestingLevel.{NestingLevel}
 use Rattle.kinds.specs.declared.NestingLevel.the-variants.{Within}
 use Rattle.kinds.specs.declared.Primitive.{Primitive}
 use Rattle.kinds.specs.declared.Primitive.the-variants as P
-use Rattle.row_agreement.specs.Lacking.{sizeFrom, isNone, oneNone, allNone}
+use Rattle.row_agreement.specs.Lacking.{sizeFrom, oneNone, allNone}
 
 -- ---- Whether there is a size depends on no width.
 

@@ -9,7 +9,7 @@ use mathlib.Core.Path.{_≡_, refl}
 use Rattle.kinds.specs.Level.{showsFields}
 use Rattle.kinds.specs.Parse.{maxU32, maxU64}
 use Rattle.kinds.specs.Primitive.{Widths, isRow, widths, sizeRows}
-use Rattle.kinds.specs.Size.{sizes, size}
+use Rattle.kinds.specs.Size.{isNone, sizes, size}
 use Rattle.kinds.specs.Tree.{Trees, end, node, array, struct, union}
 use Rattle.kinds.specs.declared.NestingLevel.{NestingLevel}
 use Rattle.kinds.specs.declared.NestingLevel.the-variants.{Within}
@@ -19,7 +19,7 @@ use Rattle.sheet.specs.Answer.{held, refused, holding}
 use Rattle.helper.specs.Answer.{maxSize, sizedIn, sizeAnswer}
 use Rattle.helper.specs.declared.Sized.the-variants.{Refused, Nothing, Bytes}
 use Rattle.row_agreement.specs.Cases.{AllHold, cases, table}
-use Rattle.row_agreement.specs.Lacking.{sizeFrom, isNone, oneNone, allNone, noLongDouble, noLong, intsForLongs}
+use Rattle.row_agreement.specs.Lacking.{sizeFrom, oneNone, allNone, noLongDouble, noLong, intsForLongs}
 use Rattle.row_agreement.proofs.AnswerLaws.{refused-answer, no-row, from-no-row, answer-nothing, answer-bytes, answer-large, other-answer, struct-answer, zero-answer, intel-alike, guide-alike, guide-ints}
 use Rattle.row_agreement.proofs.CasesHold.{all-hold, table-holds}
 use Rattle.row_agreement.proofs.CodeLaws.{without-long-double, without-long, ints-for-longs}

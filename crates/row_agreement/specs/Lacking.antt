@@ -6,7 +6,7 @@ use mathlib.Core.Option.{Option, some, none}
 use lib.Dec.{eqb}
 use Rattle.kinds.specs.Byte.{among}
 use Rattle.kinds.specs.Primitive.{Widths, kindOf}
-use Rattle.kinds.specs.Size.{only, sizes}
+use Rattle.kinds.specs.Size.{isNone, only, sizes}
 use Rattle.kinds.specs.Tree as T
 use Rattle.kinds.specs.Tree.{Label, Trees, end, node, primitive, bitField, typedBitField, pointer, atomic, array, struct, union}
 use Rattle.kinds.specs.declared.NestingLevel.{NestingLevel}
@@ -15,10 +15,6 @@ use Rattle.kinds.specs.declared.Primitive.the-variants.{Int, Long, LongDouble, 
 -- The size of a tree that stands at a level. `size` is that at the top.
 abbrev pub sizeFrom : Widths → NestingLevel → Trees → Option ℕ
 sizeFrom w v t = only (sizes w v t)
-
-unfoldable pub isNone : Option ℕ → Bool
-isNone none = true
-isNone (some n) = false
 
 -- One of the sizes is none.
 unfoldable pub oneNone : List (Option ℕ) → Bool

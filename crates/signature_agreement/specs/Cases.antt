@@ -107,7 +107,7 @@ noNumber =
     -- digits are taken greedily
     ∷ (bytes "b168", refused 16 4)
     ∷ (bytes "b0i78", refused 16 5)
-    -- a qualifier is followed by nothing, or by no type
+    -- a qualifier is followed by nothing, or stands where a digit must
     ∷ (bytes "r", refused 16 1)
     ∷ (bytes "v24r", refused 16 4)
     ∷ (bytes "vr24", refused 16 1)
