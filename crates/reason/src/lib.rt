@@ -9,6 +9,7 @@ ghost use Rattle.kinds.specs.Byte.{sameBytes};
 ghost use Rattle.kinds.specs.Print.{decimal};
 ghost use Rattle.kinds.specs.Sheet.{kindAt, firstAt, secondAt, countAt, labelAt, isContainerKind, trees, maxNames};
 ghost use Rattle.kinds.specs.Walk.{NodeAt, TreesAt, KindAndName, KindsAndNames};
+ghost use Rattle.kinds.specs.declared.NestingLevel.the-variants.{Within};
 ghost use Rattle.lines.specs.Answer.{Put};
 ghost use Rattle.reason.specs.Reason.{items, ownDifference, firstDifference, pathText, valueText, reasonText};
 ghost use Rattle.reason.specs.Answer.{measured, fittedReason, placedReason, reasonLen, reasonAnswer, reasonOutput};
@@ -187,6 +188,38 @@ fn compare_counts(a: &[u64], at: usize, b: &[u64], bt: usize, level: NestingLeve
     Counts::Unequal(k, j)
 }
 
+// The first difference of the items of two containers, of `c` nodes from `at` on and of `d` nodes from `bt` on, where both are compared.
+fn items_difference(
+    a: &[u64],
+    an: &[u8],
+    at: usize,
+    c: usize,
+    b: &[u64],
+    bn: &[u8],
+    bt: usize,
+    d: usize,
+    all: bool,
+) -> Found
+    requires { ⌜ (0 < c) × (0 < d) × TreesAt (now a) (at + 4) (c - 1) × TreesAt (now b) (bt + 4) (d - 1) ⌝ }
+    requires { ⌜ KindsAndNames (now a) (length (now an)) (at + 4) (c - 1) × KindsAndNames (now b) (length (now bn)) (bt + 4) (d - 1) ⌝ }
+    ensures { λ r. ⌜ Finds (now (an .entry)) (now (a .entry)) (at + 4) (c - 1) (now (bn .entry)) (now (b .entry)) (bt + 4) (d - 1)
+        (itemsSpot all Within (at + 4) (trees (now (an .entry)) (now (a .entry)) (c - 1) (at + 4)) (trees (now (bn .entry)) (now (b .entry)) (d - 1) (bt + 4))) r ⌝ }
+{
+    let inner = NestingLevel::Within;
+    first_difference(
+        &a[0..],
+        &an[0..],
+        at + 4,
+        c - 1,
+        &b[0..],
+        &bn[0..],
+        bt + 4,
+        d - 1,
+        inner,
+        all,
+    )
+}
+
 // The first difference of the trees of the `left` nodes from `at` on and those of the `more` nodes from `bt` on, up to where either ends. A node with
 // one child is followed by that child, and a container with nothing behind it by its fields, so only other containers need a call.
 fn first_difference(
@@ -214,52 +247,36 @@ fn first_difference(
         if let Found::At(x, y, aspect, k, j) = own_difference(a, an, at, b, bn, bt) {
             return Found::At(x, y, aspect, k, j);
         }
-        let kind = a[at];
         let mut c = 1;
         let mut d = 1;
-        if is_container(kind) {
+        if is_container(a[at]) {
             c = a[at + 3] as usize;
             d = b[bt + 3] as usize;
             match compare_counts(a, at, b, bt, level_for(all, here)) {
                 Counts::NotCompared => {}
                 Counts::Unequal(k, j) => return Found::At(at, bt, Aspect::Count, k, j),
                 Counts::Equal => {
-                    let i = at + 4;
-                    let n = c - 1;
-                    let j = bt + 4;
-                    let m = d - 1;
-                    let inner = NestingLevel::Within;
                     if left == c {
-                        at = i;
-                        left = n;
-                        bt = j;
-                        more = m;
-                        level = inner;
-                        here = inner;
+                        at += 4;
+                        left = c - 1;
+                        bt += 4;
+                        more = d - 1;
+                        level = NestingLevel::Within;
+                        here = NestingLevel::Within;
                         continue;
                     }
-                    if let Found::At(x, y, aspect, k, l) = first_difference(
-                        &a[0..],
-                        &an[0..],
-                        i,
-                        n,
-                        &b[0..],
-                        &bn[0..],
-                        j,
-                        m,
-                        inner,
-                        all,
-                    ) {
+                    let below = items_difference(a, an, at, c, b, bn, bt, d, all);
+                    if let Found::At(x, y, aspect, k, l) = below {
                         return Found::At(x, y, aspect, k, l);
                     }
                 }
             }
         }
+        here = level_after(all, a[at], level, here);
         at += 4 * c;
         left -= c;
         bt += 4 * d;
         more -= d;
-        here = level_after(all, kind, level, here);
     }
     Found::Same
 }
