@@ -389,7 +389,7 @@ uint64_t berzhotun_equivalent_to_str(const uint64_t *words, size_t words_len, co
  * machine's row gives.
  *
  * In every row char and bool have 1; short 2; int and float 4; long long and double 8; a complex
- * number twice its part; a bitfield its bits raised to a power of two, at least 8, divided by 8, or
+ * number twice its part; a bitfield its bits rounded up to a power of two, at least 8, divided by 8, or
  * its type's size if that is larger; an atomic what it holds; an array its length times its item; a
  * struct the sum of its fields; a union the largest of those that have a size. Void, Unknown and
  * None have none; nor have an array or atomic of what has none, a struct with such a field, a union
