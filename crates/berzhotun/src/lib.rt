@@ -1,5 +1,7 @@
 // The functions that programs in C and Rust call: thin layers over the crates below. Each returns 0 where the input is accepted, else document 01's
 // number of the refusal; the other values go into a lent array.
+#![tactic(auto)]
+
 ghost use Rattle.std.specs.Prelude.{◌≡◌, true, false, length};
 ghost use Rattle.parse.specs.Answer.{from_str_answer, from_str_words, from_str_names, from_start_answer, from_start_words, from_start_names};
 ghost use Rattle.parse.specs.Answer.{from_str_strict_answer, from_str_strict_words, from_str_strict_names};

@@ -1,4 +1,6 @@
 // What a byte begins; what stands at a place of a text and has no parts (parse.rs, `parse_inner`): a primitive, a bitfield or a closer; and where runs of pointers and of codes end.
+#![tactic(auto)]
+
 ghost use Rattle.std.specs.Prelude.{◌≡◌, ◌||◌, [], ◌≤◌, length, drop, ltb, eqb};
 ghost use Rattle.kinds.specs.Parse.{max_u64, parse_number, parse_complex, parse_quoted, parse_object, parse_bit_field, parse_bits, start};
 ghost use Rattle.kinds.specs.Strict.{typed_number, bits_numbers};
@@ -12,7 +14,7 @@ use kinds::{
 use numbers::{Digits, Number, is_digit, parse_u8, parse_u64};
 
 // What the digits of a bitfield's numbers show, in their order; no digits for a number that was not met.
-#[derive(Drop)]
+#[derive(Clone, Copy)]
 pub struct BitsDigits {
     pub first: Digits,
     pub second: Digits,
@@ -21,7 +23,7 @@ pub struct BitsDigits {
 // A primitive's kind; a bitfield's size; its offset, its type's kind and its size; a closer; each with the place after it. Digits are those of
 // a bitfield, also where it is refused.
 // `Parts`: a pointer, an atomic, an array or a container begins. `End`: the text ended.
-#[derive(Drop)]
+#[derive(Clone, Copy)]
 pub enum Token {
     Primitive(u64, usize),
     BitField(u64, usize, BitsDigits),

@@ -1,4 +1,6 @@
 // The tree's own operations (encoding.rs, `Encoding`).
+#![tactic(auto)]
+
 ghost use Rattle.std.specs.Prelude.{◌≡◌, false};
 ghost use Rattle.expect.specs.Answer.{compared};
 ghost use Rattle.helper.specs.Answer.{size_answer, compare_answer};

@@ -1,4 +1,6 @@
 // Reading a tree, and `==` between `Encoding` and `EncodingBox` (encoding_box.rs).
+#![tactic(auto)]
+
 ghost use Rattle.std.specs.Prelude.{◌≡◌, true};
 ghost use Rattle.helper.specs.Answer.{compare_answer};
 ghost use Rattle.parse.specs.Answer.{answer_words, from_str_answer, from_str_words, from_str_names, from_start_answer, from_start_words, from_start_names, from_start_rest, EndOf};

@@ -1,4 +1,6 @@
 // Tree against text: parse.rs's `expect_encoding` over the node words of a sheet and a place in the text.
+#![tactic(auto)]
+
 ghost use Rattle.std.specs.Prelude.{◌≡◌, true, false, ◌≤◌, eqb, length, drop};
 ghost use Rattle.kinds.specs.Expect.{◌then◌, expect_byte, expect_bytes, expect_number, expect_quote, class_name, expect_primitive, expect_node, expect_encoding, is_empty, equivalent_to_str};
 ghost use Rattle.kinds.specs.Expect as E;
@@ -22,14 +24,14 @@ use sheet::{Checked, check};
 use skip::{SkippedFields, skip_fields};
 
 // The place after what was taken, or no match.
-#[derive(Drop)]
+#[derive(Clone, Copy)]
 enum Expected {
     Remaining(usize),
     Mismatch,
 }
 
 // A node up to its children: taken whole, or its children are still to come, at a level.
-#[derive(Drop)]
+#[derive(Clone, Copy)]
 enum Opened {
     Taken(usize),
     Mismatch,

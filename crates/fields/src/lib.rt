@@ -1,5 +1,7 @@
 // Where the fields of a tree lie. All take the words of a sheet from its first node on; `offsets` is the list that `layout` fills, and `extents` the one that
 // `extents` fills.
+#![tactic(auto)]
+
 ghost use Rattle.std.specs.Prelude.{◌+◌, ◌-◌, ◌*◌, max, ◌≡◌, cond, ◌&&◌, get_or};
 ghost use Rattle.kinds.specs.Sheet.{kind_at, count_at, is_container_kind};
 ghost use Rattle.fields.specs.Answer.{holds, points, none_of, is_laid_out, last_of, holder_of, is_field_of, is_field, extent_of, gap, is_last, ends_with, largest, hole_in, hole_after};
@@ -8,7 +10,7 @@ use kinds::{POINTER, Refusal, UNION, is_container};
 use layout::LaidOut;
 
 // A gap in a container: where it begins, and its bytes; 0 of them where there is none.
-#[derive(Drop)]
+#[derive(Clone, Copy)]
 pub struct Hole {
     pub begin: u64,
     pub bytes: u64,

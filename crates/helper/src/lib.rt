@@ -1,4 +1,6 @@
 // The size of a tree, and tree against tree (helper.rs, `Helper::size` and `compare_encodings`).
+#![tactic(auto)]
+
 ghost use Rattle.std.specs.Prelude.{ℕ, ◌+◌, ◌-◌, ◌*◌, ◌≤◌, ◌<◌, ◌≡◌, true, false, ◌||◌, eqb, List, [], length, take, drop};
 ghost use Rattle.kinds.specs.Byte.{same_bytes};
 ghost use Rattle.kinds.specs.Compare.{compare_labels, level_for};
@@ -23,7 +25,7 @@ const STRING: usize = 18;
 const ROW_OF_32_BITS: u64 = 2;
 
 // A size: none, a count of bytes, or one above 2^64 - 1.
-#[derive(Drop)]
+#[derive(Clone, Copy)]
 pub enum Measured {
     Nothing,
     Bytes(u64),
@@ -31,7 +33,7 @@ pub enum Measured {
 }
 
 // What `size` answers.
-#[derive(Drop)]
+#[derive(Clone, Copy)]
 pub enum Sized {
     Refused(Refusal),
     Nothing,

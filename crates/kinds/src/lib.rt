@@ -1,4 +1,6 @@
 // The types that helper.rs and parse.rs of the crate share with everything above them.
+#![tactic(auto)]
+
 ghost use Rattle.std.specs.Prelude.{◌<◌, ◌≡◌};
 ghost use Rattle.kinds.specs.Kind.{container_of, is_indirection, inside_kind, children_level};
 ghost use Rattle.kinds.specs.Level.{indirection, container_include_fields};
@@ -43,33 +45,33 @@ pub const MAX_NODES: u64 = 2001;
 
 pub const MAX_NAMES: u64 = 2000;
 
-#[derive(Drop)]
+#[derive(Clone, Copy)]
 pub enum NestingLevel {
     Top,
     Within,
     Bottom,
 }
 
-#[derive(Drop)]
+#[derive(Clone, Copy)]
 pub enum IndirectionKind {
     Atomic,
     Pointer,
 }
 
-#[derive(Drop)]
+#[derive(Clone, Copy)]
 pub enum ContainerKind {
     Struct,
     Union,
 }
 
 // Whether a container includes its fields, and then their level.
-#[derive(Drop)]
+#[derive(Clone, Copy)]
 pub enum Fields {
     Included(NestingLevel),
     Dropped,
 }
 
-#[derive(Drop)]
+#[derive(Clone, Copy)]
 pub enum Primitive {
     Char,
     Short,
@@ -98,7 +100,7 @@ pub enum Primitive {
 }
 
 // The code of a primitive: one byte or two. A kind that is no primitive has none.
-#[derive(Drop)]
+#[derive(Clone, Copy)]
 pub enum Code {
     Empty,
     One(u8),
@@ -106,14 +108,14 @@ pub enum Code {
 }
 
 // The size of a primitive in bytes, if it has one.
-#[derive(Drop)]
+#[derive(Clone, Copy)]
 pub enum PrimitiveSize {
     Bytes(u64),
     Nothing,
 }
 
 // Why text cannot be read; `SurplusZero` is of strict reading alone.
-#[derive(Drop)]
+#[derive(Clone, Copy)]
 pub enum ErrorKind {
     UnexpectedEnd,
     Unknown(u8),
@@ -129,7 +131,7 @@ pub enum ErrorKind {
 
 // Why an input is turned away: document 01's 1 to 6, and 7 to 15 with their place; of signatures 16 and 17 with their place, and 18; of strict reading 19
 // with its place; of size 20; of the layout 21 with the number of a node.
-#[derive(Drop)]
+#[derive(Clone, Copy)]
 pub enum Refusal {
     TextTooLong,
     ListTooShort,
@@ -146,7 +148,7 @@ pub enum Refusal {
 }
 
 // What a comparison answers.
-#[derive(Drop)]
+#[derive(Clone, Copy)]
 pub enum Compared {
     Refused(Refusal),
     Decided(bool),

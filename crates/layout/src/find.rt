@@ -12,7 +12,7 @@ use kinds::{
 };
 
 // What a pass over the laid-out nodes finds: the first bitfield, that one has no size, or neither.
-#[derive(Drop)]
+#[derive(Clone, Copy)]
 pub(crate) enum Found {
     BitField(usize),
     Nothing,

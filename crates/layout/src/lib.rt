@@ -1,4 +1,6 @@
 // Where each field of a tree lies, with padding (02, N7), and what each of its nodes takes.
+#![tactic(auto)]
+
 ghost use Rattle.std.specs.Prelude.{◌<◌, ◌≡◌, length};
 ghost use Rattle.kinds.specs.Tree.{end, node, primitive};
 ghost use Rattle.layout.specs.Answer.{layout_in, list_in, layout_answer, layout_list, extents_answer, extents_list};
@@ -23,7 +25,7 @@ const FLOAT_COMPLEX: usize = 13;
 const LONG_DOUBLE_COMPLEX: usize = 15;
 
 // What `layout` answers: a padded size with its alignment, none, or why not.
-#[derive(Drop)]
+#[derive(Clone, Copy)]
 pub enum LaidOut {
     Refused(Refusal),
     Nothing,

@@ -16,7 +16,7 @@ use helper::Measured;
 use kinds::{ARRAY, ATOMIC, POINTER, PRIMITIVES, Refusal, STRUCT, UNION};
 
 // What trees take: the end of the last, the largest alignment, and whether each offset below them is below 2^64.
-#[derive(Drop)]
+#[derive(Clone, Copy)]
 pub(crate) struct Placed {
     pub(crate) bytes: Measured,
     pub(crate) alignment: u8,

@@ -19,14 +19,14 @@ use kinds::{ARRAY, ATOMIC, POINTER, PRIMITIVES, ROWS, Refusal, SIZES, STRUCT, UN
 const MOST: u64 = 2147483647;
 
 // What trees take where all of it is small; the alignment is 0 where the quick walk does not say.
-#[derive(Drop)]
+#[derive(Clone, Copy)]
 pub(crate) struct Room {
     pub(crate) bytes: u64,
     pub(crate) alignment: u64,
 }
 
 // Where the quick walk stands: in which container, of what kind and ending before which node, at which node, and what the fields before take.
-#[derive(Drop)]
+#[derive(Clone, Copy)]
 struct Open {
     container: usize,
     kind: u64,

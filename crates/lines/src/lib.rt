@@ -1,4 +1,6 @@
 // Lines of questions and answers (oracle/README.md): the fields of a line, hex and decimal read into lent lists, sheets and refusals put into a lent output.
+#![tactic(auto)]
+
 mod put;
 
 ghost use Rattle.std.specs.Prelude.{◌≡◌, ◌+◌, ◌≤◌, ◌<◌, [], ◌∷◌, length, take, set, get_or};
@@ -13,21 +15,21 @@ use put::put_byte;
 pub use put::{put_bytes, put_marked, put_number};
 
 // How many items were read, or that the text is bad or the list too short.
-#[derive(Drop)]
+#[derive(Clone, Copy)]
 pub enum Decoded {
     Items(usize),
     Bad,
 }
 
 // A number with one digit more, or that the byte is no digit or the number too large.
-#[derive(Drop)]
+#[derive(Clone, Copy)]
 enum Grown {
     Value(u64),
     Bad,
 }
 
 // The place of the number that is read and what is read of it, or that a byte is bad.
-#[derive(Drop)]
+#[derive(Clone, Copy)]
 enum Step {
     To(usize, u64),
     Bad,

@@ -1,4 +1,6 @@
 // A container's name in text (parse.rs, `parse_container`): up to `=` or the container's own closer; a place past the end is taken as the end.
+#![tactic(auto)]
+
 ghost use Rattle.std.specs.Prelude.{◌≡◌, [], ◌≤◌, length, drop};
 ghost use Rattle.kinds.specs.Parse.{parse_name};
 ghost use Rattle.names.specs.Answer.{name_at};
@@ -7,7 +9,7 @@ ghost use Rattle.names.specs.Ends.{NameEnd};
 use kinds::{ContainerKind, ErrorKind, verify_name};
 
 // Where a container's name ends and the place after it, with `=` passed, or why there is none and where.
-#[derive(Drop)]
+#[derive(Clone, Copy)]
 pub enum Name {
     Is(usize, usize),
     Refused(ErrorKind, usize),

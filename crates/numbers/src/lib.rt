@@ -1,4 +1,6 @@
 // Numbers in text (parse.rs, `parse_u64`, `parse_u8`, `chomp_digits`): read at a place of the text; a place past the end is taken as the end.
+#![tactic(auto)]
+
 ghost use Rattle.std.specs.Prelude.{◌≡◌, ◌+◌, ◌*◌, ◌≤◌, ltb, drop};
 ghost use Rattle.kinds.specs.Byte.{is_digit};
 ghost use Rattle.kinds.specs.Parse.{max_u64, max_u32, max_u8, parse_number};
@@ -8,14 +10,14 @@ ghost use Rattle.numbers.specs.Answer.{digits_taken, digits_in, number_at};
 use kinds::ErrorKind;
 
 // How many digits a number took, and whether the first is a surplus zero: there are more, and it is 0.
-#[derive(Drop)]
+#[derive(Clone, Copy)]
 pub struct Digits {
     pub count: usize,
     pub surplus: bool,
 }
 
 // A number and the place after it, or why there is none and where; both with the digits that were taken.
-#[derive(Drop)]
+#[derive(Clone, Copy)]
 pub enum Number {
     Value(u64, usize, Digits),
     Refused(ErrorKind, usize, Digits),

@@ -1,6 +1,8 @@
 // Reading text: parse.rs, the two readings of encoding_box.rs, and strict reading. A tree is written into lent lists in one pass.
 // Below the entry points `words` is the words from the first node on: node n is at 4 * n.
 // `&text[0..]` is handed on where `text` would be copied to memory and read back at once.
+#![tactic(auto)]
+
 ghost use Rattle.std.specs.Prelude.{◌≡◌, true, [], ◌∷◌, ◌+◌, ◌*◌, ◌-◌, ◌≤◌, ◌<◌, length, drop};
 ghost use Rattle.std.proofs.lemmas.List.Edits.{sets};
 ghost use Rattle.kinds.specs.Sheet.{words_used};
@@ -30,14 +32,14 @@ use parser::strip_leading_qualifiers;
 use sheet::HEADER;
 
 // The place after a container's name and the name bytes written so far, or why there is none and where.
-#[derive(Drop)]
+#[derive(Clone, Copy)]
 enum Named {
     Is(usize, usize),
     Refused(ErrorKind, usize),
 }
 
 // What reading at a place gives: the place after it, the nodes and the name bytes written so far.
-#[derive(Drop)]
+#[derive(Clone, Copy)]
 enum Parsed {
     Empty,
     Encoding(usize, usize, usize),
@@ -47,7 +49,7 @@ enum Parsed {
 }
 
 // What all readings begin with: the place after the tree that the lists now hold, why nothing was read, or why there is no tree and where.
-#[derive(Drop)]
+#[derive(Clone, Copy)]
 enum Encoded {
     Tree(usize),
     Away(Refusal),
@@ -55,14 +57,14 @@ enum Encoded {
 }
 
 // What whole-text reading answers.
-#[derive(Drop)]
+#[derive(Clone, Copy)]
 pub enum Reading {
     Tree,
     Refused(Refusal),
 }
 
 // The place after a container's closer, and the nodes and name bytes written so far.
-#[derive(Drop)]
+#[derive(Clone, Copy)]
 enum Items {
     Read(usize, usize, usize),
     Refused(ErrorKind, usize),

@@ -1,19 +1,21 @@
 // The reader over the lent text (parse.rs, `Parser`): the whole text and one place in it. Each method takes the struct apart
 // and leaves the work to a function on the text and the place.
+#![tactic(auto)]
+
 ghost use Rattle.std.specs.Prelude.{◌≡◌};
 ghost use Rattle.kinds.specs.Byte.{among};
 ghost use Rattle.kinds.specs.Parse.{is_qualifier, strip_leading_qualifiers};
 ghost use Rattle.parser.specs.Place.{lent, place_of, peek_at, is_empty_at, remaining_at, advance_at, strip_at};
 ghost use Rattle.parser.specs.Answer.{new_parser, peek, is_empty, remaining, advance, strip_qualifiers, skip_qualifiers};
 
-#[derive(Drop)]
+#[derive(Clone, Copy)]
 pub struct Parser<'a> {
     data: &'a [u8],
     split_point: usize,
 }
 
 // The next byte, or that the text ended.
-#[derive(Drop)]
+#[derive(Clone, Copy)]
 pub enum Peek {
     Byte(u8),
     End,

@@ -13,7 +13,7 @@ use kinds::{
 };
 
 // What of two nodes differs.
-#[derive(Drop)]
+#[derive(Clone, Copy)]
 pub(crate) enum Aspect {
     Kind,
     Size,
@@ -25,14 +25,14 @@ pub(crate) enum Aspect {
 
 // What the walk finds: nothing, or the words at which the nodes that differ begin in the first tree and in the second, what of them differs, and the
 // number of each side; a name has its length.
-#[derive(Drop)]
+#[derive(Clone, Copy)]
 pub(crate) enum Found {
     Same,
     At(usize, usize, Aspect, u64, u64),
 }
 
 // How the counts of two containers' fields compare, where the fields are compared at all.
-#[derive(Drop)]
+#[derive(Clone, Copy)]
 enum Counts {
     NotCompared,
     Unequal(u64, u64),

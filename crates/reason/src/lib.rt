@@ -1,4 +1,6 @@
 // The reason for a no: the first difference of two trees and its words, in an output that the caller lends.
+#![tactic(auto)]
+
 mod find;
 mod words;
 
@@ -15,7 +17,7 @@ use sheet::{CheckedBoth, Lone, both_of, check, lone_code};
 use words::{difference_len, number_len, path_len, put_number_value, put_reason, reason_fits};
 
 // A yes, or the count of bytes of the reason for a no; or why there is neither.
-#[derive(Drop)]
+#[derive(Clone, Copy)]
 pub enum Reasoned {
     Refused(Refusal),
     Yes,

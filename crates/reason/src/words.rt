@@ -13,7 +13,7 @@ use lines::{put_bytes, put_marked, put_number};
 use static_str::static_int_str_len;
 
 // An item of a node: the word at which it begins, and its number from 0.
-#[derive(Drop)]
+#[derive(Clone, Copy)]
 struct Item {
     at: usize,
     number: u64,

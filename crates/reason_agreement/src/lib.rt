@@ -1,1 +1,2 @@
 // No code: what a reason says of two trees is stated in specs/, proofs/Reasons.antt and proofs/ReasonBounds.antt.
+#![tactic(auto)]

@@ -1,5 +1,7 @@
 // Answers the questions on standard input with the library, a line each, as the oracle answers them with the crate
 // (oracle/README.md). At most 524,288 bytes of questions are read, and an answer has at most 65,536 bytes.
+#![tactic(auto)]
+
 use helper::Sized;
 use kinds::{Compared, MAX_TEXT, Refusal};
 use layout::LaidOut;
@@ -19,7 +21,7 @@ const MAX_DECODED: usize = 32768;
 const MAX_ANSWER: usize = 65536;
 
 // A tree stands in the lent lists, or the text was turned away, or the question is bad.
-#[derive(Drop)]
+#[derive(Clone, Copy)]
 enum Loaded {
     Tree,
     Unread(Refusal),

@@ -1,4 +1,6 @@
 // Prints the table of primitive sizes, worked out from the widths of long, unsigned long, pointer and long double: a row a line in the order of `Primitive`, 0 for none.
+#![tactic(auto)]
+
 ghost use Rattle.std.specs.Prelude.{◌≡◌};
 ghost use Rattle.kinds.specs.Primitive.{size_row, size_rows, widths};
 ghost use Rattle.lines.specs.Answer.{Put};

@@ -1,5 +1,7 @@
 // The border of sheets, trees in a lent list of words and a lent list of name bytes: the check, what it hands to a walk over the
 // nodes, and putting nodes and the header. Only here is it known where the nodes begin.
+#![tactic(auto)]
+
 ghost use Rattle.std.specs.Prelude.{ℕ, ◌+◌, ◌-◌, ◌*◌, ◌≤◌, ◌<◌, ◌≡◌, true, false, ◌&&◌, [], ◌∷◌, leb, eqb, length, take, drop, replicate};
 ghost use Rattle.kinds.specs.Name.{verify_name};
 ghost use Rattle.kinds.specs.Sheet.{kind_at, count_at, is_container_kind, numbers, header};
@@ -24,7 +26,7 @@ pub const MAX_WORDS: usize = HEADER + 4 * (MAX_TEXT + 1);
 
 // What the check of a sheet finds: why there is none, or where the nodes begin in the words, with the kind of a tree that is one
 // code or else how many they are.
-#[derive(Drop)]
+#[derive(Clone, Copy)]
 pub enum Checked {
     Refused(Refusal),
     Code(usize, u64),
@@ -32,7 +34,7 @@ pub enum Checked {
 }
 
 // The same of two sheets, a code that stands beside another tree being one node.
-#[derive(Drop)]
+#[derive(Clone, Copy)]
 pub enum CheckedBoth {
     Refused(Refusal),
     Codes(u64, u64),
@@ -40,14 +42,14 @@ pub enum CheckedBoth {
 }
 
 // The kind of the code that words hold alone, or that they hold none.
-#[derive(Drop)]
+#[derive(Clone, Copy)]
 pub enum Lone {
     Code(u64),
     Other,
 }
 
 // Refusals 3 and 4, or neither.
-#[derive(Drop)]
+#[derive(Clone, Copy)]
 enum Verdict {
     NotASheet,
     BadName,
@@ -55,7 +57,7 @@ enum Verdict {
 }
 
 // What a pass over nodes finds: that they are no part of a sheet, or the place of the next name and whether all names are good.
-#[derive(Drop)]
+#[derive(Clone, Copy)]
 enum Walked {
     Broken,
     Next(u64, bool),

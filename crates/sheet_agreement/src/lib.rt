@@ -1,1 +1,2 @@
 // Statements over the answers of the calls; there is nothing to run.
+#![tactic(auto)]

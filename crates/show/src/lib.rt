@@ -1,4 +1,6 @@
 // What is shown of a tree, of its sizes, of its layout, of a signature, of a refusal and of the reason for a no, put into a lent output from a place on; each answers the next place.
+#![tactic(auto)]
+
 ghost use Rattle.std.specs.Prelude.{◌≡◌, [], ◌∷◌, take, drop, get_or};
 ghost use Rattle.lines.specs.Answer.{Put, decimals};
 ghost use Rattle.show.specs.Answer.{count_of, shown_byte, shown_text, times, depth_of, line_of, count_text, kind_names, values_text, right_text, type_text, node_text, column_text, entry_text};

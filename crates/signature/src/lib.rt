@@ -1,4 +1,6 @@
 // Whole method signatures, as `v24@0:8@16`: types and decimal numbers in turn. For each type its start, its length and its number go into the lent list.
+#![tactic(auto)]
+
 ghost use Rattle.std.specs.Prelude.{◌≡◌, [], ◌∷◌, ◌+◌, ◌*◌, ◌≤◌, ◌<◌, length, drop};
 ghost use Rattle.std.proofs.lemmas.List.Edits.{sets};
 ghost use Rattle.kinds.specs.Byte.{starts_digit};
@@ -11,14 +13,14 @@ use sheet::clear_words;
 use skip::{SkippedPart, skip_encoding_or_none};
 
 // How many entries the list now has, or why there are none.
-#[derive(Drop)]
+#[derive(Clone, Copy)]
 pub enum SignatureReading {
     Entries(usize),
     Refused(Refusal),
 }
 
 // A type's length and number with the place after the number and what its digits show, or why there is no entry.
-#[derive(Drop)]
+#[derive(Clone, Copy)]
 enum Next {
     Entry(usize, u64, usize, Digits),
     Refused(Refusal),

@@ -1,6 +1,8 @@
 // Passing what can be read without keeping it (parse.rs, `expect_encoding`, a container without fields; `parse_encoding_or_none`): the reading
 // rules and their refusals, without lists.
 // `&text[0..]` is handed on where `text` would be copied to memory and read back at once.
+#![tactic(auto)]
+
 ghost use Rattle.std.specs.Prelude.{◌≡◌, ◌+◌, ◌≤◌, ◌<◌, length, drop, get_or};
 ghost use Rattle.kinds.specs.Expect.{skip_items};
 ghost use Rattle.kinds.specs.Parse.{parse_encoding_or_none};
@@ -17,7 +19,7 @@ use numbers::{Number, parse_u64};
 use parser::strip_at;
 
 // What skipping at a place gives: the place after it, or why it cannot be read and where.
-#[derive(Drop)]
+#[derive(Clone, Copy)]
 enum Skipped {
     Empty,
     Encoding(usize),
@@ -27,14 +29,14 @@ enum Skipped {
 }
 
 // The place after what was passed, or why it cannot be read and where.
-#[derive(Drop)]
+#[derive(Clone, Copy)]
 pub enum SkippedPart {
     To(usize),
     Refused(ErrorKind, usize),
 }
 
 // The place after the fields of a container and its closer, or that they cannot be read.
-#[derive(Drop)]
+#[derive(Clone, Copy)]
 pub enum SkippedFields {
     To(usize),
     Refused,

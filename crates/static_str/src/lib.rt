@@ -1,4 +1,6 @@
 // Printing (static_str.rs): the text of a number and of a tree, into an output that the caller lends.
+#![tactic(auto)]
+
 ghost use Rattle.std.specs.Prelude.{◌+◌, ◌-◌, ◌*◌, ◌≤◌, ◌<◌, ◌≡◌, [], ◌∷◌, ◌++◌, length, true};
 ghost use Rattle.kinds.specs.Container.{start_byte};
 ghost use Rattle.kinds.specs.Kind.{inside_kind};
@@ -18,7 +20,7 @@ use kinds::{
 use sheet::{Checked, check};
 
 // The count of bytes of a text, or why there is none.
-#[derive(Drop)]
+#[derive(Clone, Copy)]
 pub enum Printed {
     Refused(Refusal),
     Bytes(usize),

@@ -1,5 +1,7 @@
 // Answers a command on the command line, or commands from standard input, a line each. At most 524,288 bytes of
 // commands are read.
+#![tactic(auto)]
+
 use helper::Sized;
 use kinds::{Compared, MAX_TEXT, ROWS};
 use layout::LaidOut;

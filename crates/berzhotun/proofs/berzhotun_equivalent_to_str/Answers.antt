@@ -1,0 +1,11 @@
+use mathlib.Core.Path.{ap, ◌∙◌}
+use Rattle.berzhotun.specs.Answer.{compare_number, compare_values}
+use Rattle.berzhotun.proofs.berzhotun_equivalent_to_str.Goals as goal
+
+pub returns : goal.returns
+returns c =
+    (
+      c.give_compared.ensures.0 ∙ ap compare_number c.equivalent_to_str.ensures,
+      c.give_compared.ensures.1
+          ∙ ap compare_values c.equivalent_to_str.ensures,
+    )

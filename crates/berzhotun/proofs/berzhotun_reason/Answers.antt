@@ -1,0 +1,6 @@
+use Rattle.berzhotun.proofs.berzhotun_reason.Goals as goal
+
+pub returns : goal.returns
+returns c =
+    let a = c.reason.ensures in
+    rw (← a.0) (c.give_reasoned.ensures.0, (c.give_reasoned.ensures.1, a.1))

@@ -1,9 +1,0 @@
-use borrow.Author.Rules.{rules}
-use Rattle.berzhotun.proofs.berzhotun_reason_all_len.Statement.{statement}
-use Rattle.berzhotun.proofs.berzhotun_reason_all_len.Tie as tie
-
-returns : tie.Need-returns
-returns c = rw (← c.before.before.reason-len.ensures) c.give-reasoned.ensures
-
-pub berzhotun-reason-all-len-spec : {M : Type 1} → statement M
-berzhotun-reason-all-len-spec = tie.close (tie.spec (λ c κs. search rules) (λ c κs. search rules) returns)

@@ -1,0 +1,6 @@
+use Rattle.berzhotun.proofs.berzhotun_signature.Goals as goal
+
+pub returns : goal.returns
+returns c =
+    let a = c.parse_signature.ensures in
+    rw (← a.0) (c.give_signature.ensures.0, (c.give_signature.ensures.1, a.1))

@@ -1,0 +1,20 @@
+use Rattle.numbers.proofs.NumberLaws as N
+use Rattle.expect.proofs.TextLaws.{number-none, number-other, number_is}
+use Rattle.expect.proofs.expect_u64.Goals as goal
+
+pub returns-then-m-n : goal.returns-then-m-n
+returns-then-m-n c =
+    let u = c4 in
+    let n = rw c.in-Value.is at (N.number_is _ _ _ _ u.before.before.requires u.parse-u64.ensures) in
+    (number_is _ _ _ _ _ n.0 c.if-m-n.true, n.1.1)
+
+pub returns-in-Refused : goal.returns-in-Refused
+returns-in-Refused c =
+    let n = rw c.in-Refused.is at (N.number_is _ _ _ _ c.requires c.parse_u64.ensures) in
+    number-none _ _ _ _ _ n.0
+
+pub returns-else-m-n : goal.returns-else-m-n
+returns-else-m-n c =
+    let u = c4 in
+    let n = rw c.in-Value.is at (N.number_is _ _ _ _ u.before.before.requires u.parse-u64.ensures) in
+    number-other _ _ _ _ _ n.0 c.if-m-n.false

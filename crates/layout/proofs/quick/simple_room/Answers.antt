@@ -1,0 +1,36 @@
+use native.Mathlib.Omega.{arith}
+use Rattle.layout.proofs.RoomLaws.{simple-plain, simple-atomic, simple-array}
+use Rattle.kinds.proofs.NodeLaws.{node-child}
+use Rattle.layout.proofs.quick.simple_room.Goals as goal
+
+pub returns-then-kind-lt-ATOMIC : goal.returns-then-kind-lt-ATOMIC
+returns-then-kind-lt-ATOMIC c =
+    let a = c.args in
+    λ h. simple-plain a.sizes.now a.nodes.now a.at c.if-kind-lt-ATOMIC.true (c.plain_room.ensures h)
+
+pub returns-then-kind-gt-ARRAY : goal.returns-then-kind-gt-ARRAY
+returns-then-kind-gt-ARRAY c = λ h. let z = c.none.ensures.1 in absurd (omega arith)
+
+pub bounds-nodes-at-2 : goal.bounds-nodes-at-2
+bounds-nodes-at-2 c =
+    let h = node-child c.args.nodes.now c.args.at c.requires.1 (omega arith) c.if-kind-gt-ARRAY.false in
+    let r = h.room in
+    let m = h.some-node in
+    omega arith
+
+pub array_room-requires : goal.array_room-requires
+array_room-requires c =
+    λ h. let p = c.plain_room-item.ensures h in let s = p.small in (p.power, omega arith)
+
+pub returns-then-kind-eq-ARRAY : goal.returns-then-kind-eq-ARRAY
+returns-then-kind-eq-ARRAY c =
+    let a = c.args in
+    λ h.
+    let r = c.array_room.ensures h in
+    simple-array a.sizes.now a.nodes.now a.at c.if-kind-eq-ARRAY.true (c.plain_room-item.ensures r.0) r.1
+
+pub returns : goal.returns
+returns c =
+    let a = c.args in
+    let e = c.if-kind-eq-ARRAY.false in
+    λ h. simple-atomic a.sizes.now a.nodes.now a.at (omega arith) (c.plain_room-item.ensures h)

@@ -1,0 +1,6 @@
+use Rattle.parse.specs.Answer.{from_str_answer, from_str_words, from_str_names}
+use Rattle.parse.proofs.from_str.Goals as goal
+
+pub returns : goal.returns
+unfolding from_str_answer from_str_words from_str_names
+returns c = c.read_whole.ensures

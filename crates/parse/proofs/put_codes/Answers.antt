@@ -1,0 +1,50 @@
+use Prim.Native.Nat.{◌-◌}
+use mathlib.Core.Path.{refl, ◌∙◌}
+use native.Mathlib.Omega.{arith}
+use Rattle.codes.proofs.CodeLaws.{single-code}
+use Rattle.parse.proofs.Runs.{codes-none, codes-more}
+use Rattle.parse.proofs.Sheets.{slack-some}
+use Rattle.parse.proofs.put_codes.Goals as goal
+
+pub loop-i-init : goal.loop-i-init
+loop-i-init c = (codes-none _ _ _ _ c.requires.0, refl)
+
+pub bounds-text-i : goal.bounds-text-i
+bounds-text-i c = omega arith
+
+pub shape_of-words-then-p-ge-PRIMITIVES : goal.shape_of-words-then-p-ge-PRIMITIVES
+shape_of-words-then-p-ge-PRIMITIVES c = c.loop-i.invariant.1
+
+pub returns-then-p-ge-PRIMITIVES : goal.returns-then-p-ge-PRIMITIVES
+returns-then-p-ge-PRIMITIVES c = c.loop-i.invariant.0
+
+pub overflow_sub-i : goal.overflow_sub-i
+overflow_sub-i c = omega (arith, c.loop-i.invariant.0.onward)
+
+pub overflow_add-n : goal.overflow_add-n
+overflow_add-n c = omega (arith, c.requires.1, c.loop-i.invariant.0.room)
+
+pub put_node-requires : goal.put_node-requires
+put_node-requires c =
+    omega (arith, c.requires.1, c.loop-i.invariant.0.room, c.loop-i.invariant.1, slack-some c.args.text.now c.loop-i.i c.loop-i-test.true)
+
+pub overflow_add-i : goal.overflow_add-i
+overflow_add-i c = omega arith
+
+pub loop-i-smaller : goal.loop-i-smaller
+loop-i-smaller c = omega arith
+
+pub loop-i-preserved : goal.loop-i-preserved
+loop-i-preserved c =
+    let l = c.loop-i in
+    let a = c.args in
+    let w = c.put_node in
+    let code = single-code _ _ c.single_kind-p.ensures (omega (arith, c.if-p-ge-PRIMITIVES.false)) in
+    let more = codes-more a.text.now a.at a.n a.words.now l.words l.i c.single_kind-p.result l.invariant.0 c.loop-i-test.true code in
+    (rw w.ensures more, w.auto.0 ∙ l.invariant.1)
+
+pub shape_of-words : goal.shape_of-words
+shape_of-words c = c.loop-i.invariant.1
+
+pub returns : goal.returns
+returns c = c.loop-i.invariant.0

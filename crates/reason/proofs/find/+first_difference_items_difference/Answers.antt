@@ -1,0 +1,287 @@
+use Prim.Native.Nat.{ℕ, ◌-◌}
+use mathlib.Core.Path.{sym, ◌∙◌}
+use mathlib.Core.Logic.{⊎_elim}
+use native.Mathlib.Omega.{arith}
+use Rattle.kinds.proofs.ListLaws.{whole}
+use Rattle.reason.proofs.SpotLaws.{resume-level}
+use Rattle.reason.proofs.WalkLaws.{some_left, zero_left, part-all, left_end, left-short, left-bounds, left_here, left-own, left-next, left_over, left-count, left-inner, left-fields, left_after, left-last}
+use Rattle.reason.proofs.find.+first_difference_items_difference.Goals as goal
+
+pub first_difference-loop-left-init : goal.first_difference-loop-left-init
+first_difference-loop-left-init t c =
+    let pre = c.requires in (
+      omega arith,
+      record {
+        first = pre.1.0.0;
+        second = pre.1.0.1;
+        first_walk = pre.1.1.0;
+        second_walk = pre.1.1.1;
+        first_part = part-all _ _;
+        second-part = part-all _ _;
+        rest = resume-level _ _ _ _ _;
+      },
+    )
+
+pub first_difference-returns-then-more-eq0 : goal.first_difference-returns-then-more-eq0
+first_difference-returns-then-more-eq0 t c = left-short c.loop-left.invariant.1 (zero_left _ c.if-more-eq0.true)
+
+pub first_difference-own_difference-requires : goal.first_difference-own_difference-requires
+first_difference-own_difference-requires t c =
+    left_here c.loop-left.invariant.1 c.loop-left-test.true (some_left _ c.if-more-eq0.false)
+
+pub first_difference-returns-in-At : goal.first_difference-returns-in-At
+first_difference-returns-in-At t c =
+    left-own c.loop-left.invariant.1 c.loop-left-test.true (some_left _ c.if-more-eq0.false) (rw c.in-At.is at c.own_difference.ensures)
+
+pub first_difference-offset_bounds-a-at : goal.first_difference-offset_bounds-a-at
+first_difference-offset_bounds-a-at t c =
+    let b = left-bounds c.loop-left.invariant.1 c.loop-left-test.true (some_left _ c.if-more-eq0.false) in
+    let g = c.well-formed in
+    omega arith
+
+pub first_difference-bounds-a-at : goal.first_difference-bounds-a-at
+first_difference-bounds-a-at t c =
+    let b = left-bounds c.loop-left.invariant.1 c.loop-left-test.true (some_left _ c.if-more-eq0.false) in
+    let g = c.well-formed in
+    omega arith
+
+pub first_difference-overflow_add-c : goal.first_difference-overflow_add-c
+first_difference-overflow_add-c t c =
+    let b = left-bounds c.loop-left.invariant.1 c.loop-left-test.true (some_left _ c.if-more-eq0.false) in
+    let g = c.well-formed in
+    omega arith
+
+pub first_difference-offset_bounds-a-at-then-is_container : goal.first_difference-offset_bounds-a-at-then-is_container
+first_difference-offset_bounds-a-at-then-is_container t c =
+    let b = left-bounds c.loop-left.invariant.1 c.loop-left-test.true (some_left _ c.if-more-eq0.false) in
+    let g = c.well-formed in
+    omega arith
+
+pub first_difference-bounds-a-at-then-is_container : goal.first_difference-bounds-a-at-then-is_container
+first_difference-bounds-a-at-then-is_container t c =
+    let b = left-bounds c.loop-left.invariant.1 c.loop-left-test.true (some_left _ c.if-more-eq0.false) in
+    let g = c.well-formed in
+    omega arith
+
+pub first_difference-overflow_add-d : goal.first_difference-overflow_add-d
+first_difference-overflow_add-d t c =
+    let b = left-bounds c.loop-left.invariant.1 c.loop-left-test.true (some_left _ c.if-more-eq0.false) in
+    let g = c.well-formed in
+    omega arith
+
+pub first_difference-offset_bounds-b-bt : goal.first_difference-offset_bounds-b-bt
+first_difference-offset_bounds-b-bt t c =
+    let b = left-bounds c.loop-left.invariant.1 c.loop-left-test.true (some_left _ c.if-more-eq0.false) in
+    let g = c.well-formed in
+    omega arith
+
+pub first_difference-bounds-b-bt : goal.first_difference-bounds-b-bt
+first_difference-bounds-b-bt t c =
+    let b = left-bounds c.loop-left.invariant.1 c.loop-left-test.true (some_left _ c.if-more-eq0.false) in
+    let g = c.well-formed in
+    omega arith
+
+pub first_difference-compare_counts-requires : goal.first_difference-compare_counts-requires
+first_difference-compare_counts-requires t c =
+    let h = left_here c.loop-left.invariant.1 c.loop-left-test.true (some_left _ c.if-more-eq0.false)
+    in (h.0.0, h.0.1, sym c.is_container.ensures ∙ c.if-is_container.true)
+
+pub first_difference-returns-in-Unequal : goal.first_difference-returns-in-Unequal
+first_difference-returns-in-Unequal t c =
+    left-count c.loop-left.invariant.1 c.loop-left-test.true (some_left _ c.if-more-eq0.false) (rw c.in_default.is at c.own_difference.ensures)
+    (sym c.is_container.ensures ∙ c.if-is_container.true) c.level_for.ensures
+    (rw c.in-Unequal.is at (c.compare_counts.ensures c.args.an.now c.args.bn.now))
+
+pub first_difference-overflow_add-at : goal.first_difference-overflow_add-at
+first_difference-overflow_add-at t c =
+    let b = left-bounds c.loop-left.invariant.1 c.loop-left-test.true (some_left _ c.if-more-eq0.false) in
+    let g = c.well-formed in
+    omega arith
+
+pub first_difference-overflow_sub-left : goal.first_difference-overflow_sub-left
+first_difference-overflow_sub-left t c =
+    let b = left-bounds c.loop-left.invariant.1 c.loop-left-test.true (some_left _ c.if-more-eq0.false) in
+    let g = c.well-formed in
+    omega arith
+
+pub first_difference-overflow_add-bt : goal.first_difference-overflow_add-bt
+first_difference-overflow_add-bt t c =
+    let b = left-bounds c.loop-left.invariant.1 c.loop-left-test.true (some_left _ c.if-more-eq0.false) in
+    let g = c.well-formed in
+    omega arith
+
+pub first_difference-overflow_sub-more : goal.first_difference-overflow_sub-more
+first_difference-overflow_sub-more t c =
+    let b = left-bounds c.loop-left.invariant.1 c.loop-left-test.true (some_left _ c.if-more-eq0.false) in
+    let g = c.well-formed in
+    omega arith
+
+pub first_difference-loop-left-smaller-then-left-c : goal.first_difference-loop-left-smaller-then-left-c
+first_difference-loop-left-smaller-then-left-c t c =
+    let b = left-bounds c.loop-left.invariant.1 c.loop-left-test.true (some_left _ c.if-more-eq0.false) in
+    let g = c.well-formed in
+    omega arith
+
+pub first_difference-loop-left-preserved-then-left-c : goal.first_difference-loop-left-preserved-then-left-c
+first_difference-loop-left-preserved-then-left-c t c =
+    let b = left-bounds c.loop-left.invariant.1 c.loop-left-test.true (some_left _ c.if-more-eq0.false) in (
+      omega arith,
+      left-last c.loop-left.invariant.1 c.loop-left-test.true (some_left _ c.if-more-eq0.false)
+          (rw c.in_default.is at c.own_difference.ensures) (sym c.is_container.ensures ∙ c.if-is_container.true) c.level_for.ensures
+          (rw c.in-Equal.is at (c.compare_counts.ensures c.args.an.now c.args.bn.now)) c.if-left-c.true,
+    )
+
+pub first_difference-items_difference-below-requires : goal.first_difference-items_difference-below-requires
+first_difference-items_difference-below-requires t c =
+    let b = left-bounds c.loop-left.invariant.1 c.loop-left-test.true (some_left _ c.if-more-eq0.false) in
+    let i = left-inner c.loop-left.invariant.1 c.loop-left-test.true (some_left _ c.if-more-eq0.false)
+    (rw c.in_default.is at c.own_difference.ensures) (sym c.is_container.ensures ∙ c.if-is_container.true) c.level_for.ensures
+    (rw c.in-Equal.is at (c.compare_counts.ensures c.args.an.now c.args.bn.now)) in
+    (omega arith, ((omega arith, omega arith, i.0.0, i.0.1), i.1))
+
+pub first_difference-returns-in-At-below : goal.first_difference-returns-in-At-below
+first_difference-returns-in-At-below t c =
+    left-fields c.loop-left.invariant.1 c.loop-left-test.true (some_left _ c.if-more-eq0.false) (rw c.in_default.is at c.own_difference.ensures)
+    (sym c.is_container.ensures ∙ c.if-is_container.true) c.level_for.ensures
+    (rw c.in-Equal.is at (c.compare_counts.ensures c.args.an.now c.args.bn.now))
+    (rw c.in-At-below.is at c.items_difference-below.ensures)
+
+pub first_difference-offset_bounds-a-at-in-loop-left : goal.first_difference-offset_bounds-a-at-in-loop-left
+first_difference-offset_bounds-a-at-in-loop-left t c =
+    let b = left-bounds c.loop-left.invariant.1 c.loop-left-test.true (some_left _ c.if-more-eq0.false) in
+    let g = c.well-formed in
+    omega arith
+
+pub first_difference-bounds-a-at-in-loop-left : goal.first_difference-bounds-a-at-in-loop-left
+first_difference-bounds-a-at-in-loop-left t c =
+    let b = left-bounds c.loop-left.invariant.1 c.loop-left-test.true (some_left _ c.if-more-eq0.false) in
+    let g = c.well-formed in
+    omega arith
+
+pub first_difference-overflow_mul-at : goal.first_difference-overflow_mul-at
+first_difference-overflow_mul-at t c =
+    let b = left-bounds c.loop-left.invariant.1 c.loop-left-test.true (some_left _ c.if-more-eq0.false) in
+    let g = c.well-formed in
+    ⊎_elim (λ i. omega arith) (⊎_elim (λ i. omega arith) (λ i. omega arith)) c.if-is_container.branch
+
+pub first_difference-overflow_add-at-in-loop-left : goal.first_difference-overflow_add-at-in-loop-left
+first_difference-overflow_add-at-in-loop-left t c =
+    let b = left-bounds c.loop-left.invariant.1 c.loop-left-test.true (some_left _ c.if-more-eq0.false) in
+    let g = c.well-formed in
+    ⊎_elim (λ i. omega arith) (⊎_elim (λ i. omega arith) (λ i. omega arith)) c.if-is_container.branch
+
+pub first_difference-overflow_sub-left-in-loop-left : goal.first_difference-overflow_sub-left-in-loop-left
+first_difference-overflow_sub-left-in-loop-left t c =
+    let b = left-bounds c.loop-left.invariant.1 c.loop-left-test.true (some_left _ c.if-more-eq0.false) in
+    let g = c.well-formed in
+    ⊎_elim (λ i. omega arith) (⊎_elim (λ i. omega arith) (λ i. omega arith)) c.if-is_container.branch
+
+pub first_difference-overflow_mul-bt : goal.first_difference-overflow_mul-bt
+first_difference-overflow_mul-bt t c =
+    let b = left-bounds c.loop-left.invariant.1
+    c.loop-left-test.true
+    (some_left _ c.if-more-eq0.false) in
+    let g = c.well-formed in
+    ⊎_elim (λ i. omega arith) (⊎_elim (λ i. omega arith) (λ i. omega arith))
+    c.if-is_container.branch
+
+pub first_difference-overflow_add-bt-in-loop-left : goal.first_difference-overflow_add-bt-in-loop-left
+first_difference-overflow_add-bt-in-loop-left t c =
+    let b = left-bounds c.loop-left.invariant.1
+    c.loop-left-test.true
+    (some_left _ c.if-more-eq0.false) in
+    let g = c.well-formed in
+    ⊎_elim (λ i. omega arith) (⊎_elim (λ i. omega arith) (λ i. omega arith))
+    c.if-is_container.branch
+
+pub first_difference-overflow_sub-more-in-loop-left : goal.first_difference-overflow_sub-more-in-loop-left
+first_difference-overflow_sub-more-in-loop-left t c =
+    let b = left-bounds c.loop-left.invariant.1 c.loop-left-test.true (some_left _ c.if-more-eq0.false) in
+    let g = c.well-formed in
+    ⊎_elim (λ i. omega arith) (⊎_elim (λ i. omega arith) (λ i. omega arith)) c.if-is_container.branch
+
+pub first_difference-loop-left-smaller : goal.first_difference-loop-left-smaller
+first_difference-loop-left-smaller t c =
+    let b = left-bounds c.loop-left.invariant.1 c.loop-left-test.true (some_left _ c.if-more-eq0.false) in
+    let g = c.well-formed in
+    ⊎_elim (λ i. omega arith) (⊎_elim (λ i. omega arith) (λ i. omega arith)) c.if-is_container.branch
+
+pub first_difference-loop-left-preserved : goal.first_difference-loop-left-preserved
+first_difference-loop-left-preserved t c =
+    let b = left-bounds c.loop-left.invariant.1 c.loop-left-test.true (some_left _ c.if-more-eq0.false) in
+    let e = (rw c.in_default.is at c.own_difference.ensures) in
+    ⊎_elim (λ i. (
+      omega arith,
+      left_over c.loop-left.invariant.1 c.loop-left-test.true (some_left _ c.if-more-eq0.false) e (sym c.is_container.ensures ∙ i.0.taken) i.3.ensures
+          (rw i.6.given.1 at (i.4.ensures c.args.an.now c.args.bn.now)) i.7 i.8 c.level_after-here.ensures,
+    ))
+    (⊎_elim (λ i. (
+      omega arith,
+      left_after c.loop-left.invariant.1 c.loop-left-test.true (some_left _ c.if-more-eq0.false) e (sym c.is_container.ensures ∙ i.0.taken) i.3.ensures
+          (rw i.6.given.1 at (i.4.ensures c.args.an.now c.args.bn.now))
+          (rw i.10.given.1 at i.8.ensures) i.11 i.12 c.level_after-here.ensures,
+    ))
+    (λ i. (
+      omega arith,
+      left-next c.loop-left.invariant.1 c.loop-left-test.true (some_left _ c.if-more-eq0.false) e (sym c.is_container.ensures ∙ i.0.left) i.1 i.2
+          c.level_after-here.ensures,
+    ))) c.if-is_container.branch
+
+pub first_difference-returns : goal.first_difference-returns
+first_difference-returns t c = left_end c.loop-left.invariant.1 c.loop-left-test.false
+
+pub items_difference-slice_bounds-first_difference-count : goal.items_difference-slice_bounds-first_difference-count
+items_difference-slice_bounds-first_difference-count t c =
+    let p = c.requires.1 in
+    let g = c.well-formed in
+    omega arith
+
+pub items_difference-slice_bounds-first_difference-count-2 : goal.items_difference-slice_bounds-first_difference-count-2
+items_difference-slice_bounds-first_difference-count-2 t c =
+    let p = c.requires.1 in
+    let g = c.well-formed in
+    omega arith
+
+pub items_difference-overflow_add-at : goal.items_difference-overflow_add-at
+items_difference-overflow_add-at t c =
+    let p = c.requires.1 in
+    let g = c.well-formed in
+    omega arith
+
+pub items_difference-overflow_sub-c : goal.items_difference-overflow_sub-c
+items_difference-overflow_sub-c t c =
+    let p = c.requires.1 in
+    let g = c.well-formed in
+    omega arith
+
+pub items_difference-slice_bounds-first_difference-count-3 : goal.items_difference-slice_bounds-first_difference-count-3
+items_difference-slice_bounds-first_difference-count-3 t c =
+    let p = c.requires.1 in
+    let g = c.well-formed in
+    omega arith
+
+pub items_difference-slice_bounds-first_difference-count-4 : goal.items_difference-slice_bounds-first_difference-count-4
+items_difference-slice_bounds-first_difference-count-4 t c =
+    let p = c.requires.1 in
+    let g = c.well-formed in
+    omega arith
+
+pub items_difference-overflow_add-bt : goal.items_difference-overflow_add-bt
+items_difference-overflow_add-bt t c =
+    let p = c.requires.1 in
+    let g = c.well-formed in
+    omega arith
+
+pub items_difference-overflow_sub-d : goal.items_difference-overflow_sub-d
+items_difference-overflow_sub-d t c =
+    let p = c.requires.1 in
+    let g = c.well-formed in
+    omega arith
+
+pub items_difference-first_difference-requires : goal.items_difference-first_difference-requires
+items_difference-first_difference-requires t c =
+    let p = c.requires.1 in
+    rw (whole, whole, whole, whole) (omega arith, ((p.0.2, p.0.3), p.1))
+
+pub items_difference-returns : goal.items_difference-returns
+items_difference-returns t c = rw (whole, whole, whole, whole) at c.first_difference.ensures

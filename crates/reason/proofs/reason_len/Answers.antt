@@ -1,0 +1,15 @@
+use mathlib.Core.Path.{sym, ◌∙◌}
+use Rattle.kinds.proofs.ListLaws.{whole}
+use Rattle.sheet.proofs.GivenLaws.{lone-gives}
+use Rattle.reason.proofs.ReasonLaws.{len-codes}
+use Rattle.reason.proofs.reason_len.Goals as goal
+
+pub returns-in-Code-lone_code : goal.returns-in-Code-lone_code
+returns-in-Code-lone_code c =
+    let a = c.args in
+    let k = lone-gives a.aw.now (sym c.lone_code.ensures ∙ c.in-Code.is) a.an.now in
+    let j = lone-gives a.bw.now (sym c.lone_code-in-Code.ensures ∙ c.in-Code-lone_code.is) a.bn.now in
+    len-codes a.all _ _ _ _ (k, j) (c.codes_len.ensures a.all)
+
+pub returns : goal.returns
+returns c = rw (whole, whole, whole, whole) at c.sheets_len.ensures

@@ -1,0 +1,41 @@
+use mathlib.Core.Path.{refl}
+use native.Mathlib.Omega.{arith}
+use lib.ListN.{get_or}
+use Rattle.kinds.specs.Sheet.{header_words}
+use Rattle.kinds.proofs.ListLaws.{whole}
+use Rattle.sheet.specs.declared.Checked.TheVariants.{Code}
+use Rattle.sheet.proofs.GivenLaws.{both-gives, good-code, lone-good}
+use Rattle.sheet.proofs.check_both.Goals as goal
+
+pub bounds-aw-4 : goal.bounds-aw-4
+bounds-aw-4 c = let r = (c.is_lone_code.ensures.0 c.if-is_lone_code.true).room in omega arith
+
+pub bounds-bw-4 : goal.bounds-bw-4
+bounds-bw-4 c = let r = (c.is_lone_code-then-is_lone_code.ensures.0 c.if-is_lone_code-2.true).room in omega arith
+
+pub returns-then-is_lone_code-2 : goal.returns-then-is_lone_code-2
+returns-then-is_lone_code-2 c =
+    let a = c.args in
+    let l = c.is_lone_code.ensures.0 c.if-is_lone_code.true in
+    let m = c.is_lone_code-then-is_lone_code.ensures.0 c.if-is_lone_code-2.true in
+    both-gives a.aw.now a.an.now a.bw.now a.bn.now {x = Code header_words (get_or a.aw.now header_words 0)} {y = Code header_words (get_or a.bw.now header_words 0)} refl
+    (good-code _ _ (lone-good _ _ l) l.kind)
+    (good-code _ _ (lone-good _ _ m) m.kind)
+
+pub bounds-aw-4-then-is_lone_code : goal.bounds-aw-4-then-is_lone_code
+bounds-aw-4-then-is_lone_code c = let r = (c.is_lone_code.ensures.0 c.if-is_lone_code.true).room in omega arith
+
+pub returns-then-is_lone_code : goal.returns-then-is_lone_code
+returns-then-is_lone_code c =
+    let a = c.args in
+    let l = c.is_lone_code.ensures.0 c.if-is_lone_code.true in
+    both-gives a.aw.now a.an.now a.bw.now a.bn.now c.both_of.ensures
+    (good-code _ _ (lone-good _ _ l) l.kind)
+    (rw (whole, whole) at c.check_sheet.ensures)
+
+pub returns : goal.returns
+returns c =
+    let a = c.args in
+    both-gives a.aw.now a.an.now a.bw.now a.bn.now c.both_of-2.ensures
+    (rw (whole, whole) at c.check_sheet-2.ensures)
+    (rw (whole, whole) at c.check.ensures.0)

@@ -1,0 +1,14 @@
+use mathlib.Core.Path.{sym, ◌∙◌}
+use borrow.Author.Tests.{le-leb, lt-leb}
+use Rattle.sheet.proofs.TestLaws.{passed, failed}
+use Rattle.sheet.proofs.WalkLaws.{node-container}
+use Rattle.sheet.proofs.container_ok.Goals as goal
+
+pub returns-then-not-name_ok : goal.returns-then-not-name_ok
+returns-then-not-name_ok c = sym (node-container _ _ _ _ _ c.requires.0 ∙ rw (failed c.name_ok.ensures c.if-not-name_ok.true-raw))
+
+pub returns-then-count-lt1 : goal.returns-then-count-lt1
+returns-then-count-lt1 c = sym (node-container _ _ _ _ _ c.requires.0 ∙ rw (passed c.name_ok.ensures c.if-not-name_ok.false-raw, lt-leb _ _ c.if-count-lt1.true))
+
+pub returns : goal.returns
+returns c = sym (node-container _ _ _ _ _ c.requires.0 ∙ rw (passed c.name_ok.ensures c.if-not-name_ok.false-raw, le-leb _ _ c.if-count-lt1.false))

@@ -1,0 +1,59 @@
+-- `tool::show::depth` meets its contract. Assumes nothing.
+use Prim.Native.Nat.{ℕ, ◌+◌, ◌-◌, ◌≤◌, ◌<◌}
+use mathlib.Core.Path.{refl, ap, subst, ◌∙◌}
+use mathlib.Core.Logic.{⊎_elim}
+use native.Mathlib.Omega.{arith}
+use Rattle.show.specs.Answer.{holders, depth_of}
+use Rattle.show.proofs.ShowLaws.{holds, holds_not}
+use Rattle.show.proofs.depth.Goals as goal
+
+pub loop-j-init : goal.loop-j-init
+unfolding holders
+loop-j-init c = (refl, omega arith, omega arith)
+
+pub overflow_cast-j : goal.overflow_cast-j
+overflow_cast-j c = omega arith
+
+pub overflow_mul-j : goal.overflow_mul-j
+overflow_mul-j c = omega arith
+
+pub overflow_add-j : goal.overflow_add-j
+overflow_add-j c = omega arith
+
+pub overflow_sub-i : goal.overflow_sub-i
+overflow_sub-i c = omega arith
+
+pub overflow_cast-i : goal.overflow_cast-i
+overflow_cast-i c = omega arith
+
+pub overflow_add-n : goal.overflow_add-n
+overflow_add-n c = omega arith
+
+pub overflow_add-j-in-loop-j : goal.overflow_add-j-in-loop-j
+overflow_add-j-in-loop-j c = omega arith
+
+pub loop-j-smaller : goal.loop-j-smaller
+loop-j-smaller c = omega arith
+
+pub loop-j-preserved : goal.loop-j-preserved
+loop-j-preserved c =
+    let a = c.args in
+    let l = c.loop-j in
+    ⊎_elim
+    (λ w. (
+      w.1 ∙ ap (λ (k : ℕ). k + 1) l.invariant.0 ∙ holds a.nodes.now a.i l.j
+          (subst (λ (k : ℕ). a.i - l.j < k) c.word_at-count.ensures w.0.taken),
+      omega arith,
+      omega arith,
+    ))
+    (λ w. (
+      w.1 ∙ l.invariant.0 ∙ holds_not a.nodes.now a.i l.j (subst (λ (k : ℕ). k ≤ a.i - l.j) c.word_at-count.ensures w.0.left),
+      omega arith,
+      omega arith,
+    ))
+    c.if-i-j.branch
+
+pub returns : goal.returns
+unfolding depth_of
+returns c =
+    c.loop-j.invariant.0 ∙ ap (holders c.args.nodes.now c.args.i) (omega arith)

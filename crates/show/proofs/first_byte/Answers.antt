@@ -1,0 +1,7 @@
+-- `tool::show::first_byte` meets its contract. Assumes nothing.
+use mathlib.Core.Path.{sym}
+use lib.ListN.{get_or-eq_default}
+use Rattle.show.proofs.first_byte.Goals as goal
+
+pub returns : goal.returns
+returns c = sym (get_or-eq_default c.args.s.now 0 c.if-s-gt0.false)

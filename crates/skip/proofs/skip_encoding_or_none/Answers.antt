@@ -1,0 +1,31 @@
+use mathlib.Core.Path.{sym, ap, ◌∙◌}
+use native.Mathlib.Omega.{arith}
+use lib.ListN.{drop}
+use borrow.Author.Tests.{lt-ltb}
+use Rattle.kinds.proofs.ListLaws.{whole}
+use Rattle.parser.proofs.PlaceLaws.{unread-stripped, strip-at-within}
+use Rattle.codes.specs.Answer.{is_code}
+use Rattle.skip.proofs.SkipLaws.{answer-none, answer-code, answer-object, answer-encoding}
+use Rattle.skip.proofs.skip_encoding_or_none.Goals as goal
+
+pub returns-then-text-at : goal.returns-then-text-at
+returns-then-text-at c = answer-none _ _ c.if-text-at.true
+
+pub returns-then-single_kind-lt-PRIMITIVES : goal.returns-then-single_kind-lt-PRIMITIVES
+unfolding is_code
+returns-then-single_kind-lt-PRIMITIVES c =
+    answer-code _ _ c.if-text-at.false (lt-ltb _ _ (rw c.single_kind.ensures at c.if-single_kind-lt-PRIMITIVES.true))
+
+pub returns-then-object_alone : goal.returns-then-object_alone
+returns-then-object_alone c =
+    answer-object _ _ c.if-text-at.false (sym c.object_alone.ensures ∙ c.if-object_alone.true)
+
+pub skip_inner-requires : goal.skip_inner-requires
+skip_inner-requires c =
+    let r = strip-at-within _ _ _ (omega (arith, c.if-text-at.false)) c.strip_at-from.ensures in
+    rw (whole c.args.text.now) r
+
+pub returns : goal.returns
+returns c =
+    answer-encoding _ _ _ (sym (unread-stripped _ _) ∙ ap (λ k. drop k c.args.text.now) (sym c.strip_at-from.ensures)) _ _
+    (rw (whole c.args.text.now) at c.skip_inner.ensures) c.encoding_or_none.ensures

@@ -1,0 +1,14 @@
+-- `static_str::container_len` meets its contract. Assumes nothing.
+use mathlib.Core.Path.{ap, sym, ◌∙◌}
+use native.Mathlib.Omega.{arith}
+use lib.ListN.{length}
+use Rattle.static_str.proofs.PartLaws.{fields-shown, fields-hidden}
+use Rattle.static_str.proofs.container_len.Goals as goal
+
+pub returns-in-Included : goal.returns-in-Included
+returns-in-Included c =
+    let e = ap length (fields-shown c.args.level _ (sym c.container_include_fields.ensures ∙ c.in-Included.is)) in (omega arith, omega arith)
+
+pub returns-in-Dropped : goal.returns-in-Dropped
+returns-in-Dropped c =
+    let e = ap length (fields-hidden c.args.level (sym c.container_include_fields.ensures ∙ c.in-Dropped.is)) in (omega arith, omega arith)

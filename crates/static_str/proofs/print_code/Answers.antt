@@ -1,0 +1,11 @@
+use Rattle.static_str.proofs.AnswerLaws.{text-short, text-whole}
+use Rattle.kinds.specs.Primitive.{code}
+use Rattle.static_str.proofs.print_code.Goals as goal
+
+pub returns-then-out-len : goal.returns-then-out-len
+returns-then-out-len c =
+    text-short (code c.args.kind) c.args.out.now c.code_len-len.ensures.0 c.if-out-len.true
+
+pub returns : goal.returns
+returns c =
+    text-whole (code c.args.kind) c.args.out.now c.code_len-len.ensures.0 c.if-out-len.false c.put_code.ensures

@@ -1,0 +1,42 @@
+use native.Mathlib.Omega.{arith}
+use Rattle.kinds.proofs.ListLaws.{whole}
+use Rattle.sheet.proofs.GivenLaws.{given-refused, given-code, given-nodes, nodes-part}
+use Rattle.static_str.proofs.AnswerLaws.{print-refused, print-code-held, print-held}
+use Rattle.static_str.proofs.static_encoding_str_array.Goals as goal
+
+pub print_code-requires : goal.print_code-requires
+print_code-requires c =
+    (given-code _ _ (rw (whole, whole) at c.check.ensures.1.0) c.in-Code.is).code
+
+pub offset_bounds-words-first : goal.offset_bounds-words-first
+offset_bounds-words-first c =
+    let h = (given-nodes _ _ (rw (whole, whole) at c.check.ensures.1.0) c.in-Nodes.is) in omega (arith, h.starts)
+
+pub slice_bounds-print_tree-count : goal.slice_bounds-print_tree-count
+slice_bounds-print_tree-count c =
+    let h = (given-nodes _ _ (rw (whole, whole) at c.check.ensures.1.0) c.in-Nodes.is) in omega (arith, h.starts)
+
+pub slice_bounds-print_tree-start : goal.slice_bounds-print_tree-start
+slice_bounds-print_tree-start c =
+    let h = (given-nodes _ _ (rw (whole, whole) at c.check.ensures.1.0) c.in-Nodes.is) in omega (arith, h.starts)
+
+pub print_tree-requires : goal.print_tree-requires
+print_tree-requires c =
+    let h = (nodes-part (given-nodes _ _ (rw (whole, whole) at c.check.ensures.1.0) c.in-Nodes.is))
+    in rw whole ((h.whole, h.few), (h.short-names, h.lent-names))
+
+pub returns-in-Refused : goal.returns-in-Refused
+returns-in-Refused c =
+    print-refused c.args.words.now c.args.names.now c.args.out.now
+    (given-refused _ _ (rw (whole, whole) at c.check.ensures.1.0) c.in-Refused.is)
+
+pub returns-in-Code : goal.returns-in-Code
+returns-in-Code c =
+    print-code-held c.args.words.now c.args.names.now c.args.out.now
+    (given-code _ _ (rw (whole, whole) at c.check.ensures.1.0) c.in-Code.is) c.print_code.ensures.0 c.print_code.ensures.1
+
+pub returns-in-Nodes : goal.returns-in-Nodes
+returns-in-Nodes c =
+    let h = (nodes-part (given-nodes _ _ (rw (whole, whole) at c.check.ensures.1.0) c.in-Nodes.is)) in
+    let p = rw whole at c.print_tree.ensures in
+    print-held c.args.words.now c.args.names.now c.args.out.now h.holds p.0 p.1
