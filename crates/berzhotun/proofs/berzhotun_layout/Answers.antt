@@ -1,6 +1,5 @@
 use Rattle.berzhotun.proofs.berzhotun_layout.Goals as goal
 
 pub returns : goal.returns
-returns c =
-    let a = c.layout.ensures in
-    rw (← a.0) (c.give_laid_out.ensures.0, (c.give_laid_out.ensures.1, a.1))
+returns c = let a = c.layout.ensures in
+    rw (← a.0) (c.give_laid_out.ensures.returns, (c.give_laid_out.ensures.answers, a.1))

@@ -1,6 +1,5 @@
 use Rattle.berzhotun.proofs.berzhotun_reason.Goals as goal
 
 pub returns : goal.returns
-returns c =
-    let a = c.reason.ensures in
-    rw (← a.0) (c.give_reasoned.ensures.0, (c.give_reasoned.ensures.1, a.1))
+returns c = let a = c.reason.ensures in
+    rw (← a.0) (c.give_reasoned.ensures.returns, (c.give_reasoned.ensures.answers, a.1))

@@ -1,6 +1,5 @@
 use Rattle.berzhotun.proofs.berzhotun_signature.Goals as goal
 
 pub returns : goal.returns
-returns c =
-    let a = c.parse_signature.ensures in
-    rw (← a.0) (c.give_signature.ensures.0, (c.give_signature.ensures.1, a.1))
+returns c = let a = c.parse_signature.ensures in
+    rw (← a.0) (c.give_signature.ensures.returns, (c.give_signature.ensures.answers, a.1))

@@ -1,6 +1,5 @@
 use Rattle.berzhotun.proofs.berzhotun_static_encoding_str_array.Goals as goal
 
 pub returns : goal.returns
-returns c =
-    let a = c.static_encoding_str_array.ensures in
-    rw (← a.0) (c.give_printed.ensures.0, (c.give_printed.ensures.1, a.1))
+returns c = let a = c.static_encoding_str_array.ensures in
+    rw (← a.0) (c.give_printed.ensures.returns, (c.give_printed.ensures.answers, a.1))

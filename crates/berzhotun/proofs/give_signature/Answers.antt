@@ -5,5 +5,4 @@ pub returns-in-Entries : goal.returns-in-Entries
 returns-in-Entries c = rw c.in-Entries.is (refl, refl)
 
 pub returns-in-Refused : goal.returns-in-Refused
-returns-in-Refused c =
-    rw c.in-Refused.is (c.number.ensures, c.values.ensures)
+returns-in-Refused c = rw c.in-Refused.is (c.number.ensures, c.values.ensures)

@@ -31,11 +31,9 @@ loop-level-init t c =
     )
 
 pub compare_labels-requires : goal.compare_labels-requires
-compare_labels-requires t c =
-    let s = both_some _ _ (sym c.either_none-in-loop-level.ensures ∙ not-true _ c.loop-level-test.true-raw) in
+compare_labels-requires t c = let s = both_some _ _ (sym c.either_none-in-loop-level.ensures ∙ not-true _ c.loop-level-test.true-raw) in
     let l = c.loop-level in
-    let b = left-bounds l.invariant.1 s.0 s.1 in
-    ((omega arith, omega arith), (walk_here _ _ _ _ l.invariant.1.first_walk s.0, walk_here _ _ _ _ l.invariant.1.second_walk s.1))
+    let b = left-bounds l.invariant.1 s.0 s.1 in record { at_in_bounds = (omega arith, omega arith); kind_and_name = (walk_here _ _ _ _ l.invariant.1.first_walk s.0, walk_here _ _ _ _ l.invariant.1.second_walk s.1) }
 
 pub returns-then-not-compare_labels : goal.returns-then-not-compare_labels
 returns-then-not-compare_labels t c =
@@ -205,8 +203,7 @@ loop-level-preserved-then-fields_last t c =
     )
 
 pub compare_fields-requires : goal.compare_fields-requires
-compare_fields-requires t c =
-    let s = both_some _ _
+compare_fields-requires t c = let s = both_some _ _
     (sym c.either_none-in-loop-level.ensures
     ∙ not-true _ c.loop-level-test.true-raw) in
     let i = left-inner

@@ -19,12 +19,10 @@ returns-then-kind-lt-PRIMITIVES c =
     (sym c.equivalent_kinds.ensures ∙ not-false _ c.if-not-equivalent_kinds.false-raw) c.if-kind-lt-PRIMITIVES.true)
 
 pub same_name-requires : goal.same_name-requires
-same_name-requires c =
-    let pre = c.requires in
+same_name-requires c = let pre = c.requires in
     let kinds = c.equivalent_kinds in
     let k = partner _ _ (sym kinds.ensures ∙ not-false _ c.if-not-equivalent_kinds.false-raw) (omega arith) in
-    let i = sym c.is_container.ensures ∙ c.if-is_container.true in
-    (pre.0, (pre.1.0.name i, pre.1.1.name (ap is_container_kind k ∙ i)))
+    let i = sym c.is_container.ensures ∙ c.if-is_container.true in record { at_in_bounds = pre.0; at_in_bounds_2 = (pre.1.0.name i, pre.1.1.name (ap is_container_kind k ∙ i)) }
 
 pub returns-then-is_container : goal.returns-then-is_container
 returns-then-is_container c =

@@ -14,8 +14,7 @@ pub shape_of-out-then-hex-i-eq1 : goal.shape_of-out-then-hex-i-eq1
 shape_of-out-then-hex-i-eq1 c = c.loop-i.invariant.same
 
 pub returns-then-hex-i-eq1 : goal.returns-then-hex-i-eq1
-returns-then-hex-i-eq1 c =
-    answer-bad _ c.loop-i.invariant (stopped-end _ _ c.loop-i-test.true c.if-hex-i-eq1.true)
+returns-then-hex-i-eq1 c = let p = answer-bad _ c.loop-i.invariant (stopped-end _ _ c.loop-i-test.true c.if-hex-i-eq1.true) in record { answers = p.0; fills = p.1 }
 
 pub bounds-hex-i : goal.bounds-hex-i
 bounds-hex-i c = omega arith
@@ -24,8 +23,7 @@ pub shape_of-out-then-high-ge16 : goal.shape_of-out-then-high-ge16
 shape_of-out-then-high-ge16 c = c.loop-i.invariant.same
 
 pub returns-then-high-ge16 : goal.returns-then-high-ge16
-returns-then-high-ge16 c =
-    answer-bad _ c.loop-i.invariant (stopped-bad _ _ (omega arith) (pair-bad-first _ _ (omega (arith, c.digit_of-high.ensures))))
+returns-then-high-ge16 c = let p = answer-bad _ c.loop-i.invariant (stopped-bad _ _ (omega arith) (pair-bad-first _ _ (omega (arith, c.digit_of-high.ensures)))) in record { answers = p.0; fills = p.1 }
 
 pub overflow_add-i : goal.overflow_add-i
 overflow_add-i c = omega arith
@@ -37,8 +35,7 @@ pub shape_of-out-then-low-ge16 : goal.shape_of-out-then-low-ge16
 shape_of-out-then-low-ge16 c = c.loop-i.invariant.same
 
 pub returns-then-low-ge16 : goal.returns-then-low-ge16
-returns-then-low-ge16 c =
-    answer-bad _ c.loop-i.invariant (stopped-bad _ _ (omega arith) (pair-bad-second _ _ (omega (arith, c.digit_of-low.ensures))))
+returns-then-low-ge16 c = let p = answer-bad _ c.loop-i.invariant (stopped-bad _ _ (omega arith) (pair-bad-second _ _ (omega (arith, c.digit_of-low.ensures)))) in record { answers = p.0; fills = p.1 }
 
 pub overflow_mul-high : goal.overflow_mul-high
 overflow_mul-high c = omega arith
@@ -63,12 +60,10 @@ pub shape_of-out-then-out-n : goal.shape_of-out-then-out-n
 shape_of-out-then-out-n c = c.loop-i.invariant.same
 
 pub returns-then-out-n : goal.returns-then-out-n
-returns-then-out-n c =
-    answer-short c.loop-i-test.false c.loop-i.invariant c.if-out-n.true
+returns-then-out-n c = let p = answer-short c.loop-i-test.false c.loop-i.invariant c.if-out-n.true in record { answers = p.0; fills = p.1 }
 
 pub shape_of-out : goal.shape_of-out
 shape_of-out c = c.loop-i.invariant.same
 
 pub returns : goal.returns
-returns c =
-    answer-items c.loop-i-test.false c.loop-i.invariant c.if-out-n.false
+returns c = let p = answer-items c.loop-i-test.false c.loop-i.invariant c.if-out-n.false in record { answers = p.0; fills = p.1 }

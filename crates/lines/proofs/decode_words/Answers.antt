@@ -19,8 +19,7 @@ shape_of-words-in_default c =
     c.advance.auto.0 ∙ c.loop-i.invariant.same
 
 pub returns-in_default : goal.returns-in_default
-returns-in_default c =
-    scan-bad _ _ c.loop-i-test.true c.loop-i.invariant (sym c.in_default.is ∙ c.advance.ensures.0) c.advance.ensures.1
+returns-in_default c = let p = scan-bad _ _ c.loop-i-test.true c.loop-i.invariant (sym c.in_default.is ∙ c.advance.ensures.answers) c.advance.ensures.fills in record { answers = p.0; fills = p.1 }
 
 pub overflow_add-i : goal.overflow_add-i
 overflow_add-i c = omega arith
@@ -30,15 +29,14 @@ loop-i-smaller c = omega arith
 
 pub loop-i-preserved : goal.loop-i-preserved
 loop-i-preserved c =
-    scan-more _ _ _ c.loop-i-test.true c.loop-i.invariant (sym c.in-To.is ∙ c.advance.ensures.0) c.advance.ensures.1
+    scan-more _ _ _ c.loop-i-test.true c.loop-i.invariant (sym c.in-To.is ∙ c.advance.ensures.answers) c.advance.ensures.fills
 
 pub shape_of-words-then-words-n : goal.shape_of-words-then-words-n
 shape_of-words-then-words-n c =
     c.put_word.auto.0 ∙ c.loop-i.invariant.same
 
 pub returns-then-words-n : goal.returns-then-words-n
-returns-then-words-n c =
-    scan-short _ c.loop-i-test.false c.loop-i.invariant c.put_word.ensures c.if-words-n.true
+returns-then-words-n c = let p = scan-short _ c.loop-i-test.false c.loop-i.invariant c.put_word.ensures c.if-words-n.true in record { answers = p.0; fills = p.1 }
 
 pub overflow_add-result : goal.overflow_add-result
 overflow_add-result c = omega (arith, c.loop-i.invariant.few)
@@ -48,5 +46,4 @@ shape_of-words c =
     c.put_word.auto.0 ∙ c.loop-i.invariant.same
 
 pub returns : goal.returns
-returns c =
-    scan-items _ c.loop-i-test.false c.loop-i.invariant c.put_word.ensures c.if-words-n.false
+returns c = let p = scan-items _ c.loop-i-test.false c.loop-i.invariant c.put_word.ensures c.if-words-n.false in record { answers = p.0; fills = p.1 }

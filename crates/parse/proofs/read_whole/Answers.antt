@@ -8,19 +8,14 @@ clear_sheet-requires c =
     omega (arith, r.words-room, r.names-room, c.parse_encoding_or_none.auto.1.1.0, c.parse_encoding_or_none.auto.1.1.1.0)
 
 pub returns-in-Away : goal.returns-in-Away
-returns-in-Away c =
-    let r = rw c.in-Away.is at c.parse_encoding_or_none.ensures in
-    whole-away c.args.strict _ _ _ _ _ _ r.0 r.1.words-kept r.1.names-kept
+returns-in-Away c = let r = rw c.in-Away.is at c.parse_encoding_or_none.ensures in let p = whole-away c.args.strict _ _ _ _ _ _ r.0 r.1.words-kept r.1.names-kept in record { answers = p.0; fills = p.1.0; names = p.1.1 }
 
 pub returns-in-Refused : goal.returns-in-Refused
-returns-in-Refused c =
-    whole-refused _ _ _ _ _ _ _ (rw c.in-Refused.is at c.parse_encoding_or_none.ensures)
+returns-in-Refused c = let p = whole-refused _ _ _ _ _ _ _ (rw c.in-Refused.is at c.parse_encoding_or_none.ensures) in record { answers = p.0; fills = p.1.0; names = p.1.1 }
 
 pub returns-then-to-n : goal.returns-then-to-n
-returns-then-to-n c =
-    whole-rest _ _ _ _ _ _ _ _ (rw c.in-Tree.is at c.parse_encoding_or_none.ensures) c.if-to-n.true c.clear_sheet.ensures.0
-    c.clear_sheet.ensures.1
+returns-then-to-n c = let p = whole-rest _ _ _ _ _ _ _ _ (rw c.in-Tree.is at c.parse_encoding_or_none.ensures) c.if-to-n.true c.clear_sheet.ensures.0
+    c.clear_sheet.ensures.1 in record { answers = p.0; fills = p.1.0; names = p.1.1 }
 
 pub returns-else-to-n : goal.returns-else-to-n
-returns-else-to-n c =
-    whole-tree _ _ _ _ _ _ (rw c.in-Tree.is at c.parse_encoding_or_none.ensures) c.if-to-n.false
+returns-else-to-n c = let p = whole-tree _ _ _ _ _ _ (rw c.in-Tree.is at c.parse_encoding_or_none.ensures) c.if-to-n.false in record { answers = p.0; fills = p.1.0; names = p.1.1 }

@@ -8,7 +8,7 @@ pub offset_bounds-aw-f : goal.offset_bounds-aw-f
 offset_bounds-aw-f c =
     let a = c.args in
     let g = given-nodes-both a.aw.now a.an.now a.bw.now a.bn.now
-    (checks-give a.aw.now a.an.now a.bw.now a.bn.now c.both_of.ensures c.check.ensures.0 c.check-2.ensures.0) c.in-Nodes.is in
+    (checks-give a.aw.now a.an.now a.bw.now a.bn.now c.both_of.ensures c.check.ensures.answers c.check-2.ensures.answers) c.in-Nodes.is in
     let s = g.0.starts in
     omega arith
 
@@ -16,7 +16,7 @@ pub slice_bounds-nodes_len-count : goal.slice_bounds-nodes_len-count
 slice_bounds-nodes_len-count c =
     let a = c.args in
     let g = given-nodes-both a.aw.now a.an.now a.bw.now a.bn.now
-    (checks-give a.aw.now a.an.now a.bw.now a.bn.now c.both_of.ensures c.check.ensures.0 c.check-2.ensures.0) c.in-Nodes.is in
+    (checks-give a.aw.now a.an.now a.bw.now a.bn.now c.both_of.ensures c.check.ensures.answers c.check-2.ensures.answers) c.in-Nodes.is in
     let s = g.0.starts in
     omega arith
 
@@ -24,7 +24,7 @@ pub slice_bounds-nodes_len-start : goal.slice_bounds-nodes_len-start
 slice_bounds-nodes_len-start c =
     let a = c.args in
     let g = given-nodes-both a.aw.now a.an.now a.bw.now a.bn.now
-    (checks-give a.aw.now a.an.now a.bw.now a.bn.now c.both_of.ensures c.check.ensures.0 c.check-2.ensures.0) c.in-Nodes.is in
+    (checks-give a.aw.now a.an.now a.bw.now a.bn.now c.both_of.ensures c.check.ensures.answers c.check-2.ensures.answers) c.in-Nodes.is in
     let s = g.0.starts in
     omega arith
 
@@ -32,7 +32,7 @@ pub offset_bounds-bw-g : goal.offset_bounds-bw-g
 offset_bounds-bw-g c =
     let a = c.args in
     let g = given-nodes-both a.aw.now a.an.now a.bw.now a.bn.now
-    (checks-give a.aw.now a.an.now a.bw.now a.bn.now c.both_of.ensures c.check.ensures.0 c.check-2.ensures.0) c.in-Nodes.is in
+    (checks-give a.aw.now a.an.now a.bw.now a.bn.now c.both_of.ensures c.check.ensures.answers c.check-2.ensures.answers) c.in-Nodes.is in
     let s = g.1.starts in
     omega arith
 
@@ -40,7 +40,7 @@ pub slice_bounds-nodes_len-count-in-Nodes-2 : goal.slice_bounds-nodes_len-count-
 slice_bounds-nodes_len-count-in-Nodes-2 c =
     let a = c.args in
     let g = given-nodes-both a.aw.now a.an.now a.bw.now a.bn.now
-    (checks-give a.aw.now a.an.now a.bw.now a.bn.now c.both_of.ensures c.check.ensures.0 c.check-2.ensures.0) c.in-Nodes.is in
+    (checks-give a.aw.now a.an.now a.bw.now a.bn.now c.both_of.ensures c.check.ensures.answers c.check-2.ensures.answers) c.in-Nodes.is in
     let s = g.1.starts in
     omega arith
 
@@ -48,7 +48,7 @@ pub slice_bounds-nodes_len-start-in-Nodes-2 : goal.slice_bounds-nodes_len-start-
 slice_bounds-nodes_len-start-in-Nodes-2 c =
     let a = c.args in
     let g = given-nodes-both a.aw.now a.an.now a.bw.now a.bn.now
-    (checks-give a.aw.now a.an.now a.bw.now a.bn.now c.both_of.ensures c.check.ensures.0 c.check-2.ensures.0) c.in-Nodes.is in
+    (checks-give a.aw.now a.an.now a.bw.now a.bn.now c.both_of.ensures c.check.ensures.answers c.check-2.ensures.answers) c.in-Nodes.is in
     let s = g.1.starts in
     omega arith
 
@@ -56,25 +56,25 @@ pub nodes_len-requires : goal.nodes_len-requires
 nodes_len-requires c =
     let a = c.args in
     let g = given-nodes-both a.aw.now a.an.now a.bw.now a.bn.now
-    (checks-give a.aw.now a.an.now a.bw.now a.bn.now c.both_of.ensures c.check.ensures.0 c.check-2.ensures.0) c.in-Nodes.is in
+    (checks-give a.aw.now a.an.now a.bw.now a.bn.now c.both_of.ensures c.check.ensures.answers c.check-2.ensures.answers) c.in-Nodes.is in
     rw (whole, whole) (rooted (nodes-part g.0), rooted (nodes-part g.1))
 
 pub returns-in-Refused : goal.returns-in-Refused
 returns-in-Refused c =
     let a = c.args in
     len-refused a.all _ _ _ _ (given-refused-both a.aw.now a.an.now a.bw.now a.bn.now
-    (checks-give a.aw.now a.an.now a.bw.now a.bn.now c.both_of.ensures c.check.ensures.0 c.check-2.ensures.0) c.in-Refused.is)
+    (checks-give a.aw.now a.an.now a.bw.now a.bn.now c.both_of.ensures c.check.ensures.answers c.check-2.ensures.answers) c.in-Refused.is)
 
 pub returns-in-Codes : goal.returns-in-Codes
 returns-in-Codes c =
     let a = c.args in
     let g = given-codes a.aw.now a.an.now a.bw.now a.bn.now
-    (checks-give a.aw.now a.an.now a.bw.now a.bn.now c.both_of.ensures c.check.ensures.0 c.check-2.ensures.0) c.in-Codes.is in
+    (checks-give a.aw.now a.an.now a.bw.now a.bn.now c.both_of.ensures c.check.ensures.answers c.check-2.ensures.answers) c.in-Codes.is in
     len-codes a.all _ _ _ _ g (c.codes_len.ensures a.all)
 
 pub returns-in-Nodes : goal.returns-in-Nodes
 returns-in-Nodes c =
     let a = c.args in
     let g = given-nodes-both a.aw.now a.an.now a.bw.now a.bn.now
-    (checks-give a.aw.now a.an.now a.bw.now a.bn.now c.both_of.ensures c.check.ensures.0 c.check-2.ensures.0) c.in-Nodes.is in
+    (checks-give a.aw.now a.an.now a.bw.now a.bn.now c.both_of.ensures c.check.ensures.answers c.check-2.ensures.answers) c.in-Nodes.is in
     len-nodes a.all _ _ _ _ (nodes-part g.0) (nodes-part g.1) (rw (whole, whole) at c.nodes_len.ensures)

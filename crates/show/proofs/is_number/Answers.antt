@@ -10,8 +10,8 @@ returns-then-s-gt20 c = number-long _ c.if-s-gt20.true
 
 pub returns-in-Items : goal.returns-in-Items
 returns-in-Items c =
-    number_read c.args.s.now c.if-s-eq0.false c.if-s-gt20.false _ _ c.in-Items.is c.decode_words.ensures.0
+    number_read c.args.s.now c.if-s-eq0.false c.if-s-gt20.false _ _ c.in-Items.is c.decode_words.ensures.answers
 
 pub returns-in-Bad : goal.returns-in-Bad
 returns-in-Bad c =
-    number-bad c.args.s.now c.if-s-eq0.false c.if-s-gt20.false _ c.in-Bad.is c.decode_words.ensures.0
+    number-bad c.args.s.now c.if-s-eq0.false c.if-s-gt20.false _ c.in-Bad.is c.decode_words.ensures.answers

@@ -9,4 +9,4 @@ use Rattle.show.proofs.number_of.Goals as goal
 
 pub returns : goal.returns
 returns c =
-    ap (λ (l : List ℕ). get_or l 0 0) c.decode_words.ensures.1 ∙ first-number (decimals 0 c.args.s.now)
+    ap (λ (l : List ℕ). get_or l 0 0) c.decode_words.ensures.fills ∙ first-number (decimals 0 c.args.s.now)

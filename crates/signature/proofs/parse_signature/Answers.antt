@@ -3,13 +3,13 @@ use Rattle.signature.proofs.AnswerLaws.{too_long, too_short_lem, answer-away, an
 use Rattle.signature.proofs.parse_signature.Goals as goal
 
 pub returns-then-n-gt-MAX_TEXT : goal.returns-then-n-gt-MAX_TEXT
-returns-then-n-gt-MAX_TEXT c = answer-away _ _ _ (too_long _ _ c.if-n-gt-MAX_TEXT.true)
+returns-then-n-gt-MAX_TEXT c = let p = answer-away _ _ _ (too_long _ _ c.if-n-gt-MAX_TEXT.true) in record { answers = p.0; fills = p.1 }
 
 pub returns-then-list-part : goal.returns-then-list-part
-returns-then-list-part c = answer-away _ _ _ (too_short_lem _ _ (omega (arith, c.if-n-gt-MAX_TEXT.false)) c.if-list-part.true)
+returns-then-list-part c = let p = answer-away _ _ _ (too_short_lem _ _ (omega (arith, c.if-n-gt-MAX_TEXT.false)) c.if-list-part.true) in record { answers = p.0; fills = p.1 }
 
 pub returns-then-n-eq0 : goal.returns-then-n-eq0
-returns-then-n-eq0 c = answer-empty _ _ c.if-n-eq0.true
+returns-then-n-eq0 c = let p = answer-empty _ _ c.if-n-eq0.true in record { answers = p.0; fills = p.1 }
 
 pub overflow_mul-from : goal.overflow_mul-from
 overflow_mul-from c =
@@ -32,13 +32,9 @@ slice_bounds-clear_words-start-in-Entries c =
     omega (arith, few-entries _ _ _ _ r)
 
 pub returns-in-Refused : goal.returns-in-Refused
-returns-in-Refused c =
-    let r = rw c.in-Refused.is at c.read_entries.ensures in
-    refused-answered _ _ _ (omega (arith, c.if-n-eq0.false)) (omega (arith, c.if-n-gt-MAX_TEXT.false)) (omega (arith, c.if-list-part.false)) r.0 _ _ r.1
-    c.clear_words.ensures
+returns-in-Refused c = let r = rw c.in-Refused.is at c.read_entries.ensures in let p = refused-answered _ _ _ (omega (arith, c.if-n-eq0.false)) (omega (arith, c.if-n-gt-MAX_TEXT.false)) (omega (arith, c.if-list-part.false)) r.0 _ _ r.1
+    c.clear_words.ensures in record { answers = p.0; fills = p.1 }
 
 pub returns-in-Entries : goal.returns-in-Entries
-returns-in-Entries c =
-    let r = rw c.in-Entries.is at c.read_entries.ensures in
-    all-answered _ _ _ (omega (arith, c.if-n-eq0.false)) (omega (arith, c.if-n-gt-MAX_TEXT.false)) (omega (arith, c.if-list-part.false)) r.0 _ _ r.1.0 r.1.1
-    c.clear_words-in-Entries.ensures
+returns-in-Entries c = let r = rw c.in-Entries.is at c.read_entries.ensures in let p = all-answered _ _ _ (omega (arith, c.if-n-eq0.false)) (omega (arith, c.if-n-gt-MAX_TEXT.false)) (omega (arith, c.if-list-part.false)) r.0 _ _ r.1.0 r.1.1
+    c.clear_words-in-Entries.ensures in record { answers = p.0; fills = p.1 }

@@ -7,24 +7,19 @@ use Rattle.kinds.specs.declared.NestingLevel.TheVariants.{Top}
 use Rattle.static_str.proofs.print_tree.Goals as goal
 
 pub trees_len-len-requires : goal.trees_len-len-requires
-trees_len-len-requires c =
-    rw whole (c.requires.0, c.requires.1.0)
+trees_len-len-requires c = rw whole (c.requires.trees_at, c.requires.kinds_and_names.0)
 
 pub returns-then-out-len : goal.returns-then-out-len
-returns-then-out-len c =
-    text-short (print Top (trees c.args.names.now c.args.nodes.now c.args.n 0)) c.args.out.now
-    (tree-len c.args.names.now c.args.nodes.now c.args.n c.requires.1.1 c.new.ensures
-    (rw whole at c.trees_len-len.ensures.0)) c.if-out-len.true
+returns-then-out-len c = let p = text-short (print Top (trees c.args.names.now c.args.nodes.now c.args.n 0)) c.args.out.now
+    (tree-len c.args.names.now c.args.nodes.now c.args.n c.requires.kinds_and_names.1 c.new.ensures
+    (rw whole at c.trees_len-len.ensures.0)) c.if-out-len.true in record { answers = p.0; writes = p.1 }
 
 pub print_trees-requires : goal.print_trees-requires
-print_trees-requires c =
-    let e = tree-len c.args.names.now c.args.nodes.now c.args.n c.requires.1.1 c.new.ensures
+print_trees-requires c = let e = tree-len c.args.names.now c.args.nodes.now c.args.n c.requires.kinds_and_names.1 c.new.ensures
     (rw whole at c.trees_len-len.ensures.0) in
-    rw (whole, whole, c.new-2.ensures) ((c.requires.0.0, c.requires.1.1), omega (arith, e, c.if-out-len.false))
+    rw (whole, whole, c.new-2.ensures) ((c.requires.trees_at.0, c.requires.kinds_and_names.1), omega (arith, e, c.if-out-len.false))
 
 pub returns : goal.returns
-returns c =
-    let e = tree-len c.args.names.now c.args.nodes.now c.args.n c.requires.1.1 c.new.ensures
-    (rw whole at c.trees_len-len.ensures.0) in
-    text-whole (print Top (trees c.args.names.now c.args.nodes.now c.args.n 0)) c.args.out.now e c.if-out-len.false
-    (rw (whole, whole, c.new-2.ensures) at c.print_trees.ensures)
+returns c = let e = tree-len c.args.names.now c.args.nodes.now c.args.n c.requires.kinds_and_names.1 c.new.ensures
+    (rw whole at c.trees_len-len.ensures.0) in let p = text-whole (print Top (trees c.args.names.now c.args.nodes.now c.args.n 0)) c.args.out.now e c.if-out-len.false
+    (rw (whole, whole, c.new-2.ensures) at c.print_trees.ensures) in record { answers = p.0; writes = p.1 }

@@ -97,8 +97,8 @@ loop-left-preserved t c =
     (filling-zeros c.loop-left.invariant.1 c.loop-left-test.true) j.1.ensures) j.2 j.3)
     (λ j. laid_as (rw whole at j.3.ensures) j.6 j.7) c.if-is_simple-2.branch in (
       omega arith,
-      filling-turn c.loop-left.invariant.1 c.loop-left-test.true c.if-is_simple-2.x c.if-is_simple-2.offsets _ l c.add_field-run.ensures.1
-          c.add_field-run.ensures.0,
+      filling-turn c.loop-left.invariant.1 c.loop-left-test.true c.if-is_simple-2.x c.if-is_simple-2.offsets _ l c.add_field-run.ensures.list
+          c.add_field-run.ensures.takes,
     )
 
 pub returns : goal.returns

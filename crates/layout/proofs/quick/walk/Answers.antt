@@ -41,12 +41,10 @@ pub shape_of-numbers-then-o-eq0 : goal.shape_of-numbers-then-o-eq0
 shape_of-numbers-then-o-eq0 c = let a = walking-within c.loop-o.invariant in search rules
 
 pub returns-then-o-eq0 : goal.returns-then-o-eq0
-returns-then-o-eq0 c =
-    let a = c.args in
-    told (Settled a.sizes.now a.nodes.now c.loop-o.numbers) (λ (i : ℕ). Sought a.sizes.now a.nodes.now a.n i false false)
-    c.or_from.ensures.0 c.or_from.ensures.1
+returns-then-o-eq0 c = let a = c.args in let p = told (Settled a.sizes.now a.nodes.now c.loop-o.numbers) (λ (i : ℕ). Sought a.sizes.now a.nodes.now a.n i false false)
+    c.or_from.ensures.said c.or_from.ensures.unsaid
     (λ h. walking-end c.loop-o.invariant c.if-from-o.false c.if-o-eq0.true (ended-as a.nodes.now c.if-o-eq0.true (c.ended_room.ensures h)))
-    (sought-first a.sizes.now a.nodes.now a.n c.requires.1 c.requires.3)
+    (sought-first a.sizes.now a.nodes.now a.n c.requires.1 c.requires.3) in record { settles = p.0; passed = p.1 }
 
 pub close-o-requires : goal.close-o-requires
 close-o-requires c =
@@ -62,12 +60,10 @@ shape_of-numbers-then-run-eq0 c =
     ⊎_elim (λ j. ap length j.5 ∙ j.3.given ∙ k) (λ j. ap length j.7 ∙ j.5.given ∙ k) c.if-from-o.branch
 
 pub returns-then-run-eq0 : goal.returns-then-run-eq0
-returns-then-run-eq0 c =
-    let a = c.args in
-    let e = c.if-run-eq0.true in
-    told (Settled a.sizes.now a.nodes.now c.if-from-o.numbers) (λ (i : ℕ). Sought a.sizes.now a.nodes.now a.n i false false)
-    c.or_from-then-run-eq0.ensures.0 c.or_from-then-run-eq0.ensures.1 (λ h. absurd (omega arith))
-    (subst (λ (n : ℕ). Sought a.sizes.now a.nodes.now n c.loop-o.o.next false false) c.requires.3 c.loop-o.invariant.sought)
+returns-then-run-eq0 c = let a = c.args in
+    let e = c.if-run-eq0.true in let p = told (Settled a.sizes.now a.nodes.now c.if-from-o.numbers) (λ (i : ℕ). Sought a.sizes.now a.nodes.now a.n i false false)
+    c.or_from-then-run-eq0.ensures.said c.or_from-then-run-eq0.ensures.unsaid (λ h. absurd (omega arith))
+    (subst (λ (n : ℕ). Sought a.sizes.now a.nodes.now n c.loop-o.o.next false false) c.requires.3 c.loop-o.invariant.sought) in record { settles = p.0; passed = p.1 }
 
 pub loop-o-smaller : goal.loop-o-smaller
 loop-o-smaller c =

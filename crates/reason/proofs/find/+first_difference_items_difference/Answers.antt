@@ -26,8 +26,7 @@ pub first_difference-returns-then-more-eq0 : goal.first_difference-returns-then-
 first_difference-returns-then-more-eq0 t c = left-short c.loop-left.invariant.1 (zero_left _ c.if-more-eq0.true)
 
 pub first_difference-own_difference-requires : goal.first_difference-own_difference-requires
-first_difference-own_difference-requires t c =
-    left_here c.loop-left.invariant.1 c.loop-left-test.true (some_left _ c.if-more-eq0.false)
+first_difference-own_difference-requires t c = let p = left_here c.loop-left.invariant.1 c.loop-left-test.true (some_left _ c.if-more-eq0.false) in record { node_at = p.0; kind_and_name = p.1 }
 
 pub first_difference-returns-in-At : goal.first_difference-returns-in-At
 first_difference-returns-in-At t c =
@@ -132,12 +131,10 @@ first_difference-loop-left-preserved-then-left-c t c =
     )
 
 pub first_difference-items_difference-below-requires : goal.first_difference-items_difference-below-requires
-first_difference-items_difference-below-requires t c =
-    let b = left-bounds c.loop-left.invariant.1 c.loop-left-test.true (some_left _ c.if-more-eq0.false) in
+first_difference-items_difference-below-requires t c = let b = left-bounds c.loop-left.invariant.1 c.loop-left-test.true (some_left _ c.if-more-eq0.false) in
     let i = left-inner c.loop-left.invariant.1 c.loop-left-test.true (some_left _ c.if-more-eq0.false)
     (rw c.in_default.is at c.own_difference.ensures) (sym c.is_container.ensures ∙ c.if-is_container.true) c.level_for.ensures
-    (rw c.in-Equal.is at (c.compare_counts.ensures c.args.an.now c.args.bn.now)) in
-    (omega arith, ((omega arith, omega arith, i.0.0, i.0.1), i.1))
+    (rw c.in-Equal.is at (c.compare_counts.ensures c.args.an.now c.args.bn.now)) in record { c_nonzero = omega arith; kinds_and_names = ((omega arith, omega arith, i.0.0, i.0.1), i.1) }
 
 pub first_difference-returns-in-At-below : goal.first_difference-returns-in-At-below
 first_difference-returns-in-At-below t c =
@@ -232,55 +229,54 @@ first_difference-returns t c = left_end c.loop-left.invariant.1 c.loop-left-test
 
 pub items_difference-slice_bounds-first_difference-count : goal.items_difference-slice_bounds-first_difference-count
 items_difference-slice_bounds-first_difference-count t c =
-    let p = c.requires.1 in
+    let p = c.requires.kinds_and_names in
     let g = c.well-formed in
     omega arith
 
 pub items_difference-slice_bounds-first_difference-count-2 : goal.items_difference-slice_bounds-first_difference-count-2
 items_difference-slice_bounds-first_difference-count-2 t c =
-    let p = c.requires.1 in
+    let p = c.requires.kinds_and_names in
     let g = c.well-formed in
     omega arith
 
 pub items_difference-overflow_add-at : goal.items_difference-overflow_add-at
 items_difference-overflow_add-at t c =
-    let p = c.requires.1 in
+    let p = c.requires.kinds_and_names in
     let g = c.well-formed in
     omega arith
 
 pub items_difference-overflow_sub-c : goal.items_difference-overflow_sub-c
 items_difference-overflow_sub-c t c =
-    let p = c.requires.1 in
+    let p = c.requires.kinds_and_names in
     let g = c.well-formed in
     omega arith
 
 pub items_difference-slice_bounds-first_difference-count-3 : goal.items_difference-slice_bounds-first_difference-count-3
 items_difference-slice_bounds-first_difference-count-3 t c =
-    let p = c.requires.1 in
+    let p = c.requires.kinds_and_names in
     let g = c.well-formed in
     omega arith
 
 pub items_difference-slice_bounds-first_difference-count-4 : goal.items_difference-slice_bounds-first_difference-count-4
 items_difference-slice_bounds-first_difference-count-4 t c =
-    let p = c.requires.1 in
+    let p = c.requires.kinds_and_names in
     let g = c.well-formed in
     omega arith
 
 pub items_difference-overflow_add-bt : goal.items_difference-overflow_add-bt
 items_difference-overflow_add-bt t c =
-    let p = c.requires.1 in
+    let p = c.requires.kinds_and_names in
     let g = c.well-formed in
     omega arith
 
 pub items_difference-overflow_sub-d : goal.items_difference-overflow_sub-d
 items_difference-overflow_sub-d t c =
-    let p = c.requires.1 in
+    let p = c.requires.kinds_and_names in
     let g = c.well-formed in
     omega arith
 
 pub items_difference-first_difference-requires : goal.items_difference-first_difference-requires
-items_difference-first_difference-requires t c =
-    let p = c.requires.1 in
+items_difference-first_difference-requires t c = let p = c.requires.kinds_and_names in
     rw (whole, whole, whole, whole) (omega arith, ((p.0.2, p.0.3), p.1))
 
 pub items_difference-returns : goal.items_difference-returns

@@ -8,41 +8,37 @@ use Rattle.reason.proofs.find.own_difference.Goals as goal
 
 pub returns-then-not-equivalent_kinds : goal.returns-then-not-equivalent_kinds
 returns-then-not-equivalent_kinds c =
-    own-kind c.args.an.now c.args.a.now c.args.bn.now c.args.b.now c.args.at c.args.bt c.requires.0.0 c.requires.0.1
-    c.requires.1.0.kind c.requires.1.1.kind (sym c.equivalent_kinds.ensures ∙ not-true _ c.if-not-equivalent_kinds.true-raw)
+    own-kind c.args.an.now c.args.a.now c.args.bn.now c.args.b.now c.args.at c.args.bt c.requires.node_at.0 c.requires.node_at.1
+    c.requires.kind_and_name.0.kind c.requires.kind_and_name.1.kind (sym c.equivalent_kinds.ensures ∙ not-true _ c.if-not-equivalent_kinds.true-raw)
 
 pub returns-then-kind-lt-PRIMITIVES : goal.returns-then-kind-lt-PRIMITIVES
 returns-then-kind-lt-PRIMITIVES c =
-    own-primitive c.args.an.now c.args.a.now c.args.bn.now c.args.b.now c.args.at c.args.bt c.requires.0.0 c.requires.0.1
+    own-primitive c.args.an.now c.args.a.now c.args.bn.now c.args.b.now c.args.at c.args.bt c.requires.node_at.0 c.requires.node_at.1
     (sym c.equivalent_kinds.ensures ∙ not-false _ c.if-not-equivalent_kinds.false-raw) c.if-kind-lt-PRIMITIVES.true
 
 pub number_difference-requires : goal.number_difference-requires
-number_difference-requires c =
-    let k = partner _ _ (sym c.equivalent_kinds.ensures ∙ not-false _ c.if-not-equivalent_kinds.false-raw) (omega arith) in
-    ((c.requires.0.0, c.requires.0.1, k), (c.if-kind-lt-PRIMITIVES.false, c.requires.1.0.kind, sym c.is_container.ensures ∙ not-true _ c.if-not-is_container.true-raw))
+number_difference-requires c = let k = partner _ _ (sym c.equivalent_kinds.ensures ∙ not-false _ c.if-not-equivalent_kinds.false-raw) (omega arith) in record { node_at = (c.requires.node_at.0, c.requires.node_at.1, k); bound = (c.if-kind-lt-PRIMITIVES.false, c.requires.kind_and_name.0.kind, sym c.is_container.ensures ∙ not-true _ c.if-not-is_container.true-raw) }
 
 pub returns-then-not-is_container : goal.returns-then-not-is_container
 returns-then-not-is_container c =
     c.number_difference.ensures c.args.an.now c.args.bn.now
 
 pub same_name-requires : goal.same_name-requires
-same_name-requires c =
-    let k = partner _ _ (sym c.equivalent_kinds.ensures ∙ not-false _ c.if-not-equivalent_kinds.false-raw) (omega arith) in
+same_name-requires c = let k = partner _ _ (sym c.equivalent_kinds.ensures ∙ not-false _ c.if-not-equivalent_kinds.false-raw) (omega arith) in
     let i = (sym c.is_container.ensures ∙ not-false _ c.if-not-is_container.false-raw) in
-    let ra = c.requires.0.0.room in
-    let sa = c.requires.0.0.some-node in
-    let rb = c.requires.0.1.room in
-    let sb = c.requires.0.1.some-node in
-    ((omega arith, omega arith), (c.requires.1.0.name i, c.requires.1.1.name (ap is_container_kind k ∙ i)))
+    let ra = c.requires.node_at.0.room in
+    let sa = c.requires.node_at.0.some-node in
+    let rb = c.requires.node_at.1.room in
+    let sb = c.requires.node_at.1.some-node in record { at_in_bounds = (omega arith, omega arith); at_in_bounds_2 = (c.requires.kind_and_name.0.name i, c.requires.kind_and_name.1.name (ap is_container_kind k ∙ i)) }
 
 pub returns-then-same_name : goal.returns-then-same_name
 returns-then-same_name c =
-    own-same-name c.args.an.now c.args.a.now c.args.bn.now c.args.b.now c.args.at c.args.bt c.requires.0.0
-    c.requires.0.1 (sym c.equivalent_kinds.ensures ∙ not-false _ c.if-not-equivalent_kinds.false-raw) (sym c.is_container.ensures ∙ not-false _ c.if-not-is_container.false-raw)
+    own-same-name c.args.an.now c.args.a.now c.args.bn.now c.args.b.now c.args.at c.args.bt c.requires.node_at.0
+    c.requires.node_at.1 (sym c.equivalent_kinds.ensures ∙ not-false _ c.if-not-equivalent_kinds.false-raw) (sym c.is_container.ensures ∙ not-false _ c.if-not-is_container.false-raw)
     (sym c.same_name.ensures ∙ c.if-same_name.true)
 
 pub returns : goal.returns
 returns c =
-    own_name c.args.an.now c.args.a.now c.args.bn.now c.args.b.now c.args.at c.args.bt c.requires.0.0
-    c.requires.0.1 (sym c.equivalent_kinds.ensures ∙ not-false _ c.if-not-equivalent_kinds.false-raw) (sym c.is_container.ensures ∙ not-false _ c.if-not-is_container.false-raw)
+    own_name c.args.an.now c.args.a.now c.args.bn.now c.args.b.now c.args.at c.args.bt c.requires.node_at.0
+    c.requires.node_at.1 (sym c.equivalent_kinds.ensures ∙ not-false _ c.if-not-equivalent_kinds.false-raw) (sym c.is_container.ensures ∙ not-false _ c.if-not-is_container.false-raw)
     c.if-kind-lt-PRIMITIVES.false (sym c.same_name.ensures ∙ c.if-same_name.false)
