@@ -293,7 +293,7 @@ pub fn same_bytes(a: &[u8], b: &[u8]) -> bool
 
 fn same_name(a: &[u64], an: &[u8], at: usize, b: &[u64], bn: &[u8], bt: usize) -> bool
     requires at_in_bounds { (at + 4 ≤ length a.now) × (bt + 4 ≤ length b.now) }
-    requires at_in_bounds_2 { (first_at a.now at + second_at a.now at ≤ length an.now) × (first_at b.now bt + second_at b.now bt ≤ length bn.now) }
+    requires names_in_bounds { (first_at a.now at + second_at a.now at ≤ length an.now) × (first_at b.now bt + second_at b.now bt ≤ length bn.now) }
     ensures { result ≡ same_bytes (take (second_at a.now at) (drop (first_at a.now at) an.now)) (take (second_at b.now bt) (drop (first_at b.now bt) bn.now)) }
 {
     let af = a[at + 1] as usize;

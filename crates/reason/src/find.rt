@@ -41,7 +41,7 @@ enum Counts {
 
 fn same_name(a: &[u64], an: &[u8], at: usize, b: &[u64], bn: &[u8], bt: usize) -> bool
     requires at_in_bounds { (at + 4 ≤ length a.now) × (bt + 4 ≤ length b.now) }
-    requires at_in_bounds_2 { (first_at a.now at + second_at a.now at ≤ length an.now) × (first_at b.now bt + second_at b.now bt ≤ length bn.now) }
+    requires names_in_bounds { (first_at a.now at + second_at a.now at ≤ length an.now) × (first_at b.now bt + second_at b.now bt ≤ length bn.now) }
     ensures { result ≡ same_bytes (name_at an.now a.now at) (name_at bn.now b.now bt) }
 {
     let af = a[at + 1] as usize;

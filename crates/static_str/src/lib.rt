@@ -305,8 +305,8 @@ fn open_node(
     out: &mut [u8],
     at: usize,
 ) -> usize
-    requires second_in_bounds { is_container_kind kind ≡ true → first + second ≤ length names.now }
-    requires level_in_bounds { at + length (opening names.now kind first second level) ≤ length out.old }
+    requires name_within { is_container_kind kind ≡ true → first + second ≤ length names.now }
+    requires room { at + length (opening names.now kind first second level) ≤ length out.old }
     ensures { Wrote out.old at (opening names.now kind first second level) out.new result }
 {
     if kind < PRIMITIVES {
@@ -364,7 +364,7 @@ fn print_children(
     to: usize,
 ) -> usize
     requires node_at { NodeAt nodes.now at × KindsAndNames nodes.now (length names.now) at (count_at nodes.now at) }
-    requires level_in_bounds { to + length (children_text names.now nodes.now at level) ≤ length out.old }
+    requires room { to + length (children_text names.now nodes.now at level) ≤ length out.old }
     ensures { Wrote out.old to (children_text names.now nodes.now at level) out.new result }
 {
     let count = nodes[at + 3] as usize;
@@ -411,7 +411,7 @@ fn print_trees(
     start: usize,
 ) -> usize
     requires trees_at { TreesAt nodes.now from n × KindsAndNames nodes.now (length names.now) from n }
-    requires from_in_bounds { start + length (print level (trees names.now nodes.now n from)) ≤ length out.old }
+    requires room { start + length (print level (trees names.now nodes.now n from)) ≤ length out.old }
     ensures { Wrote out.old start (print level (trees names.now nodes.now n from)) out.new result }
 {
     let mut at = from;

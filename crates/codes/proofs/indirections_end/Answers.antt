@@ -1,7 +1,6 @@
 use Prim.Native.Nat.{◌-◌}
 use mathlib.Core.Path.{refl, sym, ◌∙◌}
 use native.Mathlib.Omega.{arith}
-use borrow.Author.Tests.{not-true, not-false}
 use Rattle.parser.proofs.RunLaws.{run_more, run-stop, run_end_lem}
 use Rattle.codes.proofs.indirections_end.Goals as goal
 
@@ -13,7 +12,7 @@ bounds-text-to c = omega arith
 
 pub returns-then-not-is_indirection : goal.returns-then-not-is_indirection
 returns-then-not-is_indirection c =
-    sym (c.loop-to.invariant ∙ run-stop _ _ _ c.loop-to-test.true (sym c.is_indirection.ensures ∙ not-true _ c.if-not-is_indirection.true-raw))
+    sym (c.loop-to.invariant ∙ run-stop _ _ _ c.loop-to-test.true (sym c.is_indirection.ensures ∙ c.if-not-is_indirection.true))
 
 pub overflow_add-to : goal.overflow_add-to
 overflow_add-to c = omega arith
@@ -23,7 +22,7 @@ loop-to-smaller c = omega arith
 
 pub loop-to-preserved : goal.loop-to-preserved
 loop-to-preserved c =
-    c.loop-to.invariant ∙ run_more _ _ _ c.loop-to-test.true (sym c.is_indirection.ensures ∙ not-false _ c.if-not-is_indirection.false-raw)
+    c.loop-to.invariant ∙ run_more _ _ _ c.loop-to-test.true (sym c.is_indirection.ensures ∙ c.if-not-is_indirection.false)
 
 pub returns : goal.returns
 returns c = sym (c.loop-to.invariant ∙ run_end_lem _ _ _ c.loop-to-test.false)

@@ -2,7 +2,6 @@ use Prim.Native.Nat.{◌+◌}
 use mathlib.Core.Path.{sym, ap, ◌∙◌}
 use native.Mathlib.Omega.{arith}
 use lib.ListN.{length-drop}
-use borrow.Author.Tests.{not-true, not-false}
 use Rattle.kinds.specs.Parse as R
 use Rattle.numbers.proofs.NumberLaws.{number_is, number_digits}
 use Rattle.codes.proofs.CodeLaws.{integral-is, integral_kind, integral-small, single-code}
@@ -19,14 +18,14 @@ returns-then-text-to-lt2 c =
 pub returns-then-not-is_integral : goal.returns-then-not-is_integral
 returns-then-not-is_integral c =
     let a = c.args in
-    let no = integral-is _ ∙ ap integral_kind (sym c.single_kind-p.ensures) ∙ sym c.is_integral.ensures ∙ not-true _ c.if-not-is_integral.true-raw in
+    let no = integral-is _ ∙ ap integral_kind (sym c.single_kind-p.ensures) ∙ sym c.is_integral.ensures ∙ c.if-not-is_integral.true in
     c.untyped-then-not-is_integral.ensures ∙ answer-first a.text.now a.to a.first a.digits (search rules) (numbers-no-type a.text.now a.to (omega arith) no)
     (bits-no-type a.text.now a.to (omega arith) _ no)
 
 pub returns-then-not-is_digit : goal.returns-then-not-is_digit
 returns-then-not-is_digit c =
     let a = c.args in
-    let no = sym c.is_digit.ensures ∙ not-true _ c.if-not-is_digit.true-raw in
+    let no = sym c.is_digit.ensures ∙ c.if-not-is_digit.true in
     c.untyped-then-not-is_digit.ensures ∙ answer-first a.text.now a.to a.first a.digits (search rules) (numbers-no-digit a.text.now a.to (omega arith) no)
     (bits-no-digit a.text.now a.to (omega arith) _ no)
 
@@ -36,10 +35,10 @@ returns-in-Value c =
     let n = rw c.in-Value.is at (number_is a.text.now _ (a.to + 1) _ (omega arith) c.parse_u8.ensures) in
     let shows = rw c.in-Value.is at (number_digits a.text.now _ (a.to + 1) _ c.parse_u8.ensures) in
     let kind = c.single_kind-p.ensures in
-    let yes = sym c.is_integral.ensures ∙ not-false _ c.if-not-is_integral.false-raw in
+    let yes = sym c.is_integral.ensures ∙ c.if-not-is_integral.false in
     let typable = integral-is _ ∙ ap integral_kind (sym kind) ∙ yes in
     let known = single-code _ _ kind (integral-small _ yes) in
-    let digit = sym c.is_digit.ensures ∙ not-false _ c.if-not-is_digit.false-raw in
+    let digit = sym c.is_digit.ensures ∙ c.if-not-is_digit.false in
     let second = numbers-typed a.text.now a.to (omega arith) typable digit in
     let e = bits-typed a.text.now a.to (omega arith) a.first _ typable digit known in
     answer-both a.text.now a.to a.first a.digits _ n.1.1 _ shows second _ _ (e ∙ ap (R.typed _ _) n.0 ∙ typed-is _ _ _ _)
@@ -50,10 +49,10 @@ returns-in-Refused c =
     let n = rw c.in-Refused.is at (number_is a.text.now _ (a.to + 1) _ (omega arith) c.parse_u8.ensures) in
     let shows = rw c.in-Refused.is at (number_digits a.text.now _ (a.to + 1) _ c.parse_u8.ensures) in
     let kind = c.single_kind-p.ensures in
-    let yes = sym c.is_integral.ensures ∙ not-false _ c.if-not-is_integral.false-raw in
+    let yes = sym c.is_integral.ensures ∙ c.if-not-is_integral.false in
     let typable = integral-is _ ∙ ap integral_kind (sym kind) ∙ yes in
     let known = single-code _ _ kind (integral-small _ yes) in
-    let digit = sym c.is_digit.ensures ∙ not-false _ c.if-not-is_digit.false-raw in
+    let digit = sym c.is_digit.ensures ∙ c.if-not-is_digit.false in
     let second = numbers-typed a.text.now a.to (omega arith) typable digit in
     let e = bits-typed a.text.now a.to (omega arith) a.first _ typable digit known in
     refused-both a.text.now a.to a.first a.digits _ n.1.1 _ shows second _ (e ∙ ap (R.typed _ _) n.0 ∙ typed-none _ _ _ _)

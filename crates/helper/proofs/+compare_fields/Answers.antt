@@ -7,6 +7,7 @@ use Rattle.kinds.proofs.ListLaws.{whole}
 use Rattle.kinds.proofs.NodeLaws.{walk_here}
 use Rattle.helper.proofs.CompareLaws.{resume-level, fields-none, fields-some, both_some, left-bounds, left-stop, left-differ, left-fields, left-inner, left_after, left-last, left-next}
 use Rattle.helper.proofs.+compare_fields.Goals as goal
+use Rattle.helper.proofs.+compare_fields.Goals.{then-is_container+else-fields_last+else-not-compare_fields, else-is_container}
 
 pub returns-then-either_none : goal.returns-then-either_none
 returns-then-either_none t c =
@@ -21,10 +22,10 @@ loop-level-init t c =
     let s = both_some _ _ (sym c.either_none.ensures ∙ c.if-either_none.false) in (
       omega arith,
       record {
-        first = pre.1.0.0;
-        second = pre.1.0.1;
-        first_walk = pre.1.1.0;
-        second_walk = pre.1.1.1;
+        first = pre.trees_at.0;
+        second = pre.trees_at.1;
+        first_walk = pre.kinds_and_names.0;
+        second_walk = pre.kinds_and_names.1;
         rest = resume-level _ _ _ _
             ∙ sym (fields-some a.all a.level a.an.now a.a.now a.bn.now a.b.now a.left a.more a.at a.bt s.0 s.1);
       },
@@ -43,7 +44,7 @@ returns-then-not-compare_labels t c =
 pub offset_bounds-a-at : goal.offset_bounds-a-at
 offset_bounds-a-at t c =
     let s = both_some _ _ (sym c.either_none-in-loop-level.ensures ∙ not-true _ c.loop-level-test.true-raw) in
-    let good = c.well-formed in
+    let good = c.well_formed in
     let l = c.loop-level in
     let b = left-bounds l.invariant.1 s.0 s.1 in
     let g = good.1.1.1.1.0.0 in
@@ -52,7 +53,7 @@ offset_bounds-a-at t c =
 pub bounds-a-at : goal.bounds-a-at
 bounds-a-at t c =
     let s = both_some _ _ (sym c.either_none-in-loop-level.ensures ∙ not-true _ c.loop-level-test.true-raw) in
-    let good = c.well-formed in
+    let good = c.well_formed in
     let l = c.loop-level in
     let b = left-bounds l.invariant.1 s.0 s.1 in
     let g = good.1.1.1.1.0.0 in
@@ -61,7 +62,7 @@ bounds-a-at t c =
 pub overflow_add-c : goal.overflow_add-c
 overflow_add-c t c =
     let s = both_some _ _ (sym c.either_none-in-loop-level.ensures ∙ not-true _ c.loop-level-test.true-raw) in
-    let good = c.well-formed in
+    let good = c.well_formed in
     let l = c.loop-level in
     let b = left-bounds l.invariant.1 s.0 s.1 in
     let g = good.1.1.1.1.0.0 in
@@ -70,7 +71,7 @@ overflow_add-c t c =
 pub offset_bounds-a-at-then-is_container : goal.offset_bounds-a-at-then-is_container
 offset_bounds-a-at-then-is_container t c =
     let s = both_some _ _ (sym c.either_none-in-loop-level.ensures ∙ not-true _ c.loop-level-test.true-raw) in
-    let good = c.well-formed in
+    let good = c.well_formed in
     let l = c.loop-level in
     let b = left-bounds l.invariant.1 s.0 s.1 in
     let g = good.1.1.1.1.0.0 in
@@ -79,7 +80,7 @@ offset_bounds-a-at-then-is_container t c =
 pub bounds-a-at-then-is_container : goal.bounds-a-at-then-is_container
 bounds-a-at-then-is_container t c =
     let s = both_some _ _ (sym c.either_none-in-loop-level.ensures ∙ not-true _ c.loop-level-test.true-raw) in
-    let good = c.well-formed in
+    let good = c.well_formed in
     let l = c.loop-level in
     let b = left-bounds l.invariant.1 s.0 s.1 in
     let g = good.1.1.1.1.0.0 in
@@ -88,7 +89,7 @@ bounds-a-at-then-is_container t c =
 pub overflow_add-d : goal.overflow_add-d
 overflow_add-d t c =
     let s = both_some _ _ (sym c.either_none-in-loop-level.ensures ∙ not-true _ c.loop-level-test.true-raw) in
-    let good = c.well-formed in
+    let good = c.well_formed in
     let l = c.loop-level in
     let b = left-bounds l.invariant.1 s.0 s.1 in
     let g = good.1.1.1.1.0.0 in
@@ -97,7 +98,7 @@ overflow_add-d t c =
 pub offset_bounds-b-bt : goal.offset_bounds-b-bt
 offset_bounds-b-bt t c =
     let s = both_some _ _ (sym c.either_none-in-loop-level.ensures ∙ not-true _ c.loop-level-test.true-raw) in
-    let good = c.well-formed in
+    let good = c.well_formed in
     let l = c.loop-level in
     let b = left-bounds l.invariant.1 s.0 s.1 in
     let g = good.1.1.1.1.0.0 in
@@ -106,7 +107,7 @@ offset_bounds-b-bt t c =
 pub bounds-b-bt : goal.bounds-b-bt
 bounds-b-bt t c =
     let s = both_some _ _ (sym c.either_none-in-loop-level.ensures ∙ not-true _ c.loop-level-test.true-raw) in
-    let good = c.well-formed in
+    let good = c.well_formed in
     let l = c.loop-level in
     let b = left-bounds l.invariant.1 s.0 s.1 in
     let g = good.1.1.1.1.0.0 in
@@ -115,7 +116,7 @@ bounds-b-bt t c =
 pub overflow_sub-c : goal.overflow_sub-c
 overflow_sub-c t c =
     let s = both_some _ _ (sym c.either_none-in-loop-level.ensures ∙ not-true _ c.loop-level-test.true-raw) in
-    let good = c.well-formed in
+    let good = c.well_formed in
     let l = c.loop-level in
     let b = left-bounds l.invariant.1 s.0 s.1 in
     let g = good.1.1.1.1.0.0 in
@@ -125,7 +126,7 @@ pub overflow_sub-m : goal.overflow_sub-m
 overflow_sub-m t c =
     let s = both_some _ _ (sym c.either_none-in-loop-level.ensures
     ∙ not-true _ c.loop-level-test.true-raw) in
-    let good = c.well-formed in
+    let good = c.well_formed in
     let l = c.loop-level in
     let b = left-bounds l.invariant.1 s.0 s.1 in
     let g = good.1.1.1.1.0.0 in
@@ -135,7 +136,7 @@ pub overflow_add-i : goal.overflow_add-i
 overflow_add-i t c =
     let s = both_some _ _ (sym c.either_none-in-loop-level.ensures
     ∙ not-true _ c.loop-level-test.true-raw) in
-    let good = c.well-formed in
+    let good = c.well_formed in
     let l = c.loop-level in
     let b = left-bounds l.invariant.1 s.0 s.1 in
     let g = good.1.1.1.1.0.0 in
@@ -145,7 +146,7 @@ pub overflow_add-j : goal.overflow_add-j
 overflow_add-j t c =
     let s = both_some _ _ (sym c.either_none-in-loop-level.ensures
     ∙ not-true _ c.loop-level-test.true-raw) in
-    let good = c.well-formed in
+    let good = c.well_formed in
     let l = c.loop-level in
     let b = left-bounds l.invariant.1 s.0 s.1 in
     let g = good.1.1.1.1.0.0 in
@@ -155,7 +156,7 @@ pub overflow_sub-left : goal.overflow_sub-left
 overflow_sub-left t c =
     let s = both_some _ _ (sym c.either_none-in-loop-level.ensures
     ∙ not-true _ c.loop-level-test.true-raw) in
-    let good = c.well-formed in
+    let good = c.well_formed in
     let l = c.loop-level in
     let b = left-bounds l.invariant.1 s.0 s.1 in
     let g = good.1.1.1.1.0.0 in
@@ -165,7 +166,7 @@ pub overflow_sub-more : goal.overflow_sub-more
 overflow_sub-more t c =
     let s = both_some _ _ (sym c.either_none-in-loop-level.ensures
     ∙ not-true _ c.loop-level-test.true-raw) in
-    let good = c.well-formed in
+    let good = c.well_formed in
     let l = c.loop-level in
     let b = left-bounds l.invariant.1 s.0 s.1 in
     let g = good.1.1.1.1.0.0 in
@@ -203,7 +204,8 @@ loop-level-preserved-then-fields_last t c =
     )
 
 pub compare_fields-requires : goal.compare_fields-requires
-compare_fields-requires t c = let s = both_some _ _
+compare_fields-requires t c =
+    let s = both_some _ _
     (sym c.either_none-in-loop-level.ensures
     ∙ not-true _ c.loop-level-test.true-raw) in
     let i = left-inner
@@ -236,85 +238,88 @@ returns-then-not-compare_fields t c =
 pub overflow_mul-at : goal.overflow_mul-at
 overflow_mul-at t c =
     let s = both_some _ _ (sym c.either_none-in-loop-level.ensures ∙ not-true _ c.loop-level-test.true-raw) in
-    let good = c.well-formed in
+    let good = c.well_formed in
     let l = c.loop-level in
     let b = left-bounds l.invariant.1 s.0 s.1 in
     let g = good.1.1.1.1.0.0 in
-    ⊎_elim (λ i. omega arith) (λ i. omega arith) c.if-is_container.branch
+    elim c.if-is_container.branch [ then-is_container+else-fields_last+else-not-compare_fields w ↦ omega arith | else-is_container w ↦ omega arith ]
 
 pub overflow_add-at : goal.overflow_add-at
 overflow_add-at t c =
     let s = both_some _ _ (sym c.either_none-in-loop-level.ensures ∙ not-true _ c.loop-level-test.true-raw) in
-    let good = c.well-formed in
+    let good = c.well_formed in
     let l = c.loop-level in
     let b = left-bounds l.invariant.1 s.0 s.1 in
     let g = good.1.1.1.1.0.0 in
-    ⊎_elim (λ i. omega arith) (λ i. omega arith) c.if-is_container.branch
+    elim c.if-is_container.branch [ then-is_container+else-fields_last+else-not-compare_fields w ↦ omega arith | else-is_container w ↦ omega arith ]
 
 pub overflow_sub-left-in-loop-level : goal.overflow_sub-left-in-loop-level
 overflow_sub-left-in-loop-level t c =
     let s = both_some _ _ (sym c.either_none-in-loop-level.ensures ∙ not-true _ c.loop-level-test.true-raw) in
-    let good = c.well-formed in
+    let good = c.well_formed in
     let l = c.loop-level in
     let b = left-bounds l.invariant.1 s.0 s.1 in
     let g = good.1.1.1.1.0.0 in
-    ⊎_elim (λ i. omega arith) (λ i. omega arith) c.if-is_container.branch
+    elim c.if-is_container.branch [ then-is_container+else-fields_last+else-not-compare_fields w ↦ omega arith | else-is_container w ↦ omega arith ]
 
 pub overflow_mul-bt : goal.overflow_mul-bt
 overflow_mul-bt t c =
     let s = both_some _ _ (sym c.either_none-in-loop-level.ensures ∙ not-true _ c.loop-level-test.true-raw) in
-    let good = c.well-formed in
+    let good = c.well_formed in
     let l = c.loop-level in
     let b = left-bounds l.invariant.1 s.0 s.1 in
     let g = good.1.1.1.1.0.0 in
-    ⊎_elim (λ i. omega arith) (λ i. omega arith) c.if-is_container.branch
+    elim c.if-is_container.branch [ then-is_container+else-fields_last+else-not-compare_fields w ↦ omega arith | else-is_container w ↦ omega arith ]
 
 pub overflow_add-bt : goal.overflow_add-bt
 overflow_add-bt t c =
     let s = both_some _ _ (sym c.either_none-in-loop-level.ensures ∙ not-true _ c.loop-level-test.true-raw) in
-    let good = c.well-formed in
+    let good = c.well_formed in
     let l = c.loop-level in
     let b = left-bounds l.invariant.1 s.0 s.1 in
     let g = good.1.1.1.1.0.0 in
-    ⊎_elim (λ i. omega arith) (λ i. omega arith) c.if-is_container.branch
+    elim c.if-is_container.branch [ then-is_container+else-fields_last+else-not-compare_fields w ↦ omega arith | else-is_container w ↦ omega arith ]
 
 pub overflow_sub-more-in-loop-level : goal.overflow_sub-more-in-loop-level
 overflow_sub-more-in-loop-level t c =
     let s = both_some _ _ (sym c.either_none-in-loop-level.ensures ∙ not-true _ c.loop-level-test.true-raw) in
-    let good = c.well-formed in
+    let good = c.well_formed in
     let l = c.loop-level in
     let b = left-bounds l.invariant.1 s.0 s.1 in
     let g = good.1.1.1.1.0.0 in
-    ⊎_elim (λ i. omega arith) (λ i. omega arith) c.if-is_container.branch
+    elim c.if-is_container.branch [ then-is_container+else-fields_last+else-not-compare_fields w ↦ omega arith | else-is_container w ↦ omega arith ]
 
 pub loop-level-smaller : goal.loop-level-smaller
 loop-level-smaller t c =
     let s = both_some _ _ (sym c.either_none-in-loop-level.ensures ∙ not-true _ c.loop-level-test.true-raw) in
-    let good = c.well-formed in
+    let good = c.well_formed in
     let l = c.loop-level in
     let b = left-bounds l.invariant.1 s.0 s.1 in
     let g = good.1.1.1.1.0.0 in
-    ⊎_elim (λ i. omega arith) (λ i. omega arith) c.if-is_container.branch
+    elim c.if-is_container.branch [ then-is_container+else-fields_last+else-not-compare_fields w ↦ omega arith | else-is_container w ↦ omega arith ]
 
 pub loop-level-preserved : goal.loop-level-preserved
 loop-level-preserved t c =
     let s = both_some _ _ (sym c.either_none-in-loop-level.ensures ∙ not-true _ c.loop-level-test.true-raw) in
     let b = left-bounds c.loop-level.invariant.1 s.0 s.1 in
-    ⊎_elim (λ i. (
-      omega arith,
-      left_after c.loop-level.invariant.1
-          s.0 s.1
-          (sym c.compare_labels.ensures ∙ not-false _ c.if-not-compare_labels.false-raw)
-          (sym c.is_container.ensures ∙ i.0.taken) i.3.ensures i.4.ensures (sym (rw (whole, whole, whole, whole) at i.11.ensures)
-          ∙ not-false _ i.12.left) i.13 i.14 c.level_after-here.ensures,
-    ))
-    (λ i. (
-      omega arith,
-      left-next c.loop-level.invariant.1
-          s.0 s.1
-          (sym c.compare_labels.ensures ∙ not-false _ c.if-not-compare_labels.false-raw)
-          (sym c.is_container.ensures ∙ i.0.left) i.1 i.2 c.level_after-here.ensures,
-    )) c.if-is_container.branch
+    elim c.if-is_container.branch [
+      | then-is_container+else-fields_last+else-not-compare_fields w ↦ (
+        omega arith,
+        left_after c.loop-level.invariant.1
+            s.0 s.1
+            (sym c.compare_labels.ensures ∙ not-false _ c.if-not-compare_labels.false-raw)
+            (sym c.is_container.ensures ∙ w.if-is_container.true) w.level_for.ensures w.shown_count-n.ensures
+            (sym (rw (whole, whole, whole, whole) at w.compare_fields.ensures) ∙ w.if-not-compare_fields.false)
+            w.c-is w.d-is c.level_after-here.ensures,
+      )
+      | else-is_container w ↦ (
+        omega arith,
+        left-next c.loop-level.invariant.1
+            s.0 s.1
+            (sym c.compare_labels.ensures ∙ not-false _ c.if-not-compare_labels.false-raw)
+            (sym c.is_container.ensures ∙ w.if-is_container.false) w.c-is w.d-is c.level_after-here.ensures,
+      )
+    ]
 
 pub returns : goal.returns
 returns t c =

@@ -13,6 +13,7 @@ use Rattle.helper.specs.Measure.{clip, holding_measured, fold, size_at}
 use Rattle.helper.proofs.SizeLaws.{clip-holding, join-unit}
 use Rattle.helper.proofs.NodeSizeLaws.{gathered-end, gathered-node, gathered-within, gathered-turn, gathered-code, gathered-inner, low-leaf, size-leaf, leaf-entry, not-leaf, size-held, size-dropped, size-included}
 use Rattle.helper.proofs.+size_of.Goals as goal
+use Rattle.helper.proofs.+size_of.Goals.{then-not-is_leaf, else-not-is_leaf}
 
 pub returns-then-is_leaf : goal.returns-then-is_leaf
 returns-then-is_leaf t c =
@@ -27,8 +28,8 @@ size_of-item-requires t c =
     let n = not-leaf (kind_at a.nodes.now a.at) (sym c.is_leaf.ensures ∙ c.if-is_leaf.false) in
     let lo : 25 ≤ kind_at a.nodes.now a.at = omega arith in
     let hi : kind_at a.nodes.now a.at ≤ 28 = omega arith in
-    let k = child-count _ _ pre.1 lo hi in
-    rw whole (omega arith, node-child _ _ pre.1 lo hi)
+    let k = child-count _ _ pre lo hi in
+    rw whole (omega arith, node-child _ _ pre lo hi)
 
 pub returns-then-kind-lt-STRUCT : goal.returns-then-kind-lt-STRUCT
 returns-then-kind-lt-STRUCT t c =
@@ -42,7 +43,7 @@ returns-then-kind-lt-STRUCT t c =
     ∙ ap (holding_measured _ _ _) ((rw whole at (c.size_of-item.ensures m o s))
     ∙ ap (λ v. clip (size_at m s a.nodes.now (a.at + 4) v)) (c.inside.ensures ∙ sym (inside-kind s _ _ _ _)))
     ∙ clip-holding _ _ _ _
-    ∙ sym (ap clip (size-held m s a.nodes.now a.at pre.1 lo hi a.level n.2))
+    ∙ sym (ap clip (size-held m s a.nodes.now a.at pre lo hi a.level n.2))
 
 pub returns-in_default : goal.returns-in_default
 unfolding clip
@@ -57,10 +58,10 @@ pub loop-left-init : goal.loop-left-init
 loop-left-init t c =
     let pre = c.requires in
     let a = c.args in
-    let o = pre.1.some-node in (
+    let o = pre.some-node in (
       omega arith,
       record {
-        there = node-inner _ _ pre.1;
+        there = node-inner _ _ pre;
         rest = λ m o s.
             (fold (kind_at a.nodes.now a.at) [], c.of_no_fields-all.ensures, join-unit _ _);
       },
@@ -179,15 +180,15 @@ loop-left-smaller t c = let b = gathered-within c.loop-left.invariant.1
 pub loop-left-preserved : goal.loop-left-preserved
 loop-left-preserved t c =
     let a = c.args in
-    let b = gathered-within c.loop-left.invariant.1
-    c.loop-left-test.true in (
+    let b = gathered-within c.loop-left.invariant.1 c.loop-left-test.true in (
       omega arith,
       gathered-turn c.loop-left.invariant.1
           c.loop-left-test.true c.if-not-is_leaf.item
-          (λ m o s. ⊎_elim (λ j. j.3 ∙ (rw whole at (j.2.ensures m o s)))
-          (λ j. j.1 ∙ c.leaf_size-item.ensures ∙ ap clip (leaf-entry o _ _)
-          ∙ sym (ap clip (size-leaf m s a.nodes.now c.loop-left.child _
-          (sym c.is_leaf-in-loop-left.ensures ∙ not-false _ j.0.left)))) c.if-not-is_leaf.branch) c.join-all-in-loop-left.ensures,
+          (λ m o s. elim c.if-not-is_leaf.branch [
+            | then-not-is_leaf w ↦ w.item-is ∙ (rw whole at (w.size_of-item-then-not-is_leaf.ensures m o s))
+            | else-not-is_leaf w ↦ w.item-is ∙ c.leaf_size-item.ensures ∙ ap clip (leaf-entry o _ _)
+                ∙ sym (ap clip (size-leaf m s a.nodes.now c.loop-left.child _ (sym c.is_leaf-in-loop-left.ensures ∙ w.if-not-is_leaf.false)))
+          ]) c.join-all-in-loop-left.ensures,
     )
 
 pub returns : goal.returns

@@ -9,7 +9,7 @@ pub returns-then-not-equivalent_kinds : goal.returns-then-not-equivalent_kinds
 returns-then-not-equivalent_kinds c =
     let a = c.args in
     let pre = c.requires in
-    sym (labels-differ a.an.now a.a.now a.at a.bn.now a.b.now a.bt pre.1.0.kind pre.1.1.kind
+    sym (labels-differ a.an.now a.a.now a.at a.bn.now a.b.now a.bt pre.kind_and_name.0.kind pre.kind_and_name.1.kind
     (sym c.equivalent_kinds.ensures ∙ not-true _ c.if-not-equivalent_kinds.true-raw))
 
 pub returns-then-kind-lt-PRIMITIVES : goal.returns-then-kind-lt-PRIMITIVES
@@ -22,7 +22,7 @@ pub same_name-requires : goal.same_name-requires
 same_name-requires c = let pre = c.requires in
     let kinds = c.equivalent_kinds in
     let k = partner _ _ (sym kinds.ensures ∙ not-false _ c.if-not-equivalent_kinds.false-raw) (omega arith) in
-    let i = sym c.is_container.ensures ∙ c.if-is_container.true in record { at_in_bounds = pre.0; at_in_bounds_2 = (pre.1.0.name i, pre.1.1.name (ap is_container_kind k ∙ i)) }
+    let i = sym c.is_container.ensures ∙ c.if-is_container.true in record { at_in_bounds = pre.at_in_bounds; names_in_bounds = (pre.kind_and_name.0.name i, pre.kind_and_name.1.name (ap is_container_kind k ∙ i)) }
 
 pub returns-then-is_container : goal.returns-then-is_container
 returns-then-is_container c =
@@ -30,14 +30,14 @@ returns-then-is_container c =
     let kinds = c.equivalent_kinds in
     let if1 = c.if-not-equivalent_kinds in
     c.same_name.ensures ∙ sym (labels-named a.an.now a.a.now a.at a.bn.now a.b.now a.bt
-    (sym kinds.ensures ∙ not-false _ if1.false) (sym c.is_container.ensures ∙ c.if-is_container.true))
+    (sym kinds.ensures ∙ not-false _ if1.false-raw) (sym c.is_container.ensures ∙ c.if-is_container.true))
 
 pub same_numbers-requires : goal.same_numbers-requires
 same_numbers-requires c =
     let pre = c.requires in
     let container = c.is_container in
     let if3 = c.if-is_container in
-    (omega arith, pre.1.0.kind, sym container.ensures ∙ if3.false)
+    (omega arith, pre.kind_and_name.0.kind, sym container.ensures ∙ if3.false)
 
 pub returns : goal.returns
 returns c =
@@ -46,4 +46,4 @@ returns c =
     let if1 = c.if-not-equivalent_kinds in
     let a = a₁ in
     c.same_numbers.ensures a.an.now a.bn.now ∙ sym
-    (labels-numbers a.an.now a.a.now a.at a.bn.now a.b.now a.bt (sym kinds.ensures ∙ not-false _ if1.false) (omega arith))
+    (labels-numbers a.an.now a.a.now a.at a.bn.now a.b.now a.bt (sym kinds.ensures ∙ not-false _ if1.false-raw) (omega arith))

@@ -51,7 +51,7 @@ compare_fields-same-requires c = let a = c.args in
     let g = given-nodes-both a.aw.now a.an.now a.bw.now a.bn.now c.check_both.ensures.gives c.in-Nodes.is in
     let v = nodes-part g.0 in
     let u = nodes-part g.1 in
-    rw (whole, whole) ((v.whole, u.whole), (v.lent-names, u.lent-names))
+    rw (whole, whole) (record { trees_at = (v.whole, u.whole); kinds_and_names = (v.lent-names, u.lent-names) })
 
 pub returns-in-Refused : goal.returns-in-Refused
 returns-in-Refused c =

@@ -16,7 +16,7 @@ advance-requires c = omega (arith, c.loop-i.invariant.few)
 
 pub shape_of-words-in_default : goal.shape_of-words-in_default
 shape_of-words-in_default c =
-    c.advance.auto.0 ∙ c.loop-i.invariant.same
+    c.advance.auto.words ∙ c.loop-i.invariant.same
 
 pub returns-in_default : goal.returns-in_default
 returns-in_default c = let p = scan-bad _ _ c.loop-i-test.true c.loop-i.invariant (sym c.in_default.is ∙ c.advance.ensures.answers) c.advance.ensures.fills in record { answers = p.0; fills = p.1 }
@@ -33,7 +33,7 @@ loop-i-preserved c =
 
 pub shape_of-words-then-words-n : goal.shape_of-words-then-words-n
 shape_of-words-then-words-n c =
-    c.put_word.auto.0 ∙ c.loop-i.invariant.same
+    c.put_word.auto.words ∙ c.loop-i.invariant.same
 
 pub returns-then-words-n : goal.returns-then-words-n
 returns-then-words-n c = let p = scan-short _ c.loop-i-test.false c.loop-i.invariant c.put_word.ensures c.if-words-n.true in record { answers = p.0; fills = p.1 }
@@ -43,7 +43,7 @@ overflow_add-result c = omega (arith, c.loop-i.invariant.few)
 
 pub shape_of-words : goal.shape_of-words
 shape_of-words c =
-    c.put_word.auto.0 ∙ c.loop-i.invariant.same
+    c.put_word.auto.words ∙ c.loop-i.invariant.same
 
 pub returns : goal.returns
 returns c = let p = scan-items _ c.loop-i-test.false c.loop-i.invariant c.put_word.ensures c.if-words-n.false in record { answers = p.0; fills = p.1 }

@@ -20,14 +20,13 @@ pub loop-i-smaller : goal.loop-i-smaller
 loop-i-smaller c = omega arith
 
 pub loop-i-preserved : goal.loop-i-preserved
-loop-i-preserved c =
-    (
-      then-put (hex_pair (get_or c.args.s.now c.loop-i.i 0)) (each hex_pair (drop (c.loop-i.i + 1) c.args.s.now))
-          (each_more hex_pair c.args.s.now c.loop-i.i c.loop-i-test.true) c.loop-i.invariant.0 c.put_pair-to.ensures,
-      c.put_pair-to.auto.0
-          ∙ c.loop-i.invariant.1,
-      omega arith,
-    )
+loop-i-preserved c = (
+  then-put (hex_pair (get_or c.args.s.now c.loop-i.i 0)) (each hex_pair (drop (c.loop-i.i + 1) c.args.s.now))
+      (each_more hex_pair c.args.s.now c.loop-i.i c.loop-i-test.true) c.loop-i.invariant.0 c.put_pair-to.ensures,
+  c.put_pair-to.auto.out
+      ∙ c.loop-i.invariant.1,
+  omega arith,
+)
 
 pub shape_of-out : goal.shape_of-out
 shape_of-out c = c.loop-i.invariant.1

@@ -28,18 +28,17 @@ loop-i-smaller c = omega arith
 
 pub loop-i-preserved : goal.loop-i-preserved
 unfolding comma_number
-loop-i-preserved c =
-    (
-      then-put (comma_number (get_or c.args.words.now c.loop-i.i 0)) (each comma_number (drop (c.loop-i.i + 1) c.args.words.now))
-          (each_more comma_number c.args.words.now c.loop-i.i c.loop-i-test.true) c.loop-i.invariant.0 c.put_marked-to.ensures,
-      c.put_marked-to.auto.0
-          ∙ c.loop-i.invariant.1,
-      omega arith,
-    )
+loop-i-preserved c = (
+  then-put (comma_number (get_or c.args.words.now c.loop-i.i 0)) (each comma_number (drop (c.loop-i.i + 1) c.args.words.now))
+      (each_more comma_number c.args.words.now c.loop-i.i c.loop-i-test.true) c.loop-i.invariant.0 c.put_marked-to.ensures,
+  c.put_marked-to.auto.out
+      ∙ c.loop-i.invariant.1,
+  omega arith,
+)
 
 pub shape_of-out : goal.shape_of-out
 shape_of-out c =
-    c.loop-i.invariant.1 ∙ c.put_number-to.auto.0
+    c.loop-i.invariant.1 ∙ c.put_number-to.auto.out
 
 pub returns : goal.returns
 returns c =

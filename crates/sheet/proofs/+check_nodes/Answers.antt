@@ -1,36 +1,11 @@
-use Prim.Native.Nat.{ℕ}
 use native.Mathlib.Omega.{arith}
 use mathlib.Core.Path.{◌≡◌, refl, sym, ◌∙◌}
-use mathlib.Core.Bool.{true}
-use mathlib.Core.List.{List}
 use borrow.Author.Rules.{rules}
 use Rattle.kinds.proofs.ListLaws.{whole}
-use Rattle.kinds.specs.Sheet.{kind_at, count_at, is_container_kind}
-use Rattle.sheet.specs.Walked.{node_fits}
+use Rattle.kinds.specs.Sheet.{count_at}
 use Rattle.sheet.proofs.TestLaws.{passed, failed}
-use Rattle.sheet.proofs.WalkLaws.{Container, container-says, walked-bad, walked-plain, walked-last, walked-broken, walked_next, walked_none, walked-le}
+use Rattle.sheet.proofs.WalkLaws.{container-says, walked-bad, walked-plain, walked-last, walked-broken, walked_next, walked_none, walked-le}
 use Rattle.sheet.proofs.+check_nodes.Goals as goal
-
--- The place after the test of a container, and what is known there.
-abbrev Tested : ℕ → Type 0
-Tested t = check-nodes-lts.Else3 (claims t) (asked t) check-nodes.Post invariant-loop decreases-loop
-
-abbrev looped : (t : ℕ) → Tested t → check-nodes-lts.At-loop (claims t) (asked t) check-nodes.Post invariant-loop decreases-loop
-looped t b = b.before.before.before.before.before.before
-
-abbrev nodes : (t : ℕ) → Tested t → List ℕ
-nodes t b = (looped t b).before.before.before.args.nodes.now
-
-kind : (t : ℕ) (b : Tested t) → is_container_kind (kind_at (nodes t b) (looped t b).loop.at) ≡ true
-kind t b = passed b.before.before.before.is-container.ensures b.before.before.if1.left
-
-fits : (t : ℕ) (b : Tested t) → node_fits (nodes t b) (looped t b).loop.left (looped t b).loop.at (looped t b).loop.name
-    (looped t b).before.before.before.args.end ≡ true
-fits t b = passed b.before.container-ok.ensures b.if3.left
-
-container : (t : ℕ) (b : Tested t) → Container (nodes t b) (looped t b).loop.left (looped t b).loop.at (looped t b).loop.name
-    (looped t b).before.before.before.args.end
-container t b = container-says _ _ _ _ _ (kind t b) (fits t b)
 
 pub loop-left-init : goal.loop-left-init
 loop-left-init t c = (refl, omega arith, omega arith, refl)
@@ -62,52 +37,52 @@ returns-then-not-container_ok t c = sym (c.loop-left.invariant.3
     (failed c.container_ok.ensures c.if-not-container_ok.true-raw))
 
 pub name_good-good-requires : goal.name_good-good-requires
-name_good-good-requires t c = let k = container t c.before in omega arith
+name_good-good-requires t c = let k = container-says c.args.nodes.now c.loop-left.left c.loop-left.at c.loop-left.name c.args.end (passed c.is_container.ensures c.if-not-is_container.false-raw) (passed c.container_ok.ensures c.if-not-container_ok.false-raw) in omega arith
 
 pub overflow_add-name : goal.overflow_add-name
-overflow_add-name t c = let k = container t c.before in record { fits = omega arith }
+overflow_add-name t c = let k = container-says c.args.nodes.now c.loop-left.left c.loop-left.at c.loop-left.name c.args.end (passed c.is_container.ensures c.if-not-is_container.false-raw) (passed c.container_ok.ensures c.if-not-container_ok.false-raw) in record { fits = omega arith }
 
 pub loop-left-preserved-then-count-left : goal.loop-left-preserved-then-count-left
-loop-left-preserved-then-count-left t c = let k = container t b in let d : count_at (nodes t b) (looped t b).loop.at
-    ≡ (looped t b).loop.left = omega arith in (
+loop-left-preserved-then-count-left t c = let k = container-says c.args.nodes.now c.loop-left.left c.loop-left.at c.loop-left.name c.args.end (passed c.is_container.ensures c.if-not-is_container.false-raw) (passed c.container_ok.ensures c.if-not-container_ok.false-raw) in let d : count_at c.args.nodes.now c.loop-left.at
+    ≡ c.loop-left.left = omega arith in (
       omega arith,
       omega arith,
       omega arith,
-      (looped t b).loop.invariant.3 ∙ walked-last _ _ _ _ _ _ _ c.loop-left-test.true
-          (fits t b) (kind t b) d _ c.name_good-good.ensures,
+      c.loop-left.invariant.3 ∙ walked-last _ _ _ _ _ _ _ c.loop-left-test.true
+          (passed c.container_ok.ensures c.if-not-container_ok.false-raw) (passed c.is_container.ensures c.if-not-is_container.false-raw) d _ c.name_good-good.ensures,
     )
 
 pub overflow_sub-count : goal.overflow_sub-count
-overflow_sub-count t c = let k = container t c.before in omega arith
+overflow_sub-count t c = let k = container-says c.args.nodes.now c.loop-left.left c.loop-left.at c.loop-left.name c.args.end (passed c.is_container.ensures c.if-not-is_container.false-raw) (passed c.container_ok.ensures c.if-not-container_ok.false-raw) in omega arith
 
 pub check_nodes-inner-requires : goal.check_nodes-inner-requires
-check_nodes-inner-requires t c = let k = container t b
+check_nodes-inner-requires t c = let k = container-says c.args.nodes.now c.loop-left.left c.loop-left.at c.loop-left.name c.args.end (passed c.is_container.ensures c.if-not-is_container.false-raw) (passed c.container_ok.ensures c.if-not-container_ok.false-raw)
     in (omega arith, (rw whole (omega arith), omega arith, rw whole (omega arith)))
 
 pub returns-in_default : goal.returns-in_default
-returns-in_default t c = sym ((looped t b).loop.invariant.3 ∙ walked-broken _ _ _ _ _ _ _ c.loop-left-test.true (fits t b) (kind t b) _
+returns-in_default t c = sym (c.loop-left.invariant.3 ∙ walked-broken _ _ _ _ _ _ _ c.loop-left-test.true (passed c.container_ok.ensures c.if-not-container_ok.false-raw) (passed c.is_container.ensures c.if-not-is_container.false-raw) _
     c.name_good-good.ensures _ (rw (whole, whole) at c.check_nodes-inner.ensures)
     c.in_default.is)
 
 pub overflow_mul-at : goal.overflow_mul-at
-overflow_mul-at t c = let k = container t c.before in search rules
+overflow_mul-at t c = let k = container-says c.args.nodes.now c.loop-left.left c.loop-left.at c.loop-left.name c.args.end (passed c.is_container.ensures c.if-not-is_container.false-raw) (passed c.container_ok.ensures c.if-not-container_ok.false-raw) in search rules
 
 pub overflow_add-at-in-loop-left-2 : goal.overflow_add-at-in-loop-left-2
-overflow_add-at-in-loop-left-2 t c = let k = container t c.before in search rules
+overflow_add-at-in-loop-left-2 t c = let k = container-says c.args.nodes.now c.loop-left.left c.loop-left.at c.loop-left.name c.args.end (passed c.is_container.ensures c.if-not-is_container.false-raw) (passed c.container_ok.ensures c.if-not-container_ok.false-raw) in search rules
 
 pub overflow_sub-left-in-loop-left : goal.overflow_sub-left-in-loop-left
-overflow_sub-left-in-loop-left t c = let k = container t c.before in omega arith
+overflow_sub-left-in-loop-left t c = let k = container-says c.args.nodes.now c.loop-left.left c.loop-left.at c.loop-left.name c.args.end (passed c.is_container.ensures c.if-not-is_container.false-raw) (passed c.container_ok.ensures c.if-not-container_ok.false-raw) in omega arith
 
 pub loop-left-smaller : goal.loop-left-smaller
-loop-left-smaller t c = let k = container t c.before in omega arith
+loop-left-smaller t c = let k = container-says c.args.nodes.now c.loop-left.left c.loop-left.at c.loop-left.name c.args.end (passed c.is_container.ensures c.if-not-is_container.false-raw) (passed c.container_ok.ensures c.if-not-container_ok.false-raw) in omega arith
 
 pub loop-left-preserved : goal.loop-left-preserved
-loop-left-preserved t c = let k = container t b in (
+loop-left-preserved t c = let k = container-says c.args.nodes.now c.loop-left.left c.loop-left.at c.loop-left.name c.args.end (passed c.is_container.ensures c.if-not-is_container.false-raw) (passed c.container_ok.ensures c.if-not-container_ok.false-raw) in (
   omega arith,
   omega arith,
   walked-le _ _ _ _ _ _ _ _ _ k.name-fits (sym c.in-Next.is ∙ c.check_nodes-inner.ensures),
-  (looped t b).loop.invariant.3
-      ∙ walked_next _ _ _ _ _ _ _ c.loop-left-test.true (fits t b) (kind t b) _
+  c.loop-left.invariant.3
+      ∙ walked_next _ _ _ _ _ _ _ c.loop-left-test.true (passed c.container_ok.ensures c.if-not-container_ok.false-raw) (passed c.is_container.ensures c.if-not-is_container.false-raw) _
       c.name_good-good.ensures _
       (rw (whole, whole) at c.check_nodes-inner.ensures) _ _ c.in-Next.is,
 )

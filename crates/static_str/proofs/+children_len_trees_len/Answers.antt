@@ -8,21 +8,22 @@ use Rattle.static_str.proofs.TurnLaws.{children-there, here, some-node, node-wit
 use Rattle.static_str.proofs.+children_len_trees_len.Goals as goal
 
 pub children_len-trees_len-requires : goal.children_len-trees_len-requires
-children_len-trees_len-requires t c = let p = c.requires.kinds_and_names.0.0.some-node in
-    let i = children-there c.requires.kinds_and_names.0.0 c.requires.kinds_and_names.1 in
-    rw whole (omega arith, ((i.0, omega (arith, c.requires.kinds_and_names.0.1)), i.1))
+children_len-trees_len-requires t c =
+    let p = c.requires.node_at.0.some-node in
+    let i = children-there c.requires.node_at.0 c.requires.kinds_and_names in
+    rw whole (omega arith, ((i.0, omega (arith, c.requires.node_at.1)), i.1))
 
 pub children_len-returns-in-Dropped : goal.children_len-returns-in-Dropped
 children_len-returns-in-Dropped t c =
-    dropped-length _ _ _ c.requires.kinds_and_names.0.0.some-node (sym c.children.ensures ∙ c.in-Dropped.is)
+    dropped-length _ _ _ c.requires.node_at.0.some-node (sym c.children.ensures ∙ c.in-Dropped.is)
 
 pub children_len-returns-in-Included : goal.children_len-returns-in-Included
 children_len-returns-in-Included t c =
-    included-length _ _ _ c.requires.kinds_and_names.0.0.some-node _ _ (sym c.children.ensures ∙ c.in-Included.is) (rw whole at c.trees_len.ensures)
+    included-length _ _ _ c.requires.node_at.0.some-node _ _ (sym c.children.ensures ∙ c.in-Included.is) (rw whole at c.trees_len.ensures)
 
 pub trees_len-loop-left-init : goal.trees_len-loop-left-init
 trees_len-loop-left-init t c =
-    start-measuring _ _ _ _ c.requires.kinds_and_names.0.0 c.requires.kinds_and_names.1
+    start-measuring _ _ _ _ c.requires.trees_at.0 c.requires.kinds_and_names
 
 pub trees_len-offset_bounds-nodes-at : goal.trees_len-offset_bounds-nodes-at
 trees_len-offset_bounds-nodes-at t c =
@@ -70,7 +71,7 @@ trees_len-node_len-len-requires t c =
 
 pub trees_len-overflow_add-len : goal.trees_len-overflow_add-len
 trees_len-overflow_add-len t c =
-    omega (arith, c.loop-left.invariant.bound, c.loop-left-test.true, c.node_len-len.ensures.1, c.requires.kinds_and_names.0.1)
+    omega (arith, c.loop-left.invariant.bound, c.loop-left-test.true, c.node_len-len.ensures.1, c.requires.trees_at.1)
 
 pub trees_len-overflow_add-at-then-keeps_level : goal.trees_len-overflow_add-at-then-keeps_level
 trees_len-overflow_add-at-then-keeps_level t c =
@@ -88,11 +89,15 @@ trees_len-loop-left-preserved-then-keeps_level t c =
     kept_on c.loop-left.invariant c.loop-left-test.true c.node_len-len.ensures (c.keeps_level.ensures c.if-keeps_level.true)
 
 pub trees_len-children_len-len-requires : goal.trees_len-children_len-len-requires
-trees_len-children_len-len-requires t c = let q = node-within c.loop-left.invariant.nodes c.loop-left-test.true in
-    let f = c.loop-left.invariant.nodes.few in record { node_at = omega arith; kinds_and_names = (
-        (node-here c.loop-left.invariant.nodes c.loop-left-test.true, omega (arith, c.requires.kinds_and_names.0.1)),
+trees_len-children_len-len-requires t c =
+    let q = node-within c.loop-left.invariant.nodes c.loop-left-test.true in
+    let f = c.loop-left.invariant.nodes.few in (
+      omega arith,
+      (
+        (node-here c.loop-left.invariant.nodes c.loop-left-test.true, omega (arith, c.requires.trees_at.1)),
         node-named c.loop-left.invariant.nodes c.loop-left-test.true,
-      ) }
+      ),
+    )
 
 pub trees_len-overflow_add-len-in-loop-left : goal.trees_len-overflow_add-len-in-loop-left
 trees_len-overflow_add-len-in-loop-left t c =
@@ -102,7 +107,7 @@ trees_len-overflow_add-len-in-loop-left t c =
       c.loop-left.invariant.bound,
       c.node_len-len.ensures.1,
       c.children_len-len.ensures.1,
-      c.requires.kinds_and_names.0.1,
+      c.requires.trees_at.1,
     )
 
 pub trees_len-overflow_add-count : goal.trees_len-overflow_add-count

@@ -14,14 +14,15 @@ print_children-returns-then-count-eq1 t c = let a = c.args
     in wrote-same (sym (no-children a.names.now a.nodes.now a.level a.at (omega arith))) (wrote_none a.out.now a.to)
 
 pub print_children-print_trees-requires : goal.print_children-print_trees-requires
-print_children-print_trees-requires t c = let a = c.args in let p = c.requires.level_in_bounds.0.0.some-node in rw (whole, whole) (
+print_children-print_trees-requires t c =
+    let a = c.args in let p = c.requires.node_at.0.some-node in rw (whole, whole) (
       omega arith,
       (
-        children-there c.requires.level_in_bounds.0.0 c.requires.level_in_bounds.0.1,
+        children-there c.requires.node_at.0 c.requires.node_at.1,
         omega (
           arith,
           ap length (included-text a.names.now a.nodes.now a.level a.at _ (sym c.children.ensures ∙ c.in-Included.is)),
-          c.requires.level_in_bounds.1,
+          c.requires.room,
         ),
       ),
     )
@@ -38,7 +39,7 @@ print_children-returns-in-Included t c =
 
 pub print_trees-loop-left-init : goal.print_trees-loop-left-init
 print_trees-loop-left-init t c =
-    start-printing _ _ _ _ _ _ _ c.requires.from_in_bounds.0.0 c.requires.from_in_bounds.0.1 c.requires.from_in_bounds.1
+    start-printing _ _ _ _ _ _ _ c.requires.trees_at.0 c.requires.trees_at.1 c.requires.room
 
 pub print_trees-offset_bounds-nodes-at : goal.print_trees-offset_bounds-nodes-at
 print_trees-offset_bounds-nodes-at t c = let h = node-here c.loop-left.invariant.nodes c.loop-left-test.true in omega arith
@@ -84,7 +85,7 @@ print_trees-bounds-nodes-at-in-loop-left-3 t c =
     let h = node-here c.loop-left.invariant.nodes c.loop-left-test.true in omega arith
 
 pub print_trees-open_node-to-requires : goal.print_trees-open_node-to-requires
-print_trees-open_node-to-requires t c =  record { second_in_bounds = (here c.loop-left.invariant.nodes c.loop-left-test.true).name; level_in_bounds = room-to-open c.loop-left.invariant c.loop-left-test.true }
+print_trees-open_node-to-requires t c = record { name_within = (here c.loop-left.invariant.nodes c.loop-left-test.true).name; room = room-to-open c.loop-left.invariant c.loop-left-test.true }
 
 pub print_trees-overflow_add-at-then-walked_on : goal.print_trees-overflow_add-at-then-walked_on
 print_trees-overflow_add-at-then-walked_on t c =
@@ -103,11 +104,14 @@ print_trees-loop-left-preserved-then-walked_on t c =
     walked_next c.loop-left.invariant c.loop-left-test.true c.open_node-to.ensures (c.walked_on.ensures c.if-walked_on.true) _ c.inside-level.ensures
 
 pub print_trees-print_children-to-requires : goal.print_trees-print_children-to-requires
-print_trees-print_children-to-requires t c =  record { node_at = omega (arith, node-within c.loop-left.invariant.nodes c.loop-left-test.true, c.loop-left.invariant.nodes.few); level_in_bounds = (
-        (node-here c.loop-left.invariant.nodes c.loop-left-test.true, node-named c.loop-left.invariant.nodes c.loop-left-test.true),
-        room-to-fill c.loop-left.invariant
-            c.loop-left-test.true c.open_node-to.ensures,
-      ) }
+print_trees-print_children-to-requires t c = (
+  omega (arith, node-within c.loop-left.invariant.nodes c.loop-left-test.true, c.loop-left.invariant.nodes.few),
+  (
+    (node-here c.loop-left.invariant.nodes c.loop-left-test.true, node-named c.loop-left.invariant.nodes c.loop-left-test.true),
+    room-to-fill c.loop-left.invariant
+        c.loop-left-test.true c.open_node-to.ensures,
+  ),
+)
 
 pub print_trees-close_node-to-requires : goal.print_trees-close_node-to-requires
 print_trees-close_node-to-requires t c =
@@ -115,31 +119,19 @@ print_trees-close_node-to-requires t c =
 
 pub print_trees-overflow_mul-at : goal.print_trees-overflow_mul-at
 print_trees-overflow_mul-at t c =
-    let c18 = c.before
-    in
-    let c19 = c18.before in
-    let h = node-here c19.loop.inv.nodes c18.loop-test.taken in omega arith
+    let h = node-here c.loop-left.invariant.nodes c.loop-left-test.true in omega arith
 
 pub print_trees-overflow_add-at-in-loop-left : goal.print_trees-overflow_add-at-in-loop-left
 print_trees-overflow_add-at-in-loop-left t c =
-    let c18 = c.before
-    in
-    let c19 = c18.before in
-    let h = node-here c19.loop.inv.nodes c18.loop-test.taken in omega arith
+    let h = node-here c.loop-left.invariant.nodes c.loop-left-test.true in omega arith
 
 pub print_trees-overflow_sub-left-in-loop-left : goal.print_trees-overflow_sub-left-in-loop-left
 print_trees-overflow_sub-left-in-loop-left t c =
-    let c18 = c.before
-    in
-    let c19 = c18.before in
-    omega (arith, some-node c19.loop.inv.nodes c18.loop-test.taken, node-within c19.loop.inv.nodes c18.loop-test.taken)
+    omega (arith, some-node c.loop-left.invariant.nodes c.loop-left-test.true, node-within c.loop-left.invariant.nodes c.loop-left-test.true)
 
 pub print_trees-loop-left-smaller : goal.print_trees-loop-left-smaller
 print_trees-loop-left-smaller t c =
-    let c18 = c.before
-    in
-    let c19 = c18.before in
-    omega (arith, some-node c19.loop.inv.nodes c18.loop-test.taken, node-within c19.loop.inv.nodes c18.loop-test.taken)
+    omega (arith, some-node c.loop-left.invariant.nodes c.loop-left-test.true, node-within c.loop-left.invariant.nodes c.loop-left-test.true)
 
 pub print_trees-loop-left-preserved : goal.print_trees-loop-left-preserved
 print_trees-loop-left-preserved t c =

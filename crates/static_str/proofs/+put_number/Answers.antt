@@ -12,7 +12,7 @@ use Rattle.static_str.proofs.+put_number.Goals as goal
 
 pub put-requires : goal.put-requires
 put-requires t c =
-    omega (arith, decimal-one c.args.n c.if-n-lt10.true, c.requires.1)
+    omega (arith, decimal-one c.args.n c.if-n-lt10.true, c.requires)
 
 pub returns-then-n-lt10 : goal.returns-then-n-lt10
 returns-then-n-lt10 t c =
@@ -20,18 +20,18 @@ returns-then-n-lt10 t c =
 
 pub put_number-next-requires : goal.put_number-next-requires
 put_number-next-requires t c =
-    let l = decimal-more c.args.n c.if-n-lt10.false in let h = c.requires.1 in (omega arith, omega arith)
+    let l = decimal-more c.args.n c.if-n-lt10.false in let h = c.requires in (omega arith, omega arith)
 
 pub put-requires-2 : goal.put-requires-2
 put-requires-2 t c =
-    omega (arith, decimal-more c.args.n c.if-n-lt10.false, c.requires.1, c.put_number-next.ensures.place, c.put_number-next.auto.0)
+    omega (arith, decimal-more c.args.n c.if-n-lt10.false, c.requires, c.put_number-next.ensures.place, c.put_number-next.auto.out)
 
 pub shape_of-out : goal.shape_of-out
 shape_of-out t c =
-    c.put-2.auto.0 ∙ c.put_number-next.auto.0
+    c.put-2.auto.out ∙ c.put_number-next.auto.out
 
 pub returns : goal.returns
 returns t c =
     let a = c.args in let hi = decimal-high a.n c.if-n-lt10.false in wrote-same (sym hi)
-    (wrote-append (decimal (a.n / 10)) ((48 + a.n % 10) ∷ []) (subst (λ (xs : List ℕ). a.at + length xs ≤ length a.out.now) hi c.requires.1)
+    (wrote-append (decimal (a.n / 10)) ((48 + a.n % 10) ∷ []) (subst (λ (xs : List ℕ). a.at + length xs ≤ length a.out.now) hi c.requires)
     c.put_number-next.ensures c.put-2.ensures)

@@ -8,11 +8,10 @@ use Rattle.static_str.proofs.PartLaws.{own-primitive, own-container, own-indirec
 use Rattle.static_str.proofs.node_len.Goals as goal
 
 pub returns-then-kind-lt-PRIMITIVES : goal.returns-then-kind-lt-PRIMITIVES
-returns-then-kind-lt-PRIMITIVES c =
-    (
-      λ s h. c.code_len.ensures.0 ∙ own-primitive s c.args.kind c.args.first c.args.second c.args.level c.if-kind-lt-PRIMITIVES.true,
-      omega arith,
-    )
+returns-then-kind-lt-PRIMITIVES c = (
+  λ s h. c.code_len.ensures.0 ∙ own-primitive s c.args.kind c.args.first c.args.second c.args.level c.if-kind-lt-PRIMITIVES.true,
+  omega arith,
+)
 
 pub container_len-requires : goal.container_len-requires
 container_len-requires c =

@@ -14,7 +14,7 @@ put_code-requires c =
     let a = c.args in omega (
       arith,
       ap length (opening-primitive a.names.now a.kind a.first a.second a.level c.if-kind-lt-PRIMITIVES.true),
-      c.requires.level_in_bounds,
+      c.requires.room,
     )
 
 pub returns-then-kind-lt-PRIMITIVES : goal.returns-then-kind-lt-PRIMITIVES
@@ -27,7 +27,7 @@ put_tagged-requires c =
     let a = c.args in omega (
       arith,
       ap length (opening-array a.names.now a.kind a.first a.second a.level c.if-kind-eq-ARRAY.true),
-      c.requires.level_in_bounds,
+      c.requires.room,
     )
 
 pub returns-then-kind-eq-ARRAY : goal.returns-then-kind-eq-ARRAY
@@ -37,11 +37,11 @@ returns-then-kind-eq-ARRAY c =
 
 pub overflow_add-to : goal.overflow_add-to
 overflow_add-to c =
-    omega (arith, c.requires.second_in_bounds (sym c.is_container.ensures ∙ c.if-is_container.true))
+    omega (arith, c.requires.name_within (sym c.is_container.ensures ∙ c.if-is_container.true))
 
 pub slice_bounds-open_container-end : goal.slice_bounds-open_container-end
 slice_bounds-open_container-end c =
-    omega (arith, c.requires.second_in_bounds (sym c.is_container.ensures ∙ c.if-is_container.true))
+    omega (arith, c.requires.name_within (sym c.is_container.ensures ∙ c.if-is_container.true))
 
 pub open_container-requires : goal.open_container-requires
 open_container-requires c =
@@ -49,7 +49,7 @@ open_container-requires c =
       arith,
       ap length (opening-slice a.names.now a.kind a.first a.second a.level _ c.container_of.ensures
           c.if-kind-lt-PRIMITIVES.false (sym c.is_container.ensures ∙ c.if-is_container.true)),
-      c.requires.level_in_bounds,
+      c.requires.room,
     )
 
 pub returns-then-is_container : goal.returns-then-is_container
@@ -67,7 +67,7 @@ returns-then-kind-ge-ARRAY c =
 
 pub put_tagged-requires-then-kind-eq-BIT_FIELD : goal.put_tagged-requires-then-kind-eq-BIT_FIELD
 put_tagged-requires-then-kind-eq-BIT_FIELD c =
-    let a = c.args in omega (arith, ap length (opening-bits a.names.now a.kind a.first a.second a.level c.if-kind-eq-BIT_FIELD.true), c.requires.level_in_bounds)
+    let a = c.args in omega (arith, ap length (opening-bits a.names.now a.kind a.first a.second a.level c.if-kind-eq-BIT_FIELD.true), c.requires.room)
 
 pub returns-then-kind-eq-BIT_FIELD : goal.returns-then-kind-eq-BIT_FIELD
 returns-then-kind-eq-BIT_FIELD c =
@@ -75,7 +75,7 @@ returns-then-kind-eq-BIT_FIELD c =
 
 pub put_tagged-requires-then-kind-eq-TYPED_BIT_FIELD : goal.put_tagged-requires-then-kind-eq-TYPED_BIT_FIELD
 put_tagged-requires-then-kind-eq-TYPED_BIT_FIELD c =
-    let a = c.args in omega (arith, ap length (opening-typed a.names.now a.kind a.first a.second a.level c.if-kind-eq-TYPED_BIT_FIELD.true), c.requires.level_in_bounds)
+    let a = c.args in omega (arith, ap length (opening-typed a.names.now a.kind a.first a.second a.level c.if-kind-eq-TYPED_BIT_FIELD.true), c.requires.room)
 
 pub returns-then-kind-eq-TYPED_BIT_FIELD : goal.returns-then-kind-eq-TYPED_BIT_FIELD
 returns-then-kind-eq-TYPED_BIT_FIELD c =
@@ -84,7 +84,7 @@ returns-then-kind-eq-TYPED_BIT_FIELD c =
 
 pub put-requires : goal.put-requires
 put-requires c =
-    let a = c.args in omega (arith, ap length (opening-pointer a.names.now a.kind a.first a.second a.level c.if-kind-eq-POINTER.true), c.requires.level_in_bounds)
+    let a = c.args in omega (arith, ap length (opening-pointer a.names.now a.kind a.first a.second a.level c.if-kind-eq-POINTER.true), c.requires.room)
 
 pub returns-then-kind-eq-POINTER : goal.returns-then-kind-eq-POINTER
 returns-then-kind-eq-POINTER c =
@@ -97,7 +97,7 @@ put-requires-2 c =
       arith,
       ap length (opening-atomic a.names.now a.kind a.first a.second a.level
           (only-atomic _ c.if-kind-lt-PRIMITIVES.false c.if-kind-ge-ARRAY.false c.if-kind-eq-BIT_FIELD.false c.if-kind-eq-TYPED_BIT_FIELD.false c.if-kind-eq-POINTER.false)),
-      c.requires.level_in_bounds,
+      c.requires.room,
     )
 
 pub returns : goal.returns

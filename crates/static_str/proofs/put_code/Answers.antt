@@ -17,7 +17,7 @@ put-next-requires c =
 
 pub put-requires-in-Two : goal.put-requires-in-Two
 put-requires-in-Two c =
-    omega (arith, ap length (ap code_bytes (sym c.in-Two.is) ∙ c.primitive_code.ensures), c.put-next.ensures.place, c.put-next.auto.0)
+    omega (arith, ap length (ap code_bytes (sym c.in-Two.is) ∙ c.primitive_code.ensures), c.put-next.ensures.place, c.put-next.auto.out)
 
 pub returns-in-Empty : goal.returns-in-Empty
 returns-in-Empty c =

@@ -22,7 +22,7 @@ slice_bounds-print_tree-start c =
 
 pub print_tree-requires : goal.print_tree-requires
 print_tree-requires c = let h = (nodes-part (given-nodes _ _ (rw (whole, whole) at c.check.ensures.gives) c.in-Nodes.is))
-    in rw whole ((h.whole, h.few), (h.short-names, h.lent-names))
+    in rw whole (record { trees_at = (h.whole, h.few); kinds_and_names = (h.short-names, h.lent-names) })
 
 pub returns-in-Refused : goal.returns-in-Refused
 returns-in-Refused c = let p = print-refused c.args.words.now c.args.names.now c.args.out.now
@@ -34,4 +34,4 @@ returns-in-Code c = let p = print-code-held c.args.words.now c.args.names.now c.
 
 pub returns-in-Nodes : goal.returns-in-Nodes
 returns-in-Nodes c = let h = (nodes-part (given-nodes _ _ (rw (whole, whole) at c.check.ensures.gives) c.in-Nodes.is)) in
-    let p = rw whole at c.print_tree.ensures in let p = print-held c.args.words.now c.args.names.now c.args.out.now h.holds p.0 p.1 in record { answers = p.0; writes = p.1 }
+    let q = rw whole at c.print_tree.ensures in let p = print-held c.args.words.now c.args.names.now c.args.out.now h.holds q.answers q.writes in record { answers = p.0; writes = p.1 }

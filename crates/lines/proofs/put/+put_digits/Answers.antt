@@ -11,7 +11,7 @@ returns-then-n-lt10 t c =
 
 pub shape_of-out : goal.shape_of-out
 shape_of-out t c =
-    c.put_byte-2.auto.0 ∙ c.put_digits-next.auto.0
+    c.put_byte-2.auto.out ∙ c.put_digits-next.auto.out
 
 pub returns : goal.returns
 returns t c =

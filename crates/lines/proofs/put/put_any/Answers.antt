@@ -9,7 +9,7 @@ put_up_to_sixteen-next-requires c = (omega arith, omega (arith, decimal-more-eig
 
 pub put_eight-requires : goal.put_eight-requires
 put_eight-requires c =
-    eight-room _ c.if-n-lt100000000.false c.put_up_to_sixteen-next.ensures c.requires c.put_up_to_sixteen-next.auto.0
+    eight-room _ c.if-n-lt100000000.false c.put_up_to_sixteen-next.ensures c.requires c.put_up_to_sixteen-next.auto.out
 
 pub returns : goal.returns
 returns c =

@@ -7,7 +7,7 @@ use Rattle.lines.proofs.put.put_eight.Goals as goal
 pub put_four-requires : goal.put_four-requires
 unfolding four_bytes two_bytes
 put_four-requires c =
-    let p = put_next c.put_four-next.ensures (omega arith) in omega (arith, c.put_four-next.auto.0)
+    let p = put_next c.put_four-next.ensures (omega arith) in omega (arith, c.put_four-next.auto.out)
 
 pub returns : goal.returns
 unfolding eight_bytes

@@ -7,7 +7,7 @@ use Rattle.lines.proofs.put.put_four.Goals as goal
 pub put_two-requires : goal.put_two-requires
 unfolding two_bytes
 put_two-requires c =
-    let p = put_next c.put_two-next.ensures (omega arith) in omega (arith, c.put_two-next.auto.0)
+    let p = put_next c.put_two-next.ensures (omega arith) in omega (arith, c.put_two-next.auto.out)
 
 pub returns : goal.returns
 unfolding four_bytes

@@ -21,14 +21,13 @@ pub loop-i-smaller : goal.loop-i-smaller
 loop-i-smaller c = omega arith
 
 pub loop-i-preserved : goal.loop-i-preserved
-loop-i-preserved c =
-    (
-      then-put (get_or c.args.s.now c.loop-i.i 0 ∷ []) (drop (c.loop-i.i + 1) c.args.s.now)
-          (unread c.args.s.now c.loop-i.i c.loop-i-test.true) c.loop-i.invariant.0 c.put_byte-to.ensures,
-      c.put_byte-to.auto.0
-          ∙ c.loop-i.invariant.1,
-      omega arith,
-    )
+loop-i-preserved c = (
+  then-put (get_or c.args.s.now c.loop-i.i 0 ∷ []) (drop (c.loop-i.i + 1) c.args.s.now)
+      (unread c.args.s.now c.loop-i.i c.loop-i-test.true) c.loop-i.invariant.0 c.put_byte-to.ensures,
+  c.put_byte-to.auto.out
+      ∙ c.loop-i.invariant.1,
+  omega arith,
+)
 
 pub shape_of-out : goal.shape_of-out
 shape_of-out c = c.loop-i.invariant.1

@@ -13,18 +13,17 @@ put_up_to_four-requires c =
     (c.if-n-lt10000.true, ap four_bytes c.eight_digits-w.ensures ∙ low-digits _, c.requires.1)
 
 pub put_up_to_four-next-requires : goal.put_up_to_four-next-requires
-put_up_to_four-next-requires c =
-    (
-      omega arith,
-      ap (λ (x : ℕ). four_bytes (x / 4294967296)) c.eight_digits-w.ensures ∙ high-digits _,
-      omega (arith, decimal-more-four _ c.if-n-lt10000.false),
-    )
+put_up_to_four-next-requires c = (
+  omega arith,
+  ap (λ (x : ℕ). four_bytes (x / 4294967296)) c.eight_digits-w.ensures ∙ high-digits _,
+  omega (arith, decimal-more-four _ c.if-n-lt10000.false),
+)
 
 pub put_four-requires : goal.put_four-requires
 put_four-requires c =
     let l = decimal-more-four _ c.if-n-lt10000.false in
     let p = put_next c.put_up_to_four-next.ensures (omega arith) in
-    omega (arith, c.put_up_to_four-next.auto.0)
+    omega (arith, c.put_up_to_four-next.auto.out)
 
 pub returns : goal.returns
 returns c =

@@ -35,7 +35,7 @@ put_two-requires-then-n-lt1000 c =
     simp length-set (omega (arith, ap length (short-three _ _ c.requires.1 c.if-n-lt100.false c.if-n-lt1000.true)))
 
 pub shape_of-out-then-n-lt1000 : goal.shape_of-out-then-n-lt1000
-shape_of-out-then-n-lt1000 c = c.put_two-then-n-lt1000.auto.0 ∙ simp length-set
+shape_of-out-then-n-lt1000 c = c.put_two-then-n-lt1000.auto.out ∙ simp length-set
 
 pub returns-then-n-lt1000 : goal.returns-then-n-lt1000
 unfolding two_bytes

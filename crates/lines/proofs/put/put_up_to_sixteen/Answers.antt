@@ -9,7 +9,7 @@ put_up_to_eight-next-requires c = (omega arith, omega (arith, decimal-more-eight
 
 pub put_eight-requires : goal.put_eight-requires
 put_eight-requires c =
-    eight-room _ c.if-n-lt100000000.false c.put_up_to_eight-next.ensures c.requires.1 c.put_up_to_eight-next.auto.0
+    eight-room _ c.if-n-lt100000000.false c.put_up_to_eight-next.ensures c.requires.1 c.put_up_to_eight-next.auto.out
 
 pub returns : goal.returns
 returns c =
