@@ -2,4 +2,4 @@ use Rattle.berzhotun.proofs.berzhotun_signature.Goals as goal
 
 pub returns : goal.returns
 returns c = let a = c.parse_signature.ensures in
-    rw (← a.0) (c.give_signature.ensures.returns, (c.give_signature.ensures.answers, a.1))
+    rw (← a.answers) (c.give_signature.ensures.returns, (c.give_signature.ensures.answers, a.fills))

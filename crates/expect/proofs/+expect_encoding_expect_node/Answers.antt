@@ -14,19 +14,19 @@ use Rattle.expect.proofs.+expect_encoding_expect_node.Goals as goal
 
 pub expect_encoding-loop-left-init : goal.expect_encoding-loop-left-init
 expect_encoding-loop-left-init t c =
-    let pre = c.requires.kinds_and_names in
-    (omega arith, record { nodes = pre.0.0; walk = pre.1; within = pre.0.1; rest = sym (resume-level _ _ _) })
+    let pre = c.requires in
+    (omega arith, record { nodes = pre.measure?.0; walk = pre; within = pre.measure?.1; rest = sym (resume-level _ _ _) })
 
 pub expect_encoding-offset_bounds-nodes-at : goal.expect_encoding-offset_bounds-nodes-at
 expect_encoding-offset_bounds-nodes-at t c =
     let b = left-bounds c.loop-left.invariant.1 c.loop-left-test.true in
-    let g = c.well-formed.0 in
+    let g = c.well_formed.0 in
     omega arith
 
 pub expect_encoding-bounds-nodes-at : goal.expect_encoding-bounds-nodes-at
 expect_encoding-bounds-nodes-at t c =
     let b = left-bounds c.loop-left.invariant.1 c.loop-left-test.true in
-    let g = c.well-formed.0 in
+    let g = c.well_formed.0 in
     omega arith
 
 pub expect_encoding-returns-in_default : goal.expect_encoding-returns-in_default
@@ -37,19 +37,19 @@ expect_encoding-returns-in_default t c =
 pub expect_encoding-overflow_add-at : goal.expect_encoding-overflow_add-at
 expect_encoding-overflow_add-at t c =
     let b = left-bounds c.loop-left.invariant.1 c.loop-left-test.true in
-    let g = c.well-formed.0 in
+    let g = c.well_formed.0 in
     omega arith
 
 pub expect_encoding-overflow_sub-left : goal.expect_encoding-overflow_sub-left
 expect_encoding-overflow_sub-left t c =
     let b = left-bounds c.loop-left.invariant.1 c.loop-left-test.true in
-    let g = c.well-formed.0 in
+    let g = c.well_formed.0 in
     omega arith
 
 pub expect_encoding-loop-left-smaller-then-byte-ne0 : goal.expect_encoding-loop-left-smaller-then-byte-ne0
 expect_encoding-loop-left-smaller-then-byte-ne0 t c =
     let b = left-bounds c.loop-left.invariant.1 c.loop-left-test.true in
-    let g = c.well-formed.0 in
+    let g = c.well_formed.0 in
     omega arith
 
 pub expect_encoding-loop-left-preserved-then-byte-ne0 : goal.expect_encoding-loop-left-preserved-then-byte-ne0
@@ -63,27 +63,31 @@ expect_encoding-loop-left-preserved-then-byte-ne0 t c =
 pub expect_encoding-overflow_add-count : goal.expect_encoding-overflow_add-count
 expect_encoding-overflow_add-count t c =
     let b = left-bounds c.loop-left.invariant.1 c.loop-left-test.true in
-    let g = c.well-formed.0 in
+    let g = c.well_formed.0 in
     omega arith
 
 pub expect_encoding-offset_bounds-nodes-at-in-loop-left : goal.expect_encoding-offset_bounds-nodes-at-in-loop-left
 expect_encoding-offset_bounds-nodes-at-in-loop-left t c =
     let b = left-bounds c.loop-left.invariant.1 c.loop-left-test.true in
-    let g = c.well-formed.0 in
+    let g = c.well_formed.0 in
     omega arith
 
 pub expect_encoding-bounds-nodes-at-in-loop-left : goal.expect_encoding-bounds-nodes-at-in-loop-left
 expect_encoding-bounds-nodes-at-in-loop-left t c =
     let b = left-bounds c.loop-left.invariant.1 c.loop-left-test.true in
-    let g = c.well-formed.0 in
+    let g = c.well_formed.0 in
     omega arith
 
 pub expect_encoding-expect_node-requires : goal.expect_encoding-expect_node-requires
-expect_encoding-expect_node-requires t c = let l = c.loop-left in
-    let b = left-bounds l.invariant.1 c.loop-left-test.true in record { node_at = omega arith; at_value = (
+expect_encoding-expect_node-requires t c =
+    let l = c.loop-left in
+    let b = left-bounds l.invariant.1 c.loop-left-test.true in (
+      omega arith,
+      (
         (left-node l.invariant.1 c.loop-left-test.true, left-named l.invariant.1 c.loop-left-test.true, l.invariant.1.within),
         no-own-byte (kind_at c.args.nodes.now l.at) (sym c.own_byte-byte.ensures ∙ c.if-byte-ne0.false),
-      ) }
+      ),
+    )
 
 pub expect_encoding-returns-in_default-expect_node : goal.expect_encoding-returns-in_default-expect_node
 expect_encoding-returns-in_default-expect_node t c =
@@ -92,25 +96,25 @@ expect_encoding-returns-in_default-expect_node t c =
 pub expect_encoding-overflow_mul-at : goal.expect_encoding-overflow_mul-at
 expect_encoding-overflow_mul-at t c =
     let b = left-bounds c.loop-left.invariant.1 c.loop-left-test.true in
-    let g = c.well-formed.0 in
+    let g = c.well_formed.0 in
     omega arith
 
 pub expect_encoding-overflow_add-at-in-loop-left : goal.expect_encoding-overflow_add-at-in-loop-left
 expect_encoding-overflow_add-at-in-loop-left t c =
     let b = left-bounds c.loop-left.invariant.1 c.loop-left-test.true in
-    let g = c.well-formed.0 in
+    let g = c.well_formed.0 in
     omega arith
 
 pub expect_encoding-overflow_sub-left-in-loop-left : goal.expect_encoding-overflow_sub-left-in-loop-left
 expect_encoding-overflow_sub-left-in-loop-left t c =
     let b = left-bounds c.loop-left.invariant.1 c.loop-left-test.true in
-    let g = c.well-formed.0 in
+    let g = c.well_formed.0 in
     omega arith
 
 pub expect_encoding-loop-left-smaller : goal.expect_encoding-loop-left-smaller
 expect_encoding-loop-left-smaller t c =
     let b = left-bounds c.loop-left.invariant.1 c.loop-left-test.true in
-    let g = c.well-formed.0 in
+    let g = c.well_formed.0 in
     omega arith
 
 pub expect_encoding-loop-left-preserved : goal.expect_encoding-loop-left-preserved
@@ -123,65 +127,69 @@ expect_encoding-returns t c =
     (left_end c.loop-left.invariant.1 c.loop-left-test.false, c.loop-left.invariant.1.within)
 
 pub expect_node-open_node-requires : goal.expect_node-open_node-requires
-expect_node-open_node-requires t c = let p = c.requires.at_value.0 in
-    let s = p.0.some-node in record { node_at = (p.0, walk_here _ _ _ _ p.1 (omega arith), p.2); at_value = c.requires.at_value.1 }
+expect_node-open_node-requires t c = let p = c.requires.node_at in
+    let s = p.0.some-node in record { node_at = (p.0, walk_here _ _ _ _ p.1 (omega arith), p.2); at_value = c.requires.at_value }
 
 pub expect_node-overflow_add-m : goal.expect_node-overflow_add-m
 expect_node-overflow_add-m t c =
-    let h = c.requires.at_value.0.0 in
+    let h = c.requires.node_at.0 in
     omega arith
 
 pub expect_node-offset_bounds-nodes-at : goal.expect_node-offset_bounds-nodes-at
 expect_node-offset_bounds-nodes-at t c =
-    let h = c.requires.at_value.0.0 in
+    let h = c.requires.node_at.0 in
     omega arith
 
 pub expect_node-bounds-nodes-at : goal.expect_node-bounds-nodes-at
 expect_node-bounds-nodes-at t c =
-    let h = c.requires.at_value.0.0 in
+    let h = c.requires.node_at.0 in
     omega arith
 
 pub expect_node-overflow_sub-m : goal.expect_node-overflow_sub-m
 expect_node-overflow_sub-m t c =
-    let h = c.requires.at_value.0.0 in
+    let h = c.requires.node_at.0 in
     omega arith
 
 pub expect_node-overflow_add-at : goal.expect_node-overflow_add-at
 expect_node-overflow_add-at t c =
-    let h = c.requires.at_value.0.0 in
+    let h = c.requires.node_at.0 in
     omega arith
 
 pub expect_node-expect_encoding-all-requires : goal.expect_node-expect_encoding-all-requires
-expect_node-expect_encoding-all-requires t c = let a = c.args in
-    let p = c.requires.at_value.0 in
+expect_node-expect_encoding-all-requires t c =
+    let a = c.args in
+    let p = c.requires.node_at in
     let s = p.0.some-node in
-    let o = rw c.in-Fields.is at c.open_node.ensures in record { trees_at = omega arith; kinds_and_names = lent-walk a.names.now a.nodes.now _ a.text.now _ _ _ (whole a.nodes.now) (node-inner a.nodes.now a.at p.0) o.1
+    let o = rw c.in-Fields.is at c.open_node.ensures in (
+      omega arith,
+      lent-walk a.names.now a.nodes.now _ a.text.now _ _ _ (whole a.nodes.now) (node-inner a.nodes.now a.at p.0) o.1
           (walk-inner a.nodes.now (length a.names.now) a.at (count_at a.nodes.now a.at) p.1 (count_at a.nodes.now a.at - 1)
-          (omega arith)) }
+          (omega arith)),
+    )
 
 pub expect_node-offset_bounds-nodes-at-in-Fields : goal.expect_node-offset_bounds-nodes-at-in-Fields
 expect_node-offset_bounds-nodes-at-in-Fields t c =
-    let h = c.requires.at_value.0.0 in
+    let h = c.requires.node_at.0 in
     omega arith
 
 pub expect_node-bounds-nodes-at-in-Fields : goal.expect_node-bounds-nodes-at-in-Fields
 expect_node-bounds-nodes-at-in-Fields t c =
-    let h = c.requires.at_value.0.0 in
+    let h = c.requires.node_at.0 in
     omega arith
 
 pub expect_node-overflow_add-at-in-Fields : goal.expect_node-overflow_add-at-in-Fields
 expect_node-overflow_add-at-in-Fields t c =
-    let h = c.requires.at_value.0.0 in
+    let h = c.requires.node_at.0 in
     omega arith
 
 pub expect_node-offset_bounds-nodes-at-in-Fields-2 : goal.expect_node-offset_bounds-nodes-at-in-Fields-2
 expect_node-offset_bounds-nodes-at-in-Fields-2 t c =
-    let h = c.requires.at_value.0.0 in
+    let h = c.requires.node_at.0 in
     omega arith
 
 pub expect_node-bounds-nodes-at-in-Fields-2 : goal.expect_node-bounds-nodes-at-in-Fields-2
 expect_node-bounds-nodes-at-in-Fields-2 t c =
-    let h = c.requires.at_value.0.0 in
+    let h = c.requires.node_at.0 in
     omega arith
 
 pub expect_node-close_node-requires : goal.expect_node-close_node-requires

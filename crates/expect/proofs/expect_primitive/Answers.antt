@@ -1,6 +1,5 @@
 use lib.ListN.{drop}
 use mathlib.Core.Path.{sym, ap, ◌∙◌}
-use borrow.Author.Tests.{not-true, not-false}
 use Prim.Native.Nat.{ℕ}
 use mathlib.Core.List.{List}
 use Rattle.kinds.specs.Expect.{expect_bytes}
@@ -9,12 +8,12 @@ use Rattle.expect.proofs.expect_primitive.Goals as goal
 
 pub returns-then-not-is_object : goal.returns-then-not-is_object
 returns-then-not-is_object c =
-    same_outcome _ c.expect_code.result _ _ (primitive-alone _ _ (sym c.is_object.ensures ∙ not-true _ c.if-not-is_object.true-raw)
+    same_outcome _ c.expect_code.result _ _ (primitive-alone _ _ (sym c.is_object.ensures ∙ c.if-not-is_object.true)
     ∙ ap (λ (b : List ℕ). expect_bytes b (drop c.args.at c.args.text.now)) (sym c.primitive_code.ensures)) c.expect_code.ensures
 
 pub returns-in_default : goal.returns-in_default
 returns-in_default c =
-    let n = rw c.in_default.is at c.expect_object.ensures in primitive-off _ _ (sym c.is_object.ensures ∙ not-false _ c.if-not-is_object.false-raw) n
+    let n = rw c.in_default.is at c.expect_object.ensures in primitive-off _ _ (sym c.is_object.ensures ∙ c.if-not-is_object.false) n
 
 pub class_name-requires : goal.class_name-requires
 class_name-requires c =
@@ -23,9 +22,9 @@ class_name-requires c =
 pub returns-then-kind-eq19 : goal.returns-then-kind-eq19
 returns-then-kind-eq19 c =
     let n = rw c.in-Remaining.is at c.expect_object.ensures in same_outcome _ c.class_name.result _ _
-    (primitive-object _ _ (sym c.is_object.ensures ∙ not-false _ c.if-not-is_object.false-raw) _ n.0 c.if-kind-eq19.true) c.class_name.ensures
+    (primitive-object _ _ (sym c.is_object.ensures ∙ c.if-not-is_object.false) _ n.0 c.if-kind-eq19.true) c.class_name.ensures
 
 pub returns : goal.returns
 returns c =
     let n = rw c.in-Remaining.is at c.expect_object.ensures
-    in (primitive-other _ _ (sym c.is_object.ensures ∙ not-false _ c.if-not-is_object.false-raw) _ n.0 c.if-kind-eq19.false, n.1)
+    in (primitive-other _ _ (sym c.is_object.ensures ∙ c.if-not-is_object.false) _ n.0 c.if-kind-eq19.false, n.1)

@@ -34,25 +34,25 @@ not_found (ArrayEnd to) h = tt
 not_found (Refused why to) h = tt
 
 pub parse_container-overflow_add-at : goal.parse_container-overflow_add-at
-parse_container-overflow_add-at t c = omega (arith, c.requires.1.at_byte)
+parse_container-overflow_add-at t c = omega (arith, c.requires.at_byte)
 
 pub parse_container-put_name-requires : goal.parse_container-put_name-requires
 parse_container-put_name-requires t c =
-    let p = c.requires.1 in
+    let p = c.requires in
     omega (arith, p.at_byte, p.ready.names-room)
 
 pub parse_container-overflow_add-k : goal.parse_container-overflow_add-k
-parse_container-overflow_add-k t c = omega (arith, c.requires.1.ready.words-room)
+parse_container-overflow_add-k t c = omega (arith, c.requires.ready.words-room)
 
 pub parse_container-loop-words-init : goal.parse_container-loop-words-init
 parse_container-loop-words-init t c =
     let a = c.args in
-    let p = c.requires.1 in
+    let p = c.requires in
     let b : Lists = lists a.words.now a.names.now in
     let q = rw c.in-Is.is at c.put_name.ensures in
-    let names : List ℕ = c.put_name.new.1.1.1.0 in
+    let names : List ℕ = c.put_name.new.names in
     let ready = ready-fields a.text.now a.at a.n a.m b names _ _ _ p.ready p.at_byte (opens-closes _ _ p.opens)
-    c.put_name.auto.1.1.1.0 q in
+    c.put_name.auto.names q in
     (ready, (search rules, ((refl, refl), λ z i r. r)))
 
 pub parse_container-put_codes-past-requires : goal.parse_container-put_codes-past-requires
@@ -88,7 +88,7 @@ parse_container-put_container-requires t c =
     let f = l.invariant.1.1.1 b o (x.ensures.reads a.strict a.kind l.l l.names b o ends) in
     let q = rw c.in-Is.is
     at c.put_name.ensures in
-    let p = c.requires.1 in
+    let p = c.requires in
     let two = room-two a.text.now a.at a.n a.m (lists a.words.now a.names.now) p.ready p.at_byte (opens-closes _ _ p.opens) in
     ((omega (arith, two, x.auto.1.1.0, l.invariant.1.1.0.0), omega (arith, q.names-is)), after_items _ _ _ _ b b o f.bound)
 
@@ -106,10 +106,10 @@ parse_container-returns-then-closes_fields t c =
     let f = l.invariant.1.1.1 b o (x.ensures.reads a.strict a.kind l.l l.names b o ends) in
     let q = rw c.in-Is.is
     at c.put_name.ensures in
-    let p = c.requires.1 in
+    let p = c.requires in
     let d = c.put_container.ensures in
     rw (d.0, d.1) (reads-contained a.strict a.text.now a.at a.kind a.n a.m p.at_byte p.opens (lists a.words.now a.names.now)
-    c.put_name.new.1.1.1.0 _ _ q b o f)
+    c.put_name.new.names _ _ q b o f)
 
 pub parse_container-parse_field-p-requires : goal.parse_container-parse_field-p-requires
 parse_container-parse_field-p-requires t c =
@@ -121,7 +121,7 @@ parse_container-parse_field-p-requires t c =
     c.args.text.now l.to l.k l.l x.result l.words x.new.1.1.0 l.names l.invariant.0 x.ensures
     x.auto.1.1.0 in
     rw (whole
-    c.args.text.now) (omega (arith, c.requires.0, l.invariant.1.0, x.ensures.onward, x.ensures.within, q.onward), ready)
+    c.args.text.now) (omega (arith, c.requires.measure?, l.invariant.1.0, x.ensures.onward, x.ensures.within, q.onward), ready)
 
 pub parse_container-loop-words-smaller : goal.parse_container-loop-words-smaller
 parse_container-loop-words-smaller t c =
@@ -173,21 +173,21 @@ parse_container-put_container-requires-in_default t c =
     (rw (whole a.text.now) at i.ensures)) in
     let f = l.invariant.1.1.1 z o (x.ensures.reads a.strict a.kind l.l l.names z o ends) in
     let q = rw c.in-Is.is at c.put_name.ensures in
-    let p = c.requires.1 in
+    let p = c.requires in
     let two = room-two a.text.now a.at a.n a.m (lists a.words.now a.names.now) p.ready p.at_byte (opens-closes _ _ p.opens) in
     ((omega (arith, two, i.auto.1.1.1.0, x.auto.1.1.0, l.invariant.1.1.0.0), omega (arith, q.names-is)), after_items _ _ _ _ _ _ o f.bound)
 
 pub parse_container-shape_of-words-in_default : goal.parse_container-shape_of-words-in_default
 parse_container-shape_of-words-in_default t c =
-    c.put_container-in_default.auto.1.1.0
-    ∙ c.parse_field-p.auto.1.1.1.0
-    ∙ c.put_codes-past.auto.1.1.0 ∙ c.loop-words.invariant.1.1.0.0
+    c.put_container-in_default.auto.words
+    ∙ c.parse_field-p.auto.words
+    ∙ c.put_codes-past.auto.words ∙ c.loop-words.invariant.1.1.0.0
 
 pub parse_container-shape_of-names-in_default : goal.parse_container-shape_of-names-in_default
 parse_container-shape_of-names-in_default t c =
-    c.parse_field-p.auto.1.1.1.1.1.0
+    c.parse_field-p.auto.names
     ∙ c.loop-words.invariant.1.1.0.1
-    ∙ c.put_name.auto.1.1.1.0
+    ∙ c.put_name.auto.names
 
 pub parse_container-returns-in_default : goal.parse_container-returns-in_default
 parse_container-returns-in_default t c =
@@ -205,26 +205,26 @@ parse_container-returns-in_default t c =
     (rw (whole a.text.now) at i.ensures)) in
     let f = l.invariant.1.1.1 z o (x.ensures.reads a.strict a.kind l.l l.names z o ends) in
     let q = rw c.in-Is.is at c.put_name.ensures in
-    let p = c.requires.1 in
+    let p = c.requires in
     let d = c.put_container-in_default.ensures in
     rw (d.0, d.1) (reads-contained a.strict a.text.now a.at a.kind a.n a.m p.at_byte p.opens (lists a.words.now a.names.now)
-    c.put_name.new.1.1.1.0 _ _ q z o f)
+    c.put_name.new.names _ _ q z o f)
 
 pub parse_container-returns : goal.parse_container-returns
 parse_container-returns t c =
     let a = c.args in
-    let p = c.requires.1 in
+    let p = c.requires in
     let q = rw c.in-Refused.is at c.put_name.ensures in
     reads-no-name a.strict a.text.now a.at a.kind a.n a.m p.at_byte p.opens (lists a.words.now a.names.now)
-    c.put_name.new.1.1.1.0 _ _ q
+    c.put_name.new.names _ _ q
 
 pub parse_field-parse_container-requires : goal.parse_field-parse_container-requires
 parse_field-parse_container-requires t c =
     let opens = opened-is _ (sym c.opens_container.ensures ∙ c.if-opens_container.true) in
     rw (whole c.args.text.now) (
-      omega (arith, c.requires.0),
+      omega (arith, c.requires.measure?),
       record {
-        ready = c.requires.1;
+        ready = c.requires;
         at_byte =
             c.if-at-text.true;
         opens = opens
@@ -241,7 +241,7 @@ parse_field-returns-then-opens_container t c =
 pub parse_field-parse_inner-requires : goal.parse_field-parse_inner-requires
 parse_field-parse_inner-requires t c =
     rw (whole c.args.text.now)
-    (omega (arith, c.requires.0), c.requires.1)
+    (omega (arith, c.requires.measure?), c.requires)
 
 pub parse_field-returns : goal.parse_field-returns
 parse_field-returns t c =
@@ -251,7 +251,7 @@ parse_field-returns t c =
 pub parse_inner-overflow_sub-to : goal.parse_inner-overflow_sub-to
 parse_inner-overflow_sub-to t c =
     let a = c.args in
-    let p = c.requires.1 in
+    let p = c.requires in
     let b : Lists = lists a.words.now a.names.now in
     let r = run-to is_indirection _ _ _ p.at_place c.run_end-to.ensures in
     r.onward
@@ -259,7 +259,7 @@ parse_inner-overflow_sub-to t c =
 pub parse_inner-overflow_add-n : goal.parse_inner-overflow_add-n
 parse_inner-overflow_add-n t c =
     let a = c.args in
-    let p = c.requires.1 in
+    let p = c.requires in
     let b : Lists = lists a.words.now a.names.now in
     let r = run-to is_indirection _ _ _ p.at_place c.run_end-to.ensures in
     omega (arith, (ready-run a.text.now a.at a.n a.m _ b p r).words-room, r.onward)
@@ -267,19 +267,19 @@ parse_inner-overflow_add-n t c =
 pub parse_inner-parse_one-p-requires : goal.parse_inner-parse_one-p-requires
 parse_inner-parse_one-p-requires t c =
     let a = c.args in
-    let p = c.requires.1 in
+    let p = c.requires in
     let b : Lists = lists a.words.now a.names.now in
     let r = run-to is_indirection _ _ _ p.at_place c.run_end-to.ensures in
     let ready = ready-run a.text.now a.at a.n a.m _ b p r in
     rw (whole a.text.now) (
-      omega (arith, c.requires.0, r.onward),
+      omega (arith, c.requires.measure?, r.onward),
       record { ready = ready; direct = r.stopped },
     )
 
 pub parse_inner-put_indirections-requires : goal.parse_inner-put_indirections-requires
 parse_inner-put_indirections-requires t c =
     let a = c.args in
-    let p = c.requires.1 in
+    let p = c.requires in
     let b : Lists = lists a.words.now a.names.now in
     let r = run-to is_indirection _ _ _ p.at_place c.run_end-to.ensures in
     let i = c.parse_one-p in
@@ -293,10 +293,10 @@ parse_inner-put_indirections-requires t c =
 
 pub parse_inner-shape_of-words : goal.parse_inner-shape_of-words
 parse_inner-shape_of-words t c =
-    c.put_indirections.auto.1.1.1.1.0 ∙ c.parse_one-p.auto.1.1.1.0
+    c.put_indirections.auto.words ∙ c.parse_one-p.auto.words
 
 pub parse_inner-shape_of-names : goal.parse_inner-shape_of-names
-parse_inner-shape_of-names t c = c.parse_one-p.auto.1.1.1.1.1.0
+parse_inner-shape_of-names t c = c.parse_one-p.auto.names
 
 pub parse_inner-returns : goal.parse_inner-returns
 parse_inner-returns t c =
@@ -306,20 +306,20 @@ parse_inner-returns t c =
     (rw (whole a.text.now) at i.ensures)
 
 pub parse_one-returns-then-text-at : goal.parse_one-returns-then-text-at
-parse_one-returns-then-text-at t c = reads_end _ _ _ _ _ _ (omega (arith, c.if-text-at.true, c.requires.1.ready.at_place))
+parse_one-returns-then-text-at t c = reads_end _ _ _ _ _ _ (omega (arith, c.if-text-at.true, c.requires.ready.at_place))
 
 pub parse_one-bounds-text-at : goal.parse_one-bounds-text-at
 parse_one-bounds-text-at t c = c.if-text-at.false
 
 pub parse_one-overflow_add-at : goal.parse_one-overflow_add-at
 parse_one-overflow_add-at t c =
-    omega (arith, c.if-text-at.false, c.well-formed.0)
+    omega (arith, c.if-text-at.false, c.well_formed.0)
 
 pub parse_one-overflow_add-n : goal.parse_one-overflow_add-n
 parse_one-overflow_add-n t c =
     omega (
       arith,
-      c.requires.1.ready.words-room,
+      c.requires.ready.words-room,
       slack-some
           c.args.text.now
           c.args.at
@@ -336,12 +336,12 @@ parse_one-parse_inner-p-requires t c =
     let q = rw c.in-Value.is
     at (length-is a.text.now a.at h st a.strict _ c.length_here.ensures) in
     let ready = ready-part a.text.now a.at a.n a.m b _
-    c.requires.1.ready h (ap closes st) q.1.1.0
+    c.requires.ready h (ap closes st) q.1.1.0
     q.1.1.1 in
     rw (whole a.text.now) (
       omega (
         arith,
-        c.requires.0,
+        c.requires.measure?,
         q.1.1,
       ),
       ready,
@@ -354,15 +354,15 @@ parse_one-put_array-requires t c =
     let a = c.args in
     let st = starts _ 91 c.in-91.is refl in
     let two = room-two a.text.now a.at a.n a.m (lists a.words.now a.names.now)
-    c.requires.1.ready c.if-text-at.false (ap closes st) in
+    c.requires.ready c.if-text-at.false (ap closes st) in
     (omega (arith, two, i.auto.1.1.1.0), after-parsed _ _ _ _ _ _ i.result i.ensures.bound)
 
 pub parse_one-parse_container-requires : goal.parse_one-parse_container-requires
 parse_one-parse_container-requires t c =
-    let p = c.requires.1 in
+    let p = c.requires in
     let opens = opened-is _ (sym c.opens_container.ensures ∙ c.if-opens_container.true) in
     rw (whole c.args.text.now) (
-      omega (arith, c.requires.0),
+      omega (arith, c.requires.measure?),
       record {
         ready = p.ready;
         at_byte = c.if-text-at.false;
@@ -378,7 +378,7 @@ parse_one-returns-then-opens_container t c =
 
 pub parse_one-parse_simple-requires : goal.parse_one-parse_simple-requires
 parse_one-parse_simple-requires t c =
-    let p = c.requires.1 in
+    let p = c.requires in
     let o = not_opened _ (sym c.opens_container.ensures ∙ c.if-opens_container.false) in
     let d = not-indirection _ (p.direct c.if-text-at.false) in
     record {
@@ -400,10 +400,10 @@ parse_one-returns-in-Refused t c =
 
 pub parse_one-shape_of-words-in-Value : goal.parse_one-shape_of-words-in-Value
 parse_one-shape_of-words-in-Value t c =
-    c.put_array.auto.1.1.1.1.0 ∙ c.parse_inner-p.auto.1.1.1.0
+    c.put_array.auto.words ∙ c.parse_inner-p.auto.words
 
 pub parse_one-shape_of-names : goal.parse_one-shape_of-names
-parse_one-shape_of-names t c = c.parse_inner-p.auto.1.1.1.1.1.0
+parse_one-shape_of-names t c = c.parse_inner-p.auto.names
 
 pub parse_one-returns-in-Value : goal.parse_one-returns-in-Value
 unfolding start in_singles singles in_others others closes

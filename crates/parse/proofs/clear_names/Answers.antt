@@ -15,11 +15,11 @@ bounds-names-i c = rw c.loop-i.invariant.0 (omega (arith, cleared-length c.loop-
 
 pub overflow_add-i : goal.overflow_add-i
 overflow_add-i c =
-    omega (arith, c.well-formed.0, c.requires)
+    omega (arith, c.well_formed.0, c.requires)
 
 pub loop-i-smaller : goal.loop-i-smaller
 loop-i-smaller c =
-    omega (arith, c.well-formed.0, c.requires)
+    omega (arith, c.well_formed.0, c.requires)
 
 pub loop-i-preserved : goal.loop-i-preserved
 loop-i-preserved c = (rw c.loop-i.invariant.0 (fill_more c.loop-i.i 0 c.args.names.now (omega arith)), omega arith)

@@ -16,7 +16,7 @@ slice_bounds-result-start c =
 pub put_none-requires : goal.put_none-requires
 put_none-requires c =
     let r = rw c.in-Refused.is at c.parse_encoding_or_none.ensures in
-    omega (arith, r.words-room, c.parse_encoding_or_none.auto.1.1.0)
+    omega (arith, r.words-room, c.parse_encoding_or_none.auto.words)
 
 pub slice_bounds-result-count-then-unknown_digit : goal.slice_bounds-result-count-then-unknown_digit
 slice_bounds-result-count-then-unknown_digit c =

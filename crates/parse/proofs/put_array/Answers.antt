@@ -9,7 +9,7 @@ overflow_sub-k c =
 
 pub overflow_add-result : goal.overflow_add-result
 overflow_add-result c =
-    let h = closed_in c.args.text.now c.in-Encoding.to (sym c.closes_item.ensures ∙ c.if-closes_item.true) in omega (arith, c.well-formed.1.0)
+    let h = closed_in c.args.text.now c.in-Encoding.to (sym c.closes_item.ensures ∙ c.if-closes_item.true) in omega (arith, c.well_formed.1.0)
 
 pub returns-in-Empty : goal.returns-in-Empty
 returns-in-Empty c = rw c.in-Empty.is (refl, refl)

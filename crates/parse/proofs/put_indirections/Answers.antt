@@ -29,7 +29,7 @@ overflow_sub-i-in-loop-i-2 c = omega arith
 
 pub overflow_add-n : goal.overflow_add-n
 overflow_add-n c =
-    omega (arith, c.requires.room (omega arith), c.well-formed)
+    omega (arith, c.requires.room (omega arith), c.well_formed)
 
 pub put_indirection-p-requires : goal.put_indirection-p-requires
 put_indirection-p-requires c =

@@ -5,7 +5,7 @@ use Rattle.parse.proofs.read_whole.Goals as goal
 pub clear_sheet-requires : goal.clear_sheet-requires
 clear_sheet-requires c =
     let r = rw c.in-Tree.is at c.parse_encoding_or_none.ensures in
-    omega (arith, r.words-room, r.names-room, c.parse_encoding_or_none.auto.1.1.0, c.parse_encoding_or_none.auto.1.1.1.0)
+    omega (arith, r.words-room, r.names-room, c.parse_encoding_or_none.auto.words, c.parse_encoding_or_none.auto.names)
 
 pub returns-in-Away : goal.returns-in-Away
 returns-in-Away c = let r = rw c.in-Away.is at c.parse_encoding_or_none.ensures in let p = whole-away c.args.strict _ _ _ _ _ _ r.0 r.1.words-kept r.1.names-kept in record { answers = p.0; fills = p.1.0; names = p.1.1 }

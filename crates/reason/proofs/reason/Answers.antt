@@ -67,10 +67,10 @@ pub returns-in-Codes : goal.returns-in-Codes
 returns-in-Codes c = let a = c.args in
     let g = given-codes a.aw.now a.an.now a.bw.now a.bn.now
     (checks-give a.aw.now a.an.now a.bw.now a.bn.now c.both_of.ensures c.check.ensures.answers c.check-2.ensures.answers) c.in-Codes.is in
-    let e = c.write_codes.ensures in let p = write-codes a.all _ _ _ _ a.out.now g (e.0 a.all) (e.1 a.all) in record { answers = p.0; writes = p.1 }
+    let e = c.write_codes.ensures in let p = write-codes a.all _ _ _ _ a.out.now g (e.answers a.all) (e.writes a.all) in record { answers = p.0; writes = p.1 }
 
 pub returns-in-Nodes : goal.returns-in-Nodes
 returns-in-Nodes c = let a = c.args in
     let g = given-nodes-both a.aw.now a.an.now a.bw.now a.bn.now
     (checks-give a.aw.now a.an.now a.bw.now a.bn.now c.both_of.ensures c.check.ensures.answers c.check-2.ensures.answers) c.in-Nodes.is in
-    let e = c.write_nodes.ensures in let p = write-nodes a.all _ _ _ _ a.out.now (nodes-part g.0) (nodes-part g.1) (rw (whole, whole) at e.0) (rw (whole, whole) at e.1) in record { answers = p.0; writes = p.1 }
+    let e = c.write_nodes.ensures in let p = write-nodes a.all _ _ _ _ a.out.now (nodes-part g.0) (nodes-part g.1) (rw (whole, whole) at e.answers) (rw (whole, whole) at e.writes) in record { answers = p.0; writes = p.1 }

@@ -1,5 +1,5 @@
 use mathlib.Core.Path.{refl, sym, ◌∙◌}
-use borrow.Author.Tests.{leb-true, leb-false, not-true, not-false}
+use borrow.Author.Tests.{leb-true, leb-false}
 use Rattle.reason.proofs.ReasonLaws.{yes-fitted, yes-placed, short-fitted, short-placed, bytes-placed, put-fitted}
 use Rattle.reason.proofs.ReasonLaws.{found-same, found_at, numbers-short, counted}
 use Rattle.reason.proofs.write_nodes.Goals as goal
@@ -12,7 +12,7 @@ reason_fits-requires c =
 
 pub returns-then-not-reason_fits : goal.returns-then-not-reason_fits
 returns-then-not-reason_fits c = let d = found_at c.args.all _ c.new.ensures _ _ _ _ _ _ c.requires.0 c.requires.1 c.first_difference.ensures c.in-At.is in
-    let w = leb-false _ _ (sym c.reason_fits.ensures ∙ not-true _ c.if-not-reason_fits.true-raw) in record { answers = short-fitted _ d.reason (counted d refl) c.args.out.now w; writes = short-placed _ d.reason (counted d refl) c.args.out.now w }
+    let w = leb-false _ _ (sym c.reason_fits.ensures ∙ c.if-not-reason_fits.true) in record { answers = short-fitted _ d.reason (counted d refl) c.args.out.now w; writes = short-placed _ d.reason (counted d refl) c.args.out.now w }
 
 pub put_reason-requires : goal.put_reason-requires
 put_reason-requires c = let d = found_at c.args.all _ c.new.ensures _ _ _ _ _ _ c.requires.0 c.requires.1 c.first_difference.ensures c.in-At.is in record { inside = d.places; name_within = d.lent; k_value = d.numbers }
@@ -22,5 +22,5 @@ returns-in-Same c = let e = found-same c.args.all _ c.new.ensures _ _ _ _ _ _ c.
 
 pub returns-else-not-reason_fits : goal.returns-else-not-reason_fits
 returns-else-not-reason_fits c = let d = found_at c.args.all _ c.new.ensures _ _ _ _ _ _ c.requires.0 c.requires.1 c.first_difference.ensures c.in-At.is in
-    let w = leb-true _ _ (sym c.reason_fits.ensures ∙ not-false _ c.if-not-reason_fits.false-raw) in
+    let w = leb-true _ _ (sym c.reason_fits.ensures ∙ c.if-not-reason_fits.false) in
     let p = c.put_reason.ensures in record { answers = put-fitted _ d.reason (counted d refl) c.args.out.now w p; writes = bytes-placed _ d.reason (counted d refl) c.args.out.now w p }

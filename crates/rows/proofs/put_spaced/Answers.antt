@@ -33,14 +33,14 @@ loop-i-preserved c =
     (
       then-put (space_number (get_or c.args.row.now c.loop-i.i 0)) (each space_number (drop (c.loop-i.i + 1) c.args.row.now))
           (each_more space_number c.args.row.now c.loop-i.i c.loop-i-test.true) c.loop-i.invariant.0 c.put_marked-to.ensures,
-      c.put_marked-to.auto.0
+      c.put_marked-to.auto.out
           ∙ c.loop-i.invariant.1,
       omega arith,
     )
 
 pub shape_of-out : goal.shape_of-out
 shape_of-out c =
-    c.loop-i.invariant.1 ∙ c.put_number-to.auto.0
+    c.loop-i.invariant.1 ∙ c.put_number-to.auto.out
 
 pub returns : goal.returns
 returns c =

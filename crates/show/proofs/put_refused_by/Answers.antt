@@ -7,8 +7,8 @@ use Rattle.show.proofs.put_refused_by.Goals as goal
 
 pub shape_of-out : goal.shape_of-out
 shape_of-out c =
-    c.put_named.auto.0 ∙ c.put_bytes-named.auto.0 ∙ c.put_bytes-words.auto.0 ∙ c.put_number-number.auto.0 ∙ c.put_bytes-to.auto.0 ∙ c.put_mark-mark.auto.0
-    ∙ c.put_text-shown.auto.0
+    c.put_named.auto.out ∙ c.put_bytes-named.auto.out ∙ c.put_bytes-words.auto.out ∙ c.put_number-number.auto.out ∙ c.put_bytes-to.auto.out ∙ c.put_mark-mark.auto.out
+    ∙ c.put_text-shown.auto.out
 
 pub returns : goal.returns
 returns c =

@@ -6,8 +6,8 @@ use Rattle.show.proofs.put_sentence.Goals as goal
 
 pub shape_of-out : goal.shape_of-out
 shape_of-out c =
-    c.put_bytes.auto.0 ∙ c.put_value-end.auto.0 ∙ c.put_bytes-other.auto.0 ∙ c.put_value-between.auto.0 ∙ c.put_bytes-one.auto.0 ∙ c.put_unit-verb.auto.0
-    ∙ c.put_bytes-unit.auto.0 ∙ c.put_bytes-noun.auto.0 ∙ c.put_place-colon.auto.0 ∙ c.put_bytes-place.auto.0
+    c.put_bytes.auto.out ∙ c.put_value-end.auto.out ∙ c.put_bytes-other.auto.out ∙ c.put_value-between.auto.out ∙ c.put_bytes-one.auto.out ∙ c.put_unit-verb.auto.out
+    ∙ c.put_bytes-unit.auto.out ∙ c.put_bytes-noun.auto.out ∙ c.put_place-colon.auto.out ∙ c.put_bytes-place.auto.out
 
 pub returns : goal.returns
 returns c =

@@ -26,7 +26,7 @@ loop-i-preserved c =
     (
       then-put (shown_byte (get_or c.args.s.now c.loop-i.i 0)) (each shown_byte (drop (c.loop-i.i + 1) c.args.s.now))
           (each_more shown_byte c.args.s.now c.loop-i.i c.loop-i-test.true) c.loop-i.invariant.0 (put_same c.glyph.ensures c.put_bytes-to.ensures),
-      c.put_bytes-to.auto.0 ∙ c.loop-i.invariant.1,
+      c.put_bytes-to.auto.out ∙ c.loop-i.invariant.1,
       omega arith,
     )
 

@@ -27,7 +27,7 @@ put_entry-requires c =
 pub overflow_add-k : goal.overflow_add-k
 overflow_add-k c =
     let l = c.loop-at in
-    omega (arith, l.invariant.few, l.invariant.within, c.well-formed.0)
+    omega (arith, l.invariant.few, l.invariant.within, c.well_formed.0)
 
 pub loop-at-smaller : goal.loop-at-smaller
 loop-at-smaller c =

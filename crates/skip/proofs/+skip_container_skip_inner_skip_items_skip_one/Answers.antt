@@ -29,17 +29,17 @@ not-passed (ArrayEnd to) h = tt
 not-passed (Refused why to) h = tt
 
 pub skip_container-overflow_add-at : goal.skip_container-overflow_add-at
-skip_container-overflow_add-at t c = omega (arith, c.requires.1.at_place)
+skip_container-overflow_add-at t c = omega (arith, c.requires.at_place)
 
 pub skip_container-skip_items-requires : goal.skip_container-skip_items-requires
 skip_container-skip_items-requires t c =
-    let at = c.requires.1.at_place in
+    let at = c.requires.at_place in
     let r = rw c.in-Is.is at (name-is c.args.text.now (c.args.at + 1) _ _ (omega arith) c.parse_name.ensures) in
-    rw (whole c.args.text.now) (omega (arith, c.requires.0, r.some, r.passed, r.within), r.within)
+    rw (whole c.args.text.now) (omega (arith, c.requires.measure?, r.some, r.passed, r.within), r.within)
 
 pub skip_container-returns-in-Refused : goal.skip_container-returns-in-Refused
 skip_container-returns-in-Refused t c =
-    let p = c.requires.1 in
+    let p = c.requires in
     let a = c.args in
     let at = p.at_place in
     let r = rw c.in-Refused.is at (name-is a.text.now (a.at + 1) _ _ (omega arith) c.parse_name.ensures) in
@@ -47,7 +47,7 @@ skip_container-returns-in-Refused t c =
 
 pub skip_container-returns-in-Is : goal.skip_container-returns-in-Is
 skip_container-returns-in-Is t c =
-    let p = c.requires.1 in
+    let p = c.requires in
     let a = c.args in
     let at = p.at_place in
     let r = rw c.in-Is.is at (name-is a.text.now (a.at + 1) _ _ (omega arith) c.parse_name.ensures) in
@@ -55,31 +55,31 @@ skip_container-returns-in-Is t c =
 
 pub skip_inner-returns-then-text-to : goal.skip_inner-returns-then-text-to
 skip_inner-returns-then-text-to t c =
-    let r = run-to is_indirection _ _ _ c.requires.1 c.indirections_end-to.ensures in
+    let r = run-to is_indirection _ _ _ c.requires c.indirections_end-to.ensures in
     skips-run _ _ _ (skips-end _ _ (omega (arith, r.within, c.if-text-to.true))) _ _ r c.skip_held.ensures
 
 pub skip_inner-skip_one-requires : goal.skip_inner-skip_one-requires
 skip_inner-skip_one-requires t c =
-    let r = run-to is_indirection _ _ _ c.requires.1 c.indirections_end-to.ensures in
+    let r = run-to is_indirection _ _ _ c.requires c.indirections_end-to.ensures in
     let h = c.if-text-to.false in
-    rw (whole c.args.text.now) (omega (arith, c.requires.0, r.onward), record { at_place = h; direct = r.stopped h })
+    rw (whole c.args.text.now) (omega (arith, c.requires.measure?, r.onward), record { at_place = h; direct = r.stopped h })
 
 pub skip_inner-returns : goal.skip_inner-returns
 skip_inner-returns t c =
-    let r = run-to is_indirection _ _ _ c.requires.1 c.indirections_end-to.ensures in
+    let r = run-to is_indirection _ _ _ c.requires c.indirections_end-to.ensures in
     skips-run _ _ _ (rw (whole c.args.text.now) at c.skip_one.ensures) _ _ r c.skip_held-2.ensures
 
 pub skip_items-loop-kind-init : goal.skip_items-loop-kind-init
-skip_items-loop-kind-init t c = (omega arith, (c.requires.1, λ i s. s))
+skip_items-loop-kind-init t c = (omega arith, (c.requires, λ i s. s))
 
 pub skip_items-skip_inner-s-requires : goal.skip_items-skip_inner-s-requires
 skip_items-skip_inner-s-requires t c =
     let r = run-to is_code _ _ _ c.loop-kind.invariant.1.0 c.codes_end-past.ensures in
-    rw (whole c.args.text.now) (omega (arith, c.requires.0, c.loop-kind.invariant.0, r.onward), r.within)
+    rw (whole c.args.text.now) (omega (arith, c.requires.measure?, c.loop-kind.invariant.0, r.onward), r.within)
 
 pub skip_items-overflow_add-result : goal.skip_items-overflow_add-result
 skip_items-overflow_add-result t c =
-    omega (arith, closes_in c.args.text.now c.codes_end-past.result c.args.kind (sym c.closes_fields.ensures ∙ c.if-closes_fields.true), c.well-formed.0)
+    omega (arith, closes_in c.args.text.now c.codes_end-past.result c.args.kind (sym c.closes_fields.ensures ∙ c.if-closes_fields.true), c.well_formed.0)
 
 pub skip_items-returns-then-closes_fields : goal.skip_items-returns-then-closes_fields
 skip_items-returns-then-closes_fields t c =
@@ -109,38 +109,38 @@ skip_items-returns-in_default t c =
     v.1.1 _ (skipped-codes _ _ _ _ (skipped-end _ _ _ c.skip_inner-s.result _ none r c.end_skipped.ensures) _ x)
 
 pub skip_one-bounds-text-at : goal.skip_one-bounds-text-at
-skip_one-bounds-text-at t c = c.requires.1.at_place
+skip_one-bounds-text-at t c = c.requires.at_place
 
 pub skip_one-overflow_add-at : goal.skip_one-overflow_add-at
-skip_one-overflow_add-at t c = omega (arith, c.requires.1.at_place, c.well-formed.0)
+skip_one-overflow_add-at t c = omega (arith, c.requires.at_place, c.well_formed.0)
 
 pub skip_one-skip_inner-requires : goal.skip_one-skip_inner-requires
 skip_one-skip_inner-requires t c =
-    let at = c.requires.1.at_place in
+    let at = c.requires.at_place in
     let n = rw c.in-Value.is at (number_is c.args.text.now _ (c.args.at + 1) _ (omega arith) c.parse_u64.ensures) in
-    rw (whole c.args.text.now) (omega (arith, c.requires.0, n.1), n.1.1)
+    rw (whole c.args.text.now) (omega (arith, c.requires.measure?, n.1), n.1.1)
 
 pub skip_one-skip_container-requires : goal.skip_one-skip_container-requires
 unfolding start in_singles singles in_others others
 skip_one-skip_container-requires t c =
-    rw (whole c.args.text.now) (omega (arith, c.requires.0), record { at_place = c.requires.1.at_place; opens = starts _ 123 c.in-123.is refl })
+    rw (whole c.args.text.now) (omega (arith, c.requires.measure?), record { at_place = c.requires.at_place; opens = starts _ 123 c.in-123.is refl })
 
 pub skip_one-skip_container-requires-in-40 : goal.skip_one-skip_container-requires-in-40
 unfolding start in_singles singles in_others others
 skip_one-skip_container-requires-in-40 t c =
-    rw (whole c.args.text.now) (omega (arith, c.requires.0), record { at_place = c.requires.1.at_place; opens = starts _ 40 c.in-40.is refl })
+    rw (whole c.args.text.now) (omega (arith, c.requires.measure?), record { at_place = c.requires.at_place; opens = starts _ 40 c.in-40.is refl })
 
 pub skip_one-returns-in-Refused : goal.skip_one-returns-in-Refused
 unfolding start in_singles singles in_others others
 skip_one-returns-in-Refused t c =
-    let at = c.requires.1.at_place in
+    let at = c.requires.at_place in
     let n = rw c.in-Refused.is at (number_is c.args.text.now _ (c.args.at + 1) _ (omega arith) c.parse_u64.ensures) in
     skips-no-number _ _ at _ _ n.1.1 (starts _ 91 c.in-91.is refl) n.0
 
 pub skip_one-returns-in-Value : goal.skip_one-returns-in-Value
 unfolding start in_singles singles in_others others
 skip_one-returns-in-Value t c =
-    let at = c.requires.1.at_place in
+    let at = c.requires.at_place in
     let n = rw c.in-Value.is at (number_is c.args.text.now _ (c.args.at + 1) _ (omega arith) c.parse_u64.ensures) in
     let inner = rw (whole c.args.text.now) at c.skip_inner.ensures in
     skips-item _ _ at _ _ (starts _ 91 c.in-91.is refl) n.0 n.1.0 n.1.1 _ _ inner c.skip_item.ensures
@@ -153,7 +153,7 @@ skip_one-returns-in-40 t c = rw (whole c.args.text.now) at c.skip_container-in-4
 
 pub skip_one-returns-in_default : goal.skip_one-returns-in_default
 skip_one-returns-in_default t c =
-    let p = c.requires.1 in
+    let p = c.requires in
     let r = c.in_default.rest in
     let d = not-indirection _ p.direct in
     let plain = without-parts _ (((d, r.0.0.1), r.0.1), r.1) in

@@ -12,26 +12,26 @@ use Rattle.kinds.proofs.NodeLaws.{node-inner}
 use Rattle.layout.proofs.place.+place.Goals as goal
 
 pub is_simple-requires : goal.is_simple-requires
-is_simple-requires t c = c.requires.1.0
+is_simple-requires t c = c.requires.0
 
 pub simple-requires : goal.simple-requires
 simple-requires t c =
-    (c.requires.1.0, sym c.is_simple.ensures ∙ c.if-is_simple.true)
+    (c.requires.0, sym c.is_simple.ensures ∙ c.if-is_simple.true)
 
 pub returns-then-is_simple : goal.returns-then-is_simple
 returns-then-is_simple t c =
     let a = c.args in
-    simple-laid a.sizes.now a.nodes.now a.i c.requires.1.0 (sym c.is_simple.ensures ∙ c.if-is_simple.true) a.offsets.now c.requires.1.2
+    simple-laid a.sizes.now a.nodes.now a.i c.requires.0 (sym c.is_simple.ensures ∙ c.if-is_simple.true) a.offsets.now c.requires.2
     c.simple.ensures
 
 pub loop-left-init : goal.loop-left-init
 loop-left-init t c =
     let a = c.args in
-    let n = c.requires.1.0.some-node in (
+    let n = c.requires.0.some-node in (
       omega arith,
       filling-start (subst (λ (at : ℕ). TreesAt a.nodes.now at (count_at a.nodes.now (4 * a.i) - 1)) (omega arith)
-          (node-inner a.nodes.now (4 * a.i) c.requires.1.0))
-          (omega arith) c.requires.1.2 c.new-run.ensures,
+          (node-inner a.nodes.now (4 * a.i) c.requires.0))
+          (omega arith) c.requires.2 c.new-run.ensures,
     )
 
 pub is_simple-requires-in-loop-left : goal.is_simple-requires-in-loop-left
@@ -61,13 +61,13 @@ add_field-run-requires t c =
 pub overflow_mul-count : goal.overflow_mul-count
 overflow_mul-count t c =
     let b = filling-within c.loop-left.invariant.1 c.loop-left-test.true in
-    let g = c.well-formed.1.0 in
+    let g = c.well_formed.1.0 in
     omega arith
 
 pub overflow_add-count : goal.overflow_add-count
 overflow_add-count t c =
     let b = filling-within c.loop-left.invariant.1 c.loop-left-test.true in
-    let g = c.well-formed.1.0 in
+    let g = c.well_formed.1.0 in
     omega arith
 
 pub bounds-nodes-j : goal.bounds-nodes-j
@@ -77,7 +77,7 @@ bounds-nodes-j t c =
 pub overflow_add-j-in-loop-left : goal.overflow_add-j-in-loop-left
 overflow_add-j-in-loop-left t c =
     let b = filling-within c.loop-left.invariant.1 c.loop-left-test.true in
-    let g = c.well-formed.1.0 in
+    let g = c.well_formed.1.0 in
     omega arith
 
 pub overflow_sub-left-in-loop-left : goal.overflow_sub-left-in-loop-left
@@ -105,4 +105,4 @@ pub returns : goal.returns
 returns t c =
     let a = c.args in
     let k = not_plain (kind_at a.nodes.now (4 * a.i)) (not-simple a.nodes.now (4 * a.i) (sym c.is_simple.ensures ∙ c.if-is_simple.false)) in
-    walk_end a.sizes.now a.nodes.now a.i c.requires.1.0 k.0 k.1 c.loop-left.invariant.1 c.loop-left-test.false c.ended_by.ensures
+    walk_end a.sizes.now a.nodes.now a.i c.requires.0 k.0 k.1 c.loop-left.invariant.1 c.loop-left-test.false c.ended_by.ensures

@@ -1,4 +1,4 @@
-use borrow.Author.Tests.{not-true, lt-leb, not-false}
+use borrow.Author.Tests.{lt-leb}
 use Rattle.layout.proofs.EndLaws.{end-unfit, end_none, end-over, end-above, end_fits, refused-both, written_both}
 use mathlib.Core.Path.{ap, sym, ◌∙◌}
 use mathlib.Core.Bool.{◌&&◌, and-false}
@@ -15,7 +15,7 @@ returns-then-limit-bytes c = let a = c.args in let p = refused-both a.limit a.wh
 pub returns-then-not-within_limit : goal.returns-then-not-within_limit
 returns-then-not-within_limit c = let a = c.args in let p = refused-both a.limit a.whole a.numbers.now a.offsets.now
     (end-above a.limit a.whole a.numbers.now c.in-Bytes.bytes c.in-Bytes.is
-    (ap (λ b. leb c.in-Bytes.bytes a.limit && b) (sym c.within_limit.ensures ∙ not-true _ c.if-not-within_limit.true-raw)
+    (ap (λ b. leb c.in-Bytes.bytes a.limit && b) (sym c.within_limit.ensures ∙ c.if-not-within_limit.true)
     ∙ and-false (leb c.in-Bytes.bytes a.limit))) in record { answers = p.0; fills = p.1 }
 
 pub returns-in-Nothing : goal.returns-in-Nothing
@@ -27,5 +27,5 @@ returns-in-TooLarge c = let a = c.args in let p = refused-both a.limit a.whole a
 pub returns-else-not-within_limit : goal.returns-else-not-within_limit
 returns-else-not-within_limit c = let a = c.args in let p = written_both a.limit a.whole a.numbers.now a.offsets.now _ _ _
     (end_fits a.limit a.whole a.numbers.now _ c.in-Bytes.is c.if-not-whole.false c.if-limit-bytes.false
-    (sym c.within_limit.ensures ∙ not-false _ c.if-not-within_limit.false-raw))
+    (sym c.within_limit.ensures ∙ c.if-not-within_limit.false))
     c.wide.ensures c.copy_numbers.ensures in record { answers = p.0; fills = p.1 }

@@ -19,7 +19,7 @@ place-whole-requires c =
 pub slice_bounds-finish-end : goal.slice_bounds-finish-end
 slice_bounds-finish-end c =
     let n = c.args.n in
-    back-within n c.place-whole.new.1.1.1.0 (drop (n - 0) (replicate 2001 0))
+    back-within n c.place-whole.new.offsets (drop (n - 0) (replicate 2001 0))
     (c.place-whole.ensures.as_long ∙ (zeros-lent 2001 n c.requires.2).0)
 
 pub returns : goal.returns
@@ -30,9 +30,6 @@ returns c = let a = c.args in
     let z = zeros-lent 2001 a.n p.2 in
     let f = c.finish.ensures in
     let t = back-taken a.n _ _ (c.place-whole.ensures.as_long ∙ z.0) in
-    let n = p.0.some-node in record {
-      answers = λ m o s. walked-answer m s a.nodes.now a.n p.1 (omega arith) _ _ z.0 z.1 _ (l.below m o s) a.limit (omega arith)
-          (f.0 ∙ ap (finished a.limit x) t);
-      fills = λ m o s. walked-list m s a.nodes.now a.n p.1 (omega arith) _ _ z.0 z.1 _ (l.below m o s) a.limit (omega arith)
-          a.offsets.now (f.1 ∙ ap (λ v. list_after (finished a.limit x v) v a.offsets.now) t);
-    }
+    let n = p.0.some-node in record { answers = λ m o s. walked-answer m s a.nodes.now a.n p.1 (omega arith) _ _ z.0 z.1 _ (l.below m o s) a.limit (omega arith)
+          (f.answers ∙ ap (finished a.limit x) t); fills = λ m o s. walked-list m s a.nodes.now a.n p.1 (omega arith) _ _ z.0 z.1 _ (l.below m o s) a.limit (omega arith)
+          a.offsets.now (f.fills ∙ ap (λ v. list_after (finished a.limit x v) v a.offsets.now) t) }

@@ -12,10 +12,10 @@ first_difference-loop-left-init t c =
     let pre = c.requires in (
       omega arith,
       record {
-        first = pre.1.0.0;
-        second = pre.1.0.1;
-        first_walk = pre.1.1.0;
-        second_walk = pre.1.1.1;
+        first = pre.trees_at.0;
+        second = pre.trees_at.1;
+        first_walk = pre.kinds_and_names.0;
+        second_walk = pre.kinds_and_names.1;
         first_part = part-all _ _;
         second-part = part-all _ _;
         rest = resume-level _ _ _ _ _;
@@ -35,49 +35,49 @@ first_difference-returns-in-At t c =
 pub first_difference-offset_bounds-a-at : goal.first_difference-offset_bounds-a-at
 first_difference-offset_bounds-a-at t c =
     let b = left-bounds c.loop-left.invariant.1 c.loop-left-test.true (some_left _ c.if-more-eq0.false) in
-    let g = c.well-formed in
+    let g = c.well_formed in
     omega arith
 
 pub first_difference-bounds-a-at : goal.first_difference-bounds-a-at
 first_difference-bounds-a-at t c =
     let b = left-bounds c.loop-left.invariant.1 c.loop-left-test.true (some_left _ c.if-more-eq0.false) in
-    let g = c.well-formed in
+    let g = c.well_formed in
     omega arith
 
 pub first_difference-overflow_add-c : goal.first_difference-overflow_add-c
 first_difference-overflow_add-c t c =
     let b = left-bounds c.loop-left.invariant.1 c.loop-left-test.true (some_left _ c.if-more-eq0.false) in
-    let g = c.well-formed in
+    let g = c.well_formed in
     omega arith
 
 pub first_difference-offset_bounds-a-at-then-is_container : goal.first_difference-offset_bounds-a-at-then-is_container
 first_difference-offset_bounds-a-at-then-is_container t c =
     let b = left-bounds c.loop-left.invariant.1 c.loop-left-test.true (some_left _ c.if-more-eq0.false) in
-    let g = c.well-formed in
+    let g = c.well_formed in
     omega arith
 
 pub first_difference-bounds-a-at-then-is_container : goal.first_difference-bounds-a-at-then-is_container
 first_difference-bounds-a-at-then-is_container t c =
     let b = left-bounds c.loop-left.invariant.1 c.loop-left-test.true (some_left _ c.if-more-eq0.false) in
-    let g = c.well-formed in
+    let g = c.well_formed in
     omega arith
 
 pub first_difference-overflow_add-d : goal.first_difference-overflow_add-d
 first_difference-overflow_add-d t c =
     let b = left-bounds c.loop-left.invariant.1 c.loop-left-test.true (some_left _ c.if-more-eq0.false) in
-    let g = c.well-formed in
+    let g = c.well_formed in
     omega arith
 
 pub first_difference-offset_bounds-b-bt : goal.first_difference-offset_bounds-b-bt
 first_difference-offset_bounds-b-bt t c =
     let b = left-bounds c.loop-left.invariant.1 c.loop-left-test.true (some_left _ c.if-more-eq0.false) in
-    let g = c.well-formed in
+    let g = c.well_formed in
     omega arith
 
 pub first_difference-bounds-b-bt : goal.first_difference-bounds-b-bt
 first_difference-bounds-b-bt t c =
     let b = left-bounds c.loop-left.invariant.1 c.loop-left-test.true (some_left _ c.if-more-eq0.false) in
-    let g = c.well-formed in
+    let g = c.well_formed in
     omega arith
 
 pub first_difference-compare_counts-requires : goal.first_difference-compare_counts-requires
@@ -94,31 +94,31 @@ first_difference-returns-in-Unequal t c =
 pub first_difference-overflow_add-at : goal.first_difference-overflow_add-at
 first_difference-overflow_add-at t c =
     let b = left-bounds c.loop-left.invariant.1 c.loop-left-test.true (some_left _ c.if-more-eq0.false) in
-    let g = c.well-formed in
+    let g = c.well_formed in
     omega arith
 
 pub first_difference-overflow_sub-left : goal.first_difference-overflow_sub-left
 first_difference-overflow_sub-left t c =
     let b = left-bounds c.loop-left.invariant.1 c.loop-left-test.true (some_left _ c.if-more-eq0.false) in
-    let g = c.well-formed in
+    let g = c.well_formed in
     omega arith
 
 pub first_difference-overflow_add-bt : goal.first_difference-overflow_add-bt
 first_difference-overflow_add-bt t c =
     let b = left-bounds c.loop-left.invariant.1 c.loop-left-test.true (some_left _ c.if-more-eq0.false) in
-    let g = c.well-formed in
+    let g = c.well_formed in
     omega arith
 
 pub first_difference-overflow_sub-more : goal.first_difference-overflow_sub-more
 first_difference-overflow_sub-more t c =
     let b = left-bounds c.loop-left.invariant.1 c.loop-left-test.true (some_left _ c.if-more-eq0.false) in
-    let g = c.well-formed in
+    let g = c.well_formed in
     omega arith
 
 pub first_difference-loop-left-smaller-then-left-c : goal.first_difference-loop-left-smaller-then-left-c
 first_difference-loop-left-smaller-then-left-c t c =
     let b = left-bounds c.loop-left.invariant.1 c.loop-left-test.true (some_left _ c.if-more-eq0.false) in
-    let g = c.well-formed in
+    let g = c.well_formed in
     omega arith
 
 pub first_difference-loop-left-preserved-then-left-c : goal.first_difference-loop-left-preserved-then-left-c
@@ -146,31 +146,31 @@ first_difference-returns-in-At-below t c =
 pub first_difference-offset_bounds-a-at-in-loop-left : goal.first_difference-offset_bounds-a-at-in-loop-left
 first_difference-offset_bounds-a-at-in-loop-left t c =
     let b = left-bounds c.loop-left.invariant.1 c.loop-left-test.true (some_left _ c.if-more-eq0.false) in
-    let g = c.well-formed in
+    let g = c.well_formed in
     omega arith
 
 pub first_difference-bounds-a-at-in-loop-left : goal.first_difference-bounds-a-at-in-loop-left
 first_difference-bounds-a-at-in-loop-left t c =
     let b = left-bounds c.loop-left.invariant.1 c.loop-left-test.true (some_left _ c.if-more-eq0.false) in
-    let g = c.well-formed in
+    let g = c.well_formed in
     omega arith
 
 pub first_difference-overflow_mul-at : goal.first_difference-overflow_mul-at
 first_difference-overflow_mul-at t c =
     let b = left-bounds c.loop-left.invariant.1 c.loop-left-test.true (some_left _ c.if-more-eq0.false) in
-    let g = c.well-formed in
+    let g = c.well_formed in
     ⊎_elim (λ i. omega arith) (⊎_elim (λ i. omega arith) (λ i. omega arith)) c.if-is_container.branch
 
 pub first_difference-overflow_add-at-in-loop-left : goal.first_difference-overflow_add-at-in-loop-left
 first_difference-overflow_add-at-in-loop-left t c =
     let b = left-bounds c.loop-left.invariant.1 c.loop-left-test.true (some_left _ c.if-more-eq0.false) in
-    let g = c.well-formed in
+    let g = c.well_formed in
     ⊎_elim (λ i. omega arith) (⊎_elim (λ i. omega arith) (λ i. omega arith)) c.if-is_container.branch
 
 pub first_difference-overflow_sub-left-in-loop-left : goal.first_difference-overflow_sub-left-in-loop-left
 first_difference-overflow_sub-left-in-loop-left t c =
     let b = left-bounds c.loop-left.invariant.1 c.loop-left-test.true (some_left _ c.if-more-eq0.false) in
-    let g = c.well-formed in
+    let g = c.well_formed in
     ⊎_elim (λ i. omega arith) (⊎_elim (λ i. omega arith) (λ i. omega arith)) c.if-is_container.branch
 
 pub first_difference-overflow_mul-bt : goal.first_difference-overflow_mul-bt
@@ -178,7 +178,7 @@ first_difference-overflow_mul-bt t c =
     let b = left-bounds c.loop-left.invariant.1
     c.loop-left-test.true
     (some_left _ c.if-more-eq0.false) in
-    let g = c.well-formed in
+    let g = c.well_formed in
     ⊎_elim (λ i. omega arith) (⊎_elim (λ i. omega arith) (λ i. omega arith))
     c.if-is_container.branch
 
@@ -187,20 +187,20 @@ first_difference-overflow_add-bt-in-loop-left t c =
     let b = left-bounds c.loop-left.invariant.1
     c.loop-left-test.true
     (some_left _ c.if-more-eq0.false) in
-    let g = c.well-formed in
+    let g = c.well_formed in
     ⊎_elim (λ i. omega arith) (⊎_elim (λ i. omega arith) (λ i. omega arith))
     c.if-is_container.branch
 
 pub first_difference-overflow_sub-more-in-loop-left : goal.first_difference-overflow_sub-more-in-loop-left
 first_difference-overflow_sub-more-in-loop-left t c =
     let b = left-bounds c.loop-left.invariant.1 c.loop-left-test.true (some_left _ c.if-more-eq0.false) in
-    let g = c.well-formed in
+    let g = c.well_formed in
     ⊎_elim (λ i. omega arith) (⊎_elim (λ i. omega arith) (λ i. omega arith)) c.if-is_container.branch
 
 pub first_difference-loop-left-smaller : goal.first_difference-loop-left-smaller
 first_difference-loop-left-smaller t c =
     let b = left-bounds c.loop-left.invariant.1 c.loop-left-test.true (some_left _ c.if-more-eq0.false) in
-    let g = c.well-formed in
+    let g = c.well_formed in
     ⊎_elim (λ i. omega arith) (⊎_elim (λ i. omega arith) (λ i. omega arith)) c.if-is_container.branch
 
 pub first_difference-loop-left-preserved : goal.first_difference-loop-left-preserved
@@ -229,55 +229,55 @@ first_difference-returns t c = left_end c.loop-left.invariant.1 c.loop-left-test
 
 pub items_difference-slice_bounds-first_difference-count : goal.items_difference-slice_bounds-first_difference-count
 items_difference-slice_bounds-first_difference-count t c =
-    let p = c.requires.kinds_and_names in
-    let g = c.well-formed in
+    let p = c.requires in
+    let g = c.well_formed in
     omega arith
 
 pub items_difference-slice_bounds-first_difference-count-2 : goal.items_difference-slice_bounds-first_difference-count-2
 items_difference-slice_bounds-first_difference-count-2 t c =
-    let p = c.requires.kinds_and_names in
-    let g = c.well-formed in
+    let p = c.requires in
+    let g = c.well_formed in
     omega arith
 
 pub items_difference-overflow_add-at : goal.items_difference-overflow_add-at
 items_difference-overflow_add-at t c =
-    let p = c.requires.kinds_and_names in
-    let g = c.well-formed in
+    let p = c.requires in
+    let g = c.well_formed in
     omega arith
 
 pub items_difference-overflow_sub-c : goal.items_difference-overflow_sub-c
 items_difference-overflow_sub-c t c =
-    let p = c.requires.kinds_and_names in
-    let g = c.well-formed in
+    let p = c.requires in
+    let g = c.well_formed in
     omega arith
 
 pub items_difference-slice_bounds-first_difference-count-3 : goal.items_difference-slice_bounds-first_difference-count-3
 items_difference-slice_bounds-first_difference-count-3 t c =
-    let p = c.requires.kinds_and_names in
-    let g = c.well-formed in
+    let p = c.requires in
+    let g = c.well_formed in
     omega arith
 
 pub items_difference-slice_bounds-first_difference-count-4 : goal.items_difference-slice_bounds-first_difference-count-4
 items_difference-slice_bounds-first_difference-count-4 t c =
-    let p = c.requires.kinds_and_names in
-    let g = c.well-formed in
+    let p = c.requires in
+    let g = c.well_formed in
     omega arith
 
 pub items_difference-overflow_add-bt : goal.items_difference-overflow_add-bt
 items_difference-overflow_add-bt t c =
-    let p = c.requires.kinds_and_names in
-    let g = c.well-formed in
+    let p = c.requires in
+    let g = c.well_formed in
     omega arith
 
 pub items_difference-overflow_sub-d : goal.items_difference-overflow_sub-d
 items_difference-overflow_sub-d t c =
-    let p = c.requires.kinds_and_names in
-    let g = c.well-formed in
+    let p = c.requires in
+    let g = c.well_formed in
     omega arith
 
 pub items_difference-first_difference-requires : goal.items_difference-first_difference-requires
-items_difference-first_difference-requires t c = let p = c.requires.kinds_and_names in
-    rw (whole, whole, whole, whole) (omega arith, ((p.0.2, p.0.3), p.1))
+items_difference-first_difference-requires t c = let p = c.requires in
+    rw (whole, whole, whole, whole) (omega arith, ((p.measure?.2, p.measure?.3), p))
 
 pub items_difference-returns : goal.items_difference-returns
 items_difference-returns t c = rw (whole, whole, whole, whole) at c.first_difference.ensures

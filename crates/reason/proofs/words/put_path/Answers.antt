@@ -21,7 +21,7 @@ pub loop-at-preserved : goal.loop-at-preserved
 loop-at-preserved c =
     let l = c.loop-at in
     let w = c.item_towards-item.ensures in
-    (w.whole, w.holds, then-put _ _ (rest-step _ _ _ _ _ w) l.invariant.2 c.put_item-to.ensures, c.put_item-to.auto.0 ∙ l.invariant.3)
+    (w.whole, w.holds, then-put _ _ (rest-step _ _ _ _ _ w) l.invariant.2 c.put_item-to.ensures, c.put_item-to.auto.out ∙ l.invariant.3)
 
 pub shape_of-out : goal.shape_of-out
 shape_of-out c = c.loop-at.invariant.3
