@@ -30,6 +30,9 @@ returns c = let a = c.args in
     let z = zeros-lent 2001 a.n p.2 in
     let f = c.finish.ensures in
     let t = back-taken a.n _ _ (c.place-whole.ensures.as_long ∙ z.0) in
-    let n = p.0.some-node in record { answers = λ m o s. walked-answer m s a.nodes.now a.n p.1 (omega arith) _ _ z.0 z.1 _ (l.below m o s) a.limit (omega arith)
-          (f.answers ∙ ap (finished a.limit x) t); fills = λ m o s. walked-list m s a.nodes.now a.n p.1 (omega arith) _ _ z.0 z.1 _ (l.below m o s) a.limit (omega arith)
-          a.offsets.now (f.fills ∙ ap (λ v. list_after (finished a.limit x v) v a.offsets.now) t) }
+    let n = p.0.some-node in record {
+      answers = λ m o s. walked-answer m s a.nodes.now a.n p.1 (omega arith) _ _ z.0 z.1 _ (l.below m o s) a.limit (omega arith)
+          (f.answers ∙ ap (finished a.limit x) t);
+      fills = λ m o s. walked-list m s a.nodes.now a.n p.1 (omega arith) _ _ z.0 z.1 _ (l.below m o s) a.limit (omega arith)
+          a.offsets.now (f.fills ∙ ap (λ v. list_after (finished a.limit x v) v a.offsets.now) t);
+    }

@@ -10,7 +10,7 @@ lay_out_any-requires c =
     rw whole (p.1, p.2, p.3, p.4, c.quick_room-x.ensures.passed c.if-x-eq0.true)
 
 pub returns-then-x-eq0 : goal.returns-then-x-eq0
-returns-then-x-eq0 c =  record { answers = λ m o s. rw whole at (c.lay_out_any.ensures.answers m o s); fills = λ m o s. rw whole at (c.lay_out_any.ensures.fills m o s) }
+returns-then-x-eq0 c = record { answers = λ m o s. rw whole at (c.lay_out_any.ensures.answers m o s); fills = λ m o s. rw whole at (c.lay_out_any.ensures.fills m o s) }
 
 pub overflow_cast-whole : goal.overflow_cast-whole
 overflow_cast-whole c =
@@ -27,7 +27,10 @@ returns c = let a = c.args in
     let g = q.ensures.0 (omega arith) in
     let f = rw whole at c.finish.ensures in
     let n = p.1.some-node in
-    let w = a.nodes.now in record { answers = λ m o s. answer-by m s w a.limit refl (g.sized m o s)
-          (walked-answer m s w _ refl (omega arith) g.first _ g.long g.zeros _ (g.laid.below m o s) a.limit (omega arith) f.0); fills = λ m o s. list-by m s w a.limit refl (g.sized m o s) a.offsets.now
+    let w = a.nodes.now in record {
+      answers = λ m o s. answer-by m s w a.limit refl (g.sized m o s)
+          (walked-answer m s w _ refl (omega arith) g.first _ g.long g.zeros _ (g.laid.below m o s) a.limit (omega arith) f.0);
+      fills = λ m o s. list-by m s w a.limit refl (g.sized m o s) a.offsets.now
           (walked-list m s w _ refl (omega arith) g.first _ g.long g.zeros _ (g.laid.below m o s) a.limit (omega arith) a.offsets.now f.1
-          ∙ listed m s w _ _) }
+          ∙ listed m s w _ _);
+    }

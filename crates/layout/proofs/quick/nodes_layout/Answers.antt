@@ -15,9 +15,12 @@ pub returns-then-row-ge-ROWS : goal.returns-then-row-ge-ROWS
 returns-then-row-ge-ROWS c = let a = c.args in record { answers = λ s. (no-row-answer a.row (trees s a.nodes.now a.n 0) a.offsets.now c.if-row-ge-ROWS.true).0; fills = λ s. (no-row-answer a.row (trees s a.nodes.now a.n 0) a.offsets.now c.if-row-ge-ROWS.true).1 }
 
 pub returns-then-offsets-n : goal.returns-then-offsets-n
-returns-then-offsets-n c = let a = c.args in record { answers = λ s. (short-answer a.row (trees s a.nodes.now a.n 0) a.offsets.now c.if-row-ge-ROWS.false
-          (subst (λ n. length a.offsets.now < n) (sym (trees-count s a.nodes.now a.n 0)) c.if-offsets-n.true)).0; fills = λ s. (short-answer a.row (trees s a.nodes.now a.n 0) a.offsets.now c.if-row-ge-ROWS.false
-          (subst (λ n. length a.offsets.now < n) (sym (trees-count s a.nodes.now a.n 0)) c.if-offsets-n.true)).1 }
+returns-then-offsets-n c = let a = c.args in record {
+  answers = λ s. (short-answer a.row (trees s a.nodes.now a.n 0) a.offsets.now c.if-row-ge-ROWS.false
+      (subst (λ n. length a.offsets.now < n) (sym (trees-count s a.nodes.now a.n 0)) c.if-offsets-n.true)).0;
+  fills = λ s. (short-answer a.row (trees s a.nodes.now a.n 0) a.offsets.now c.if-row-ge-ROWS.false
+      (subst (λ n. length a.offsets.now < n) (sym (trees-count s a.nodes.now a.n 0)) c.if-offsets-n.true)).1;
+}
 
 pub lay_out_nodes-requires : goal.lay_out_nodes-requires
 lay_out_nodes-requires c =
@@ -28,6 +31,9 @@ returns c = let a = c.args in
     let p = c.requires in
     let h = c.if-row-ge-ROWS.false in
     let w = a.nodes.now in
-    let m = widths a.row in record { answers = λ s. row-answer a.row h s w a.n p.0 p.1 a.offsets.now c.if-offsets-n.false
-          ((rw whole at (c.lay_out_nodes.ensures.answers m (table-row a.row h) s)) ∙ ap (answer_at m s w) c.max_size.ensures); fills = λ s. row_list a.row h s w a.n p.0 p.1 a.offsets.now c.if-offsets-n.false
-          ((rw whole at (c.lay_out_nodes.ensures.fills m (table-row a.row h) s)) ∙ ap (λ l. list_for m s w l a.offsets.now) c.max_size.ensures) }
+    let m = widths a.row in record {
+      answers = λ s. row-answer a.row h s w a.n p.0 p.1 a.offsets.now c.if-offsets-n.false
+          ((rw whole at (c.lay_out_nodes.ensures.answers m (table-row a.row h) s)) ∙ ap (answer_at m s w) c.max_size.ensures);
+      fills = λ s. row_list a.row h s w a.n p.0 p.1 a.offsets.now c.if-offsets-n.false
+          ((rw whole at (c.lay_out_nodes.ensures.fills m (table-row a.row h) s)) ∙ ap (λ l. list_for m s w l a.offsets.now) c.max_size.ensures);
+    }
