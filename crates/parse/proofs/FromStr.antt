@@ -7,7 +7,7 @@ use mathlib.Core.Option.{Option, some, none}
 use native.Mathlib.Nat.{sub_self}
 use native.Mathlib.Omega.{arith}
 use denote.Ref.{Bor}
-use borrow.Rule.Slice.PartAt.{sl_part}
+use borrow.Rule.Slice.PartAt.{sl_partˢ}
 use borrow.Rule.Slice.Shared.{by_byte}
 use lib.ListN.{length, take, drop, length-drop}
 use Rattle.kinds.specs.Parse as P
@@ -120,8 +120,8 @@ whole-tree strict text w ns a to r h =
 -- ---- Reading from the start.
 
 -- The caller's text from a place on.
-pub end-part : (text : Bor (List ℕ)) (to γ : ℕ) → to ≤ length text.now → EndOf text (sl_part text (by_byte to text.ref_ptr.1) to (length text.now) γ)
-end-part text to γ h =
+pub end-part : (text : Bor (List ℕ)) (to : ℕ) → to ≤ length text.now → EndOf text (sl_partˢ text (by_byte to text.ref_ptr.1) to (length text.now))
+end-part text to h =
     let e : take (length text.now - to) (drop to text.now) ≡ drop to text.now = mid-rest to text.now in
     let l : length text.now - length (take (length text.now - to) (drop to text.now)) ≡ to = omega (arith, ap length e, length-drop to text.now) in
     record {

@@ -21,5 +21,5 @@ returns-in-68 c =
 
 pub returns-in_default : goal.returns-in_default
 returns-in_default c =
-    let r = c.in_default.rest in
+    let r = c.in_default.in_default-own.rest in
     c.refused-in_default.ensures ∙ answer-refused _ _ (omega arith) _ _ _ (complex-no _ _ c.if-text-at.false r.0.0.1 r.0.1 r.1)

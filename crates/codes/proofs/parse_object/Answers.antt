@@ -18,4 +18,4 @@ returns-in-34 c =
 
 pub returns-in_default : goal.returns-in_default
 returns-in_default c =
-    answer-kind _ _ (omega arith) _ _ _ _ c.kind-in_default.ensures (object-bare _ _ c.if-text-at.false c.in_default.rest.0.1 c.in_default.rest.1)
+    answer-kind _ _ (omega arith) _ _ _ _ c.kind-in_default.ensures (object-bare _ _ c.if-text-at.false c.in_default.in_default-own.rest.0.1 c.in_default.in_default-own.rest.1)

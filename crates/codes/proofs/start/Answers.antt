@@ -128,4 +128,4 @@ returns-in-41 c = word-here _ 41 c.in-41.is
 
 pub returns-in_default : goal.returns-in_default
 returns-in_default c = no_word _ (differs-onto _ (41 ∷ 125 ∷ 93 ∷ 65 ∷ 106 ∷ 68 ∷ 63 ∷ 94 ∷ 98 ∷ 40 ∷ 123 ∷ 91 ∷ 58 ∷ 35 ∷ 64 ∷ 42 ∷ 118 ∷ 66 ∷ 100 ∷ 102 ∷ 81 ∷ 76 ∷
-    83 ∷ 73 ∷ 67 ∷ 113 ∷ 108 ∷ 115 ∷ 105 ∷ 99 ∷ []) [] c.in_default.rest tt)
+    83 ∷ 73 ∷ 67 ∷ 113 ∷ 108 ∷ 115 ∷ 105 ∷ 99 ∷ []) [] c.in_default.in_default-own.rest tt)

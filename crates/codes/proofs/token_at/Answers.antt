@@ -79,5 +79,5 @@ pub returns-in_default : goal.returns-in_default
 unfolding token_from has_parts numbers_of begin
 returns-in_default c =
     let none = begun-nothing _ _ c.start-begun.ensures c.if-begun-lt-PRIMITIVES.false
-    (differs-onto _ (37 ∷ 36 ∷ 35 ∷ 27 ∷ 34 ∷ 26 ∷ 33 ∷ 30 ∷ 29 ∷ 28 ∷ 32 ∷ []) [] c.in_default.rest tt) in
+    (differs-onto _ (37 ∷ 36 ∷ 35 ∷ 27 ∷ 34 ∷ 26 ∷ 33 ∷ 30 ∷ 29 ∷ 28 ∷ 32 ∷ []) [] c.in_default.in_default-own.rest tt) in
     c.refused.ensures ∙ answer-refused _ _ (omega arith) _ _ _ refl ∙ sym (token_begins _ _ c.if-text-at.false none)

@@ -4,8 +4,7 @@ use Rattle.expect.proofs.expect_u64.Goals as goal
 
 pub returns-then-m-n : goal.returns-then-m-n
 returns-then-m-n c =
-    let u = c4 in
-    let n = rw c.in-Value.is at (N.number_is _ _ _ _ u.before.before.requires u.parse-u64.ensures) in
+    let n = rw c.in-Value.is at (N.number_is _ _ _ _ c.requires c.parse_u64.ensures) in
     (number_is _ _ _ _ _ n.0 c.if-m-n.true, n.1.1)
 
 pub returns-in-Refused : goal.returns-in-Refused
@@ -15,6 +14,5 @@ returns-in-Refused c =
 
 pub returns-else-m-n : goal.returns-else-m-n
 returns-else-m-n c =
-    let u = c4 in
-    let n = rw c.in-Value.is at (N.number_is _ _ _ _ u.before.before.requires u.parse-u64.ensures) in
+    let n = rw c.in-Value.is at (N.number_is _ _ _ _ c.requires c.parse_u64.ensures) in
     number-other _ _ _ _ _ n.0 c.if-m-n.false

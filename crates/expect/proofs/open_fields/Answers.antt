@@ -22,14 +22,12 @@ returns-in-Refused c =
 
 pub returns-in-To : goal.returns-in-To
 returns-in-To c =
-    let k = c3 in
-    let e = k.before.before.before in
-    let a = e.before.before.before.before.args in
+    let a = c.args in
     let T : List ℕ = a.text.now in
-    let to : ℕ = e.next.given.0.0 in
-    let n = rw e.next.given.1 at e.before.before.expect-byte.ensures in
-    let m = rw c.in-To.is at (skipped-is T to _ _ n.1 k.skip-fields.ensures) in
-    (λ i. fields-skipped a.kind _ i (drop a.at T) (eq-eqb a.count 0 k.before.if1.true) (drop to T) n.0 ∙ m.0, m.1)
+    let to : ℕ = c.in-Remaining.next in
+    let n = rw c.in-Remaining.is at c.expect_byte.ensures in
+    let m = rw c.in-To.is at (skipped-is T to _ _ n.1 c.skip_fields.ensures) in
+    (λ i. fields-skipped a.kind _ i (drop a.at T) (eq-eqb a.count 0 c.if-count-eq0.true) (drop to T) n.0 ∙ m.0, m.1)
 
 pub returns-in-Remaining-expect_byte : goal.returns-in-Remaining-expect_byte
 returns-in-Remaining-expect_byte c =

@@ -6,7 +6,7 @@ use Rattle.lines.proofs.front_words.Goals as goal
 
 pub slice_bounds-result-end : goal.slice_bounds-result-end
 slice_bounds-result-end c =
-    sym (length-take-le c.args.n c.args.s.now c.if1.true)
+    sym (length-take-le c.args.n c.args.s.now c.if-n-s.true)
 
 pub returns : goal.returns
 returns c =

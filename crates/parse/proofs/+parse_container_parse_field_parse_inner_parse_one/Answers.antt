@@ -1,3 +1,4 @@
+use borrow.Enum.Refused.{opened}
 use Prim.Native.Nat.{ℕ, ◌+◌, ◌-◌}
 use mathlib.Core.Path.{refl, sym, ap, ◌∙◌}
 use mathlib.Core.List.{List, [], ◌∷◌}
@@ -80,7 +81,7 @@ parse_container-put_container-requires t c =
     let l = c.loop-words in
     let a = c.args in
     let k : ℕ = l.k + (x.result - l.to) in
-    let b : Lists = lists x.new.1.1.0 l.names in
+    let b : Lists = lists x.new.words l.names in
     let o : Items = Read (x.result + 1) k l.l in
     let ends : ItemsReads a.strict a.text.now x.result a.kind k l.l b b o = items-closed a.strict a.text.now x.result a.kind k
     l.l b
@@ -90,7 +91,7 @@ parse_container-put_container-requires t c =
     at c.put_name.ensures in
     let p = c.requires in
     let two = room-two a.text.now a.at a.n a.m (lists a.words.now a.names.now) p.ready p.at_byte (opens-closes _ _ p.opens) in
-    ((omega (arith, two, x.auto.1.1.0, l.invariant.1.1.0.0), omega (arith, q.names-is)), after_items _ _ _ _ b b o f.bound)
+    ((omega (arith, two, x.auto.words, l.invariant.1.1.0.0), omega (arith, q.names-is)), after_items _ _ _ _ b b o f.bound)
 
 pub parse_container-returns-then-closes_fields : goal.parse_container-returns-then-closes_fields
 parse_container-returns-then-closes_fields t c =
@@ -98,7 +99,7 @@ parse_container-returns-then-closes_fields t c =
     let l = c.loop-words in
     let a = c.args in
     let k : ℕ = l.k + (x.result - l.to) in
-    let b : Lists = lists x.new.1.1.0 l.names in
+    let b : Lists = lists x.new.words l.names in
     let o : Items = Read (x.result + 1) k l.l in
     let ends : ItemsReads a.strict a.text.now x.result a.kind k l.l b b o = items-closed a.strict a.text.now x.result a.kind k
     l.l b
@@ -118,10 +119,10 @@ parse_container-parse_field-p-requires t c =
     let q = rw c.in-Is.is
     at c.put_name.ensures in
     let ready = ready-codes
-    c.args.text.now l.to l.k l.l x.result l.words x.new.1.1.0 l.names l.invariant.0 x.ensures
-    x.auto.1.1.0 in
+    c.args.text.now l.to l.k l.l x.result l.words x.new.words l.names l.invariant.0 x.ensures
+    x.auto.words in
     rw (whole
-    c.args.text.now) (omega (arith, c.requires.measure?, l.invariant.1.0, x.ensures.onward, x.ensures.within, q.onward), ready)
+    c.args.text.now) (omega (arith, c.decreases, l.invariant.1.0, x.ensures.onward, x.ensures.within, q.onward), ready)
 
 pub parse_container-loop-words-smaller : goal.parse_container-loop-words-smaller
 parse_container-loop-words-smaller t c =
@@ -141,16 +142,16 @@ parse_container-loop-words-preserved t c =
     let l = c.loop-words in
     let a = c.args in
     let k : ℕ = l.k + (x.result - l.to) in
-    let b : Lists = lists x.new.1.1.0 l.names in
-    let z : Lists = lists i.new.1.1.1.0 i.new.1.1.1.1.1.0 in
+    let b : Lists = lists x.new.words l.names in
+    let z : Lists = lists i.new.words i.new.names in
     let r = rw (whole a.text.now) at (rw c.in-Encoding.is at i.ensures) in
-    let ready = ready-codes a.text.now l.to l.k l.l x.result l.words x.new.1.1.0 l.names l.invariant.0 x.ensures
-    x.auto.1.1.0 in (
-      ready-more a.text.now x.result k l.l b z _ _ _ ready i.auto.1.1.1.0 i.auto.1.1.1.1.1.0 r.bound,
+    let ready = ready-codes a.text.now l.to l.k l.l x.result l.words x.new.words l.names l.invariant.0 x.ensures
+    x.auto.words in (
+      ready-more a.text.now x.result k l.l b z _ _ _ ready i.auto.words i.auto.names r.bound,
       (
         omega (arith, l.invariant.1.0, x.ensures.onward, r.bound.onward),
         (
-          (i.auto.1.1.1.0 ∙ x.auto.1.1.0 ∙ l.invariant.1.1.0.0, i.auto.1.1.1.1.1.0 ∙ l.invariant.1.1.0.1),
+          (i.auto.words ∙ x.auto.words ∙ l.invariant.1.1.0.0, i.auto.names ∙ l.invariant.1.1.0.1),
           λ y f q. l.invariant.1.1.1 y f (x.ensures.reads a.strict a.kind l.l l.names y f
               (items_more a.strict a.text.now x.result a.kind k l.l b z _ _ _ y f r q)),
         ),
@@ -164,10 +165,10 @@ parse_container-put_container-requires-in_default t c =
     let l = c.loop-words in
     let a = c.args in
     let k : ℕ = l.k + (x.result - l.to) in
-    let b : Lists = lists x.new.1.1.0 l.names in
-    let z : Lists = lists i.new.1.1.1.0 i.new.1.1.1.1.1.0 in
+    let b : Lists = lists x.new.words l.names in
+    let z : Lists = lists i.new.words i.new.names in
     let o : Items = c.end_items.result in
-    let none = not_found i.result c.in_default.keys2 in
+    let none = not_found i.result (opened c.in_default.in_default-own.keys2) in
     let ends : ItemsReads a.strict a.text.now x.result a.kind k l.l b z o =
     rw c.end_items.ensures (items-end a.strict a.text.now x.result a.kind k l.l b z i.result none
     (rw (whole a.text.now) at i.ensures)) in
@@ -175,7 +176,7 @@ parse_container-put_container-requires-in_default t c =
     let q = rw c.in-Is.is at c.put_name.ensures in
     let p = c.requires in
     let two = room-two a.text.now a.at a.n a.m (lists a.words.now a.names.now) p.ready p.at_byte (opens-closes _ _ p.opens) in
-    ((omega (arith, two, i.auto.1.1.1.0, x.auto.1.1.0, l.invariant.1.1.0.0), omega (arith, q.names-is)), after_items _ _ _ _ _ _ o f.bound)
+    ((omega (arith, two, i.auto.words, x.auto.words, l.invariant.1.1.0.0), omega (arith, q.names-is)), after_items _ _ _ _ _ _ o f.bound)
 
 pub parse_container-shape_of-words-in_default : goal.parse_container-shape_of-words-in_default
 parse_container-shape_of-words-in_default t c =
@@ -196,10 +197,10 @@ parse_container-returns-in_default t c =
     let l = c.loop-words in
     let a = c.args in
     let k : ℕ = l.k + (x.result - l.to) in
-    let b : Lists = lists x.new.1.1.0 l.names in
-    let z : Lists = lists i.new.1.1.1.0 i.new.1.1.1.1.1.0 in
+    let b : Lists = lists x.new.words l.names in
+    let z : Lists = lists i.new.words i.new.names in
     let o : Items = c.end_items.result in
-    let none = not_found i.result c.in_default.keys2 in
+    let none = not_found i.result (opened c.in_default.in_default-own.keys2) in
     let ends : ItemsReads a.strict a.text.now x.result a.kind k l.l b z o =
     rw c.end_items.ensures (items-end a.strict a.text.now x.result a.kind k l.l b z i.result none
     (rw (whole a.text.now) at i.ensures)) in
@@ -222,7 +223,7 @@ pub parse_field-parse_container-requires : goal.parse_field-parse_container-requ
 parse_field-parse_container-requires t c =
     let opens = opened-is _ (sym c.opens_container.ensures ∙ c.if-opens_container.true) in
     rw (whole c.args.text.now) (
-      omega (arith, c.requires.measure?),
+      omega (arith, c.decreases),
       record {
         ready = c.requires;
         at_byte =
@@ -241,7 +242,7 @@ parse_field-returns-then-opens_container t c =
 pub parse_field-parse_inner-requires : goal.parse_field-parse_inner-requires
 parse_field-parse_inner-requires t c =
     rw (whole c.args.text.now)
-    (omega (arith, c.requires.measure?), c.requires)
+    (omega (arith, c.decreases), c.requires)
 
 pub parse_field-returns : goal.parse_field-returns
 parse_field-returns t c =
@@ -272,7 +273,7 @@ parse_inner-parse_one-p-requires t c =
     let r = run-to is_indirection _ _ _ p.at_place c.run_end-to.ensures in
     let ready = ready-run a.text.now a.at a.n a.m _ b p r in
     rw (whole a.text.now) (
-      omega (arith, c.requires.measure?, r.onward),
+      omega (arith, c.decreases, r.onward),
       record { ready = ready; direct = r.stopped },
     )
 
@@ -287,7 +288,7 @@ parse_inner-put_indirections-requires t c =
     record {
       at_place = p.at_place;
       ends = c.run_end-to.ensures;
-      room = λ l. omega (arith, i.auto.1.1.1.0, run_room a.text.now a.at a.n a.m _ b p r l);
+      room = λ l. omega (arith, i.auto.words, run_room a.text.now a.at a.n a.m _ b p r l);
       after = after-bound _ _ _ _ _ _ i.result q.bound;
     }
 
@@ -302,7 +303,7 @@ pub parse_inner-returns : goal.parse_inner-returns
 parse_inner-returns t c =
     let i = c.parse_one-p in
     let a = c.args in
-    c.put_indirections.ensures a.strict (lists a.words.now a.names.now) i.new.1.1.1.1.1.0
+    c.put_indirections.ensures a.strict (lists a.words.now a.names.now) i.new.names
     (rw (whole a.text.now) at i.ensures)
 
 pub parse_one-returns-then-text-at : goal.parse_one-returns-then-text-at
@@ -341,7 +342,7 @@ parse_one-parse_inner-p-requires t c =
     rw (whole a.text.now) (
       omega (
         arith,
-        c.requires.measure?,
+        c.decreases,
         q.1.1,
       ),
       ready,
@@ -355,14 +356,14 @@ parse_one-put_array-requires t c =
     let st = starts _ 91 c.in-91.is refl in
     let two = room-two a.text.now a.at a.n a.m (lists a.words.now a.names.now)
     c.requires.ready c.if-text-at.false (ap closes st) in
-    (omega (arith, two, i.auto.1.1.1.0), after-parsed _ _ _ _ _ _ i.result i.ensures.bound)
+    (omega (arith, two, i.auto.words), after-parsed _ _ _ _ _ _ i.result i.ensures.bound)
 
 pub parse_one-parse_container-requires : goal.parse_one-parse_container-requires
 parse_one-parse_container-requires t c =
     let p = c.requires in
     let opens = opened-is _ (sym c.opens_container.ensures ∙ c.if-opens_container.true) in
     rw (whole c.args.text.now) (
-      omega (arith, c.requires.measure?),
+      omega (arith, c.decreases),
       record {
         ready = p.ready;
         at_byte = c.if-text-at.false;
@@ -385,7 +386,7 @@ parse_one-parse_simple-requires t c =
       at_place = c.if-text-at.false;
       words-room = p.ready.words-room;
       plain = without-parts _
-          (((d, c.in_default.rest.1), o.0), o.1);
+          (((d, c.in_default.in_default-own.rest.1), o.0), o.1);
     }
 
 pub parse_one-returns-in-Refused : goal.parse_one-returns-in-Refused
@@ -417,7 +418,7 @@ parse_one-returns-in-Value t c =
     at (length-is a.text.now a.at h st a.strict _
     c.length_here.ensures) in
     let i = c.parse_inner-p in
-    let z : Lists = lists i.new.1.1.1.0 i.new.1.1.1.1.1.0 in
+    let z : Lists = lists i.new.words i.new.names in
     let d = c.put_array.ensures in
     rw (d.0, d.1) (reads-item a.strict a.text.now _ a.n a.m _ _ h st q.0 q.1.0 q.1.1.0 q.1.1.1 b z i.result
     (rw (whole a.text.now) at i.ensures))

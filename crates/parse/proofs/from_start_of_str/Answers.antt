@@ -30,16 +30,16 @@ slice_bounds-result-start-then-unknown_digit c =
 
 pub returns-in-Tree : goal.returns-in-Tree
 returns-in-Tree c = let r = rw c.in-Tree.is at c.parse_encoding_or_none.ensures in
-    let s = start-tree _ _ _ _ _ r in let p = (s.0, (end-part _ _ _ r.within, s.1)) in record { rest = p.0; part = p.1.0; answers = p.1.1.0; fills = p.1.1.1.0; names = p.1.1.1.1 }
+    let s = start-tree _ _ _ _ _ r in record { rest = s.0; part = end-part _ _ r.within; answers = s.1.0; fills = s.1.1.0; names = s.1.1.1 }
 
 pub returns-in-Away : goal.returns-in-Away
 returns-in-Away c = let r = rw c.in-Away.is at c.parse_encoding_or_none.ensures in
-    let s = start-away _ _ _ _ _ _ _ r.0 r.1.words-kept r.1.names-kept c.refusal_words.ensures in let p = (s.0, (end_whole _, s.1)) in record { rest = p.0; part = p.1.0; answers = p.1.1.0; fills = p.1.1.1.0; names = p.1.1.1.1 }
+    let s = start-away _ _ _ _ _ _ _ r.0 r.1.words-kept r.1.names-kept c.refusal_words.ensures in record { rest = s.0; part = end_whole _; answers = s.1.0; fills = s.1.1.0; names = s.1.1.1 }
 
 pub returns-then-unknown_digit : goal.returns-then-unknown_digit
 returns-then-unknown_digit c = let r = rw c.in-Refused.is at c.parse_encoding_or_none.ensures in
-    let s = start-digit _ _ _ _ _ _ _ r (sym c.unknown_digit.ensures ∙ c.if-unknown_digit.true) c.put_none.ensures in let p = (s.0, (end-part _ _ _ r.within, s.1)) in record { rest = p.0; part = p.1.0; answers = p.1.1.0; fills = p.1.1.1.0; names = p.1.1.1.1 }
+    let s = start-digit _ _ _ _ _ _ _ r (sym c.unknown_digit.ensures ∙ c.if-unknown_digit.true) c.put_none.ensures in record { rest = s.0; part = end-part _ _ r.within; answers = s.1.0; fills = s.1.1.0; names = s.1.1.1 }
 
 pub returns-else-unknown_digit : goal.returns-else-unknown_digit
 returns-else-unknown_digit c = let r = rw c.in-Refused.is at c.parse_encoding_or_none.ensures in
-    let s = start-refused _ _ _ _ _ _ _ r (sym c.unknown_digit.ensures ∙ c.if-unknown_digit.false) c.refusal_words-else-unknown_digit.ensures in let p = (s.0, (end_whole _, s.1)) in record { rest = p.0; part = p.1.0; answers = p.1.1.0; fills = p.1.1.1.0; names = p.1.1.1.1 }
+    let s = start-refused _ _ _ _ _ _ _ r (sym c.unknown_digit.ensures ∙ c.if-unknown_digit.false) c.refusal_words-else-unknown_digit.ensures in record { rest = s.0; part = end_whole _; answers = s.1.0; fills = s.1.1.0; names = s.1.1.1 }

@@ -32,11 +32,11 @@ pub parse_inner-p-requires : goal.parse_inner-p-requires
 parse_inner-p-requires c =
     let T : List ℕ = c.args.text.now in
     let clear = c.clear_sheet in
-    let w : List ℕ = clear.new.1.0 in
+    let w : List ℕ = clear.new.words in
     let at = (strip-place T _ c.strip_leading_qualifiers-at.ensures).1 in
     rw (whole T) (ready-whole T _ _ _ at
-    (omega (arith, c.if-words-n.false, clear.auto.1.0, ap length (mid-rest header_words w), length-drop header_words w))
-    (omega (arith, c.if-names-n.false, clear.auto.1.1.0)))
+    (omega (arith, c.if-words-n.false, clear.auto.words, ap length (mid-rest header_words w), length-drop header_words w))
+    (omega (arith, c.if-names-n.false, clear.auto.names)))
 
 pub encoding_or_none-requires : goal.encoding_or_none-requires
 encoding_or_none-requires c =
@@ -45,9 +45,9 @@ encoding_or_none-requires c =
     let clear = c.clear_sheet in
     let i = c.parse_inner-p in
     let T : List ℕ = a.text.now in
-    let z : Lists = lists i.new.1.1.1.0 i.new.1.1.1.1.1.0 in
-    joined-fits T strip.result a.words.now clear.new.1.0 a.names.now clear.new.1.1.0 _ z i.result c.if-words-n.false c.if-names-n.false
-    (strip-place T _ strip.ensures).1 clear.auto.1.0 i.auto.1.1.1.0 clear.auto.1.1.0 i.auto.1.1.1.1.1.0
+    let z : Lists = lists i.new.words i.new.names in
+    joined-fits T strip.result a.words.now clear.new.words a.names.now clear.new.names _ z i.result c.if-words-n.false c.if-names-n.false
+    (strip-place T _ strip.ensures).1 clear.auto.words i.auto.words clear.auto.names i.auto.names
     (rw (whole T) at i.ensures).bound
 
 pub returns : goal.returns
@@ -55,7 +55,7 @@ returns c =
     let a = c.args in
     let i = c.parse_inner-p in
     let T : List ℕ = a.text.now in
-    let z : Lists = lists i.new.1.1.1.0 i.new.1.1.1.1.1.0 in
+    let z : Lists = lists i.new.words i.new.names in
     let strip = strip-place T _ c.strip_leading_qualifiers-at.ensures in
     let clear = c.clear_sheet.ensures in
     let ends = c.encoding_or_none.ensures in

@@ -12,5 +12,5 @@ returns c =
     let w : List ℕ = a.words.now in
     let x = c.put_node in
     let y = c.put_node-2 in
-    let same = same_len_mid header_words (length w - header_words) w x.new.0 x.auto.0 in
-    (code_put a.p w x.new.0 y.new.0 _ c.requires.0 x.ensures same y.ensures c.put_header.ensures, first-cleared a.names.now c.requires.1)
+    let same = same_len_mid header_words (length w - header_words) w x.new.words x.auto.words in
+    (code_put a.p w x.new.words y.new.words _ c.requires.0 x.ensures same y.ensures c.put_header.ensures, first-cleared a.names.now c.requires.1)

@@ -41,7 +41,7 @@ loop-i-preserved c =
     let w = c.put_node in
     let code = single-code _ _ c.single_kind-p.ensures (omega (arith, c.if-p-ge-PRIMITIVES.false)) in
     let more = codes-more a.text.now a.at a.n a.words.now l.words l.i c.single_kind-p.result l.invariant.0 c.loop-i-test.true code in
-    (rw w.ensures more, w.auto.0 ∙ l.invariant.1)
+    (rw w.ensures more, w.auto.words ∙ l.invariant.1)
 
 pub shape_of-words : goal.shape_of-words
 shape_of-words c = c.loop-i.invariant.1

@@ -44,17 +44,16 @@ loop-i-smaller c = omega arith
 pub loop-i-preserved : goal.loop-i-preserved
 loop-i-preserved c =
     let l = c.loop-i in
-    let s = c10 in
-    let a = s.args in
+    let a = c.args in
     let w = c.put_indirection-p in
-    let run = run-to is_indirection _ _ _ s.requires.at_place s.requires.ends in
+    let run = run-to is_indirection _ _ _ c.requires.at_place c.requires.ends in
     let k : ℕ = a.n + (l.i - 1 - a.at) in
     let here = run.run (l.i - 1) (omega arith) (omega arith) in (
       omega arith,
       (
         rw w.ensures.0 (after-held l.p l.i k a.m (after_less l.p _ _ (omega arith) l.invariant.1.0)),
         (
-          w.auto.1.1.1.0 ∙ l.invariant.1.1.0,
+          w.auto.words ∙ l.invariant.1.1.0,
           λ strict b ns r. rw (w.ensures.0, w.ensures.1, c.indirection_word.ensures)
               (reads-indirection strict a.text.now (l.i - 1) l.i k (a.n + (l.i - a.at)) a.m (omega arith) (omega arith)
               (omega (arith, run.within)) here b (lists l.words ns) l.p (l.invariant.1.1.1 strict b ns r)),

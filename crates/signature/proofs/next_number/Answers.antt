@@ -6,22 +6,16 @@ use Rattle.signature.proofs.next_number.Goals as goal
 
 pub returns-in-Value : goal.returns-in-Value
 returns-in-Value c =
-    let n = c3 in
-    let p = n.before.before in
-    let r = rw c.in-Value.is at (number_is p.args.text.now max_u32 p.args.at _ p.requires.1 n.parse-u32.ensures) in
-    let d = rw c.in-Value.is at (number_digits p.args.text.now max_u32 p.args.at _ n.parse-u32.ensures) in
-    number_read _ _ p.requires.1 _ _ _ _ r.1.1 r.0 d
+    let r = rw c.in-Value.is at (number_is c.args.text.now max_u32 c.args.at _ c.requires.1 c.parse_u32.ensures) in
+    let d = rw c.in-Value.is at (number_digits c.args.text.now max_u32 c.args.at _ c.parse_u32.ensures) in
+    number_read _ _ c.requires.1 _ _ _ _ r.1.1 r.0 d
 
 pub returns-then-starts_digit : goal.returns-then-starts_digit
 returns-then-starts_digit c =
-    let n = c5 in
-    let p = n.before.before in
-    let r = rw c.in-Refused.is at (number_is p.args.text.now max_u32 p.args.at _ p.requires.1 n.parse-u32.ensures) in
-    number-large _ _ p.requires.1 _ _ r.1.1 r.0 (sym c.starts_digit.ensures ∙ c.if-starts_digit.true)
+    let r = rw c.in-Refused.is at (number_is c.args.text.now max_u32 c.args.at _ c.requires.1 c.parse_u32.ensures) in
+    number-large _ _ c.requires.1 _ _ r.1.1 r.0 (sym c.starts_digit.ensures ∙ c.if-starts_digit.true)
 
 pub returns-else-starts_digit : goal.returns-else-starts_digit
 returns-else-starts_digit c =
-    let n = c5 in
-    let p = n.before.before in
-    let r = rw c.in-Refused.is at (number_is p.args.text.now max_u32 p.args.at _ p.requires.1 n.parse-u32.ensures) in
-    number-missing _ _ p.requires.1 _ _ r.1.1 r.0 (sym c.starts_digit.ensures ∙ c.if-starts_digit.false)
+    let r = rw c.in-Refused.is at (number_is c.args.text.now max_u32 c.args.at _ c.requires.1 c.parse_u32.ensures) in
+    number-missing _ _ c.requires.1 _ _ r.1.1 r.0 (sym c.starts_digit.ensures ∙ c.if-starts_digit.false)

@@ -19,10 +19,9 @@ returns-in-Refused c =
 
 pub put_entry-requires : goal.put_entry-requires
 put_entry-requires c =
-    let n = c4 in
-    let l = n.before.before.loop in
-    let e = rw c.in-Entry.is at n.next-entry.ensures in
-    omega (arith, read_length _ _ _ _ _ l.invariant, l.invariant.few, e.onward, e.within, n.before.before.before.before.before.requires)
+    let l = c.loop-at in
+    let e = rw c.in-Entry.is at c.next_entry.ensures in
+    omega (arith, read_length _ _ _ _ _ l.invariant, l.invariant.few, e.onward, e.within, c.requires)
 
 pub overflow_add-k : goal.overflow_add-k
 overflow_add-k c =
@@ -31,15 +30,13 @@ overflow_add-k c =
 
 pub loop-at-smaller : goal.loop-at-smaller
 loop-at-smaller c =
-    let n = c7 in
-    let e = rw c.in-Entry.is at n.next-entry.ensures in
+    let e = rw c.in-Entry.is at c.next_entry.ensures in
     omega (arith, e.onward, e.within)
 
 pub loop-at-preserved : goal.loop-at-preserved
 loop-at-preserved c =
-    let n = c7 in
-    let l = n.before.before.loop in
-    let e = rw c.in-Entry.is at n.next-entry.ensures in
+    let l = c.loop-at in
+    let e = rw c.in-Entry.is at c.next_entry.ensures in
     read_more _ _ _ _ _ l.invariant _ _ _ _ _ e c.put_entry.ensures
 
 pub shape_of-list : goal.shape_of-list

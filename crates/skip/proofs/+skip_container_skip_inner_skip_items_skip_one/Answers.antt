@@ -1,3 +1,4 @@
+use borrow.Enum.Refused.{opened}
 use mathlib.Core.List.{[], ◌∷◌}
 use mathlib.Core.Path.{refl, sym, ◌∙◌}
 use native.Mathlib.Omega.{arith}
@@ -35,7 +36,7 @@ pub skip_container-skip_items-requires : goal.skip_container-skip_items-requires
 skip_container-skip_items-requires t c =
     let at = c.requires.at_place in
     let r = rw c.in-Is.is at (name-is c.args.text.now (c.args.at + 1) _ _ (omega arith) c.parse_name.ensures) in
-    rw (whole c.args.text.now) (omega (arith, c.requires.measure?, r.some, r.passed, r.within), r.within)
+    rw (whole c.args.text.now) (omega (arith, c.decreases, r.some, r.passed, r.within), r.within)
 
 pub skip_container-returns-in-Refused : goal.skip_container-returns-in-Refused
 skip_container-returns-in-Refused t c =
@@ -62,7 +63,7 @@ pub skip_inner-skip_one-requires : goal.skip_inner-skip_one-requires
 skip_inner-skip_one-requires t c =
     let r = run-to is_indirection _ _ _ c.requires c.indirections_end-to.ensures in
     let h = c.if-text-to.false in
-    rw (whole c.args.text.now) (omega (arith, c.requires.measure?, r.onward), record { at_place = h; direct = r.stopped h })
+    rw (whole c.args.text.now) (omega (arith, c.decreases, r.onward), record { at_place = h; direct = r.stopped h })
 
 pub skip_inner-returns : goal.skip_inner-returns
 skip_inner-returns t c =
@@ -75,7 +76,7 @@ skip_items-loop-kind-init t c = (omega arith, (c.requires, λ i s. s))
 pub skip_items-skip_inner-s-requires : goal.skip_items-skip_inner-s-requires
 skip_items-skip_inner-s-requires t c =
     let r = run-to is_code _ _ _ c.loop-kind.invariant.1.0 c.codes_end-past.ensures in
-    rw (whole c.args.text.now) (omega (arith, c.requires.measure?, c.loop-kind.invariant.0, r.onward), r.within)
+    rw (whole c.args.text.now) (omega (arith, c.decreases, c.loop-kind.invariant.0, r.onward), r.within)
 
 pub skip_items-overflow_add-result : goal.skip_items-overflow_add-result
 skip_items-overflow_add-result t c =
@@ -105,7 +106,7 @@ skip_items-returns-in_default t c =
     let v = c.loop-kind.invariant in
     let x = run-to is_code _ _ _ v.1.0 c.codes_end-past.ensures in
     let r = rw (whole c.args.text.now) at c.skip_inner-s.ensures in
-    let none = not-passed c.skip_inner-s.result c.in_default.keys2 in
+    let none = not-passed c.skip_inner-s.result (opened c.in_default.in_default-own.keys2) in
     v.1.1 _ (skipped-codes _ _ _ _ (skipped-end _ _ _ c.skip_inner-s.result _ none r c.end_skipped.ensures) _ x)
 
 pub skip_one-bounds-text-at : goal.skip_one-bounds-text-at
@@ -118,17 +119,17 @@ pub skip_one-skip_inner-requires : goal.skip_one-skip_inner-requires
 skip_one-skip_inner-requires t c =
     let at = c.requires.at_place in
     let n = rw c.in-Value.is at (number_is c.args.text.now _ (c.args.at + 1) _ (omega arith) c.parse_u64.ensures) in
-    rw (whole c.args.text.now) (omega (arith, c.requires.measure?, n.1), n.1.1)
+    rw (whole c.args.text.now) (omega (arith, c.decreases, n.1), n.1.1)
 
 pub skip_one-skip_container-requires : goal.skip_one-skip_container-requires
 unfolding start in_singles singles in_others others
 skip_one-skip_container-requires t c =
-    rw (whole c.args.text.now) (omega (arith, c.requires.measure?), record { at_place = c.requires.at_place; opens = starts _ 123 c.in-123.is refl })
+    rw (whole c.args.text.now) (omega (arith, c.decreases), record { at_place = c.requires.at_place; opens = starts _ 123 c.in-123.is refl })
 
 pub skip_one-skip_container-requires-in-40 : goal.skip_one-skip_container-requires-in-40
 unfolding start in_singles singles in_others others
 skip_one-skip_container-requires-in-40 t c =
-    rw (whole c.args.text.now) (omega (arith, c.requires.measure?), record { at_place = c.requires.at_place; opens = starts _ 40 c.in-40.is refl })
+    rw (whole c.args.text.now) (omega (arith, c.decreases), record { at_place = c.requires.at_place; opens = starts _ 40 c.in-40.is refl })
 
 pub skip_one-returns-in-Refused : goal.skip_one-returns-in-Refused
 unfolding start in_singles singles in_others others
@@ -154,7 +155,7 @@ skip_one-returns-in-40 t c = rw (whole c.args.text.now) at c.skip_container-in-4
 pub skip_one-returns-in_default : goal.skip_one-returns-in_default
 skip_one-returns-in_default t c =
     let p = c.requires in
-    let r = c.in_default.rest in
+    let r = c.in_default.in_default-own.rest in
     let d = not-indirection _ p.direct in
     let plain = without-parts _ (((d, r.0.0.1), r.0.1), r.1) in
     skips-token _ _ p.at_place _ _ (token-is _ _ p.at_place _ plain c.token_at.ensures) c.skip_token.ensures

@@ -10,6 +10,7 @@ use Rattle.kinds.specs.Sheet.{kind_at, count_at}
 use Rattle.kinds.proofs.ListLaws.{whole}
 use Rattle.kinds.proofs.NodeLaws.{node-inner}
 use Rattle.layout.proofs.place.+place.Goals as goal
+use Rattle.layout.proofs.place.+place.Goals.{then-is_simple-2, else-is_simple-2}
 
 pub is_simple-requires : goal.is_simple-requires
 is_simple-requires t c = c.requires.0
@@ -50,11 +51,12 @@ place-x-requires t c =
 pub add_field-run-requires : goal.add_field-run-requires
 add_field-run-requires t c =
     let b = filling-within c.loop-left.invariant.1 c.loop-left-test.true in
-    let l : Laid c.args.sizes.now c.args.nodes.now c.loop-left.j c.loop-left.offsets c.if-is_simple-2.offsets c.if-is_simple-2.x = ⊎_elim
-    (λ j. laid_as (simple-laid c.args.sizes.now c.args.nodes.now c.loop-left.j (filling-node c.loop-left.invariant.1 c.loop-left-test.true)
-    (sym c.is_simple-in-loop-left.ensures ∙ j.0.taken) c.loop-left.offsets
-    (filling-zeros c.loop-left.invariant.1 c.loop-left-test.true) j.1.ensures) j.2 j.3)
-    (λ j. laid_as (rw whole at j.3.ensures) j.6 j.7) c.if-is_simple-2.branch in
+    let l : Laid c.args.sizes.now c.args.nodes.now c.loop-left.j c.loop-left.offsets c.if-is_simple-2.offsets c.if-is_simple-2.x = elim c.if-is_simple-2.branch [
+      | then-is_simple-2 w ↦ laid_as (simple-laid c.args.sizes.now c.args.nodes.now c.loop-left.j (filling-node c.loop-left.invariant.1 c.loop-left-test.true)
+          (sym c.is_simple-in-loop-left.ensures ∙ w.if-is_simple-2.true) c.loop-left.offsets
+          (filling-zeros c.loop-left.invariant.1 c.loop-left-test.true) w.simple-x.ensures) w.offsets-is w.x-is
+      | else-is_simple-2 w ↦ laid_as (rw whole at w.place-x.ensures) w.offsets-is w.x-is
+    ] in
     let m = l.as_long in
     (l.aligned, omega arith)
 
@@ -91,11 +93,12 @@ loop-left-smaller t c =
 pub loop-left-preserved : goal.loop-left-preserved
 loop-left-preserved t c =
     let b = filling-within c.loop-left.invariant.1 c.loop-left-test.true in
-    let l : Laid c.args.sizes.now c.args.nodes.now c.loop-left.j c.loop-left.offsets c.if-is_simple-2.offsets c.if-is_simple-2.x = ⊎_elim
-    (λ j. laid_as (simple-laid c.args.sizes.now c.args.nodes.now c.loop-left.j (filling-node c.loop-left.invariant.1 c.loop-left-test.true)
-    (sym c.is_simple-in-loop-left.ensures ∙ j.0.taken) c.loop-left.offsets
-    (filling-zeros c.loop-left.invariant.1 c.loop-left-test.true) j.1.ensures) j.2 j.3)
-    (λ j. laid_as (rw whole at j.3.ensures) j.6 j.7) c.if-is_simple-2.branch in (
+    let l : Laid c.args.sizes.now c.args.nodes.now c.loop-left.j c.loop-left.offsets c.if-is_simple-2.offsets c.if-is_simple-2.x = elim c.if-is_simple-2.branch [
+      | then-is_simple-2 w ↦ laid_as (simple-laid c.args.sizes.now c.args.nodes.now c.loop-left.j (filling-node c.loop-left.invariant.1 c.loop-left-test.true)
+          (sym c.is_simple-in-loop-left.ensures ∙ w.if-is_simple-2.true) c.loop-left.offsets
+          (filling-zeros c.loop-left.invariant.1 c.loop-left-test.true) w.simple-x.ensures) w.offsets-is w.x-is
+      | else-is_simple-2 w ↦ laid_as (rw whole at w.place-x.ensures) w.offsets-is w.x-is
+    ] in (
       omega arith,
       filling-turn c.loop-left.invariant.1 c.loop-left-test.true c.if-is_simple-2.x c.if-is_simple-2.offsets _ l c.add_field-run.ensures.list
           c.add_field-run.ensures.takes,

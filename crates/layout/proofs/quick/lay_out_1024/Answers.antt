@@ -21,4 +21,4 @@ pub shape_of-offsets : goal.shape_of-offsets
 shape_of-offsets c = c.offsets-1.given
 
 pub returns : goal.returns
-returns c = let p = c.lay_out_quick.ensures in record { answers = p.0; fills = p.1 }
+returns c = let p = c.lay_out_quick.ensures in record { answers = p.answers; fills = p.fills }

@@ -24,13 +24,13 @@ returns c = let a = c.args in
     let p = c.requires in
     let q = c.quick_room-x in
     let h = c.if-x-eq0.false in
-    let g = q.ensures.0 (omega arith) in
+    let g = q.ensures.settles (omega arith) in
     let f = rw whole at c.finish.ensures in
     let n = p.1.some-node in
     let w = a.nodes.now in record {
       answers = λ m o s. answer-by m s w a.limit refl (g.sized m o s)
-          (walked-answer m s w _ refl (omega arith) g.first _ g.long g.zeros _ (g.laid.below m o s) a.limit (omega arith) f.0);
+          (walked-answer m s w _ refl (omega arith) g.first _ g.long g.zeros _ (g.laid.below m o s) a.limit (omega arith) f.answers);
       fills = λ m o s. list-by m s w a.limit refl (g.sized m o s) a.offsets.now
-          (walked-list m s w _ refl (omega arith) g.first _ g.long g.zeros _ (g.laid.below m o s) a.limit (omega arith) a.offsets.now f.1
+          (walked-list m s w _ refl (omega arith) g.first _ g.long g.zeros _ (g.laid.below m o s) a.limit (omega arith) a.offsets.now f.fills
           ∙ listed m s w _ _);
     }

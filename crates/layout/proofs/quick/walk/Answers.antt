@@ -10,6 +10,7 @@ use Rattle.layout.proofs.FindLaws.{sought-first}
 use Rattle.layout.proofs.RoomLaws.{told}
 use Rattle.layout.proofs.WalkLaws.{walking-within, walking-first, walking-end, ended-as, stepped, closed}
 use Rattle.layout.proofs.quick.walk.Goals as goal
+use Rattle.layout.proofs.quick.walk.Goals.{then-from-o, else-from-o+else-o-eq0}
 
 pub bounds-nodes-0 : goal.bounds-nodes-0
 bounds-nodes-0 c =
@@ -57,7 +58,10 @@ shape_of-numbers-then-run-eq0 c =
     let n = p.3 in
     let m = p.5 in
     let k : length c.loop-o.numbers ≡ length c.args.numbers.now = omega arith in
-    ⊎_elim (λ j. ap length j.5 ∙ j.3.given ∙ k) (λ j. ap length j.7 ∙ j.5.given ∙ k) c.if-from-o.branch
+    elim c.if-from-o.branch [
+      | then-from-o w ↦ ap length w.numbers-is ∙ w.step-o.auto.numbers ∙ k
+      | else-from-o+else-o-eq0 w ↦ ap length w.numbers-is ∙ w.close-o.auto.numbers ∙ k
+    ]
 
 pub returns-then-run-eq0 : goal.returns-then-run-eq0
 returns-then-run-eq0 c = let a = c.args in
@@ -66,11 +70,13 @@ returns-then-run-eq0 c = let a = c.args in
     (subst (λ (n : ℕ). Sought a.sizes.now a.nodes.now n c.loop-o.o.next false false) c.requires.3 c.loop-o.invariant.sought) in record { settles = p.0; passed = p.1 }
 
 pub loop-o-smaller : goal.loop-o-smaller
-loop-o-smaller c =
-    (⊎_elim (λ j. stepped c.loop-o.o j.2.ensures j.5 j.6 c.if-run-eq0.false) (λ j. closed c.loop-o.o j.4.ensures j.7 j.8 c.if-run-eq0.false)
-    c.if-from-o.branch).1
+loop-o-smaller c = elim c.if-from-o.branch [
+  | then-from-o w ↦ (stepped c.loop-o.o w.step-o.ensures w.numbers-is w.o-is c.if-run-eq0.false).1
+  | else-from-o+else-o-eq0 w ↦ (closed c.loop-o.o w.close-o.ensures w.numbers-is w.o-is c.if-run-eq0.false).1
+]
 
 pub loop-o-preserved : goal.loop-o-preserved
-loop-o-preserved c =
-    (⊎_elim (λ j. stepped c.loop-o.o j.2.ensures j.5 j.6 c.if-run-eq0.false) (λ j. closed c.loop-o.o j.4.ensures j.7 j.8 c.if-run-eq0.false)
-    c.if-from-o.branch).0
+loop-o-preserved c = elim c.if-from-o.branch [
+  | then-from-o w ↦ (stepped c.loop-o.o w.step-o.ensures w.numbers-is w.o-is c.if-run-eq0.false).0
+  | else-from-o+else-o-eq0 w ↦ (closed c.loop-o.o w.close-o.ensures w.numbers-is w.o-is c.if-run-eq0.false).0
+]

@@ -277,7 +277,7 @@ items_difference-overflow_sub-d t c =
 
 pub items_difference-first_difference-requires : goal.items_difference-first_difference-requires
 items_difference-first_difference-requires t c = let p = c.requires in
-    rw (whole, whole, whole, whole) (omega arith, ((p.measure?.2, p.measure?.3), p))
+    rw (whole, whole, whole, whole) (omega arith, ((c.decreases.2, c.decreases.3), p))
 
 pub items_difference-returns : goal.items_difference-returns
 items_difference-returns t c = rw (whole, whole, whole, whole) at c.first_difference.ensures

@@ -1,3 +1,4 @@
+use borrow.Enum.Refused.{opened}
 use native.Mathlib.Omega.{arith}
 use Rattle.reason.proofs.ValueLaws.{name-short, names-most, numbers-most}
 use Rattle.reason.proofs.words.most_len.Goals as goal
@@ -10,12 +11,11 @@ overflow_add-result-in-Name c =
     omega (arith, name-short _ c.in-Name.is c.requires.0, name-short _ c.in-Name.is c.requires.1)
 
 pub returns-in-Name : goal.returns-in-Name
-returns-in-Name c =
-    (
-      names-most _ _ c.in-Name.is c.requires.0 c.requires.1,
-      omega (arith, name-short _ c.in-Name.is c.requires.0, name-short _ c.in-Name.is c.requires.1),
-    )
+returns-in-Name c = (
+  names-most _ _ c.in-Name.is c.requires.0 c.requires.1,
+  omega (arith, name-short _ c.in-Name.is c.requires.0, name-short _ c.in-Name.is c.requires.1),
+)
 
 pub returns : goal.returns
 returns c =
-    (numbers-most _ c.args.k c.args.j c.in_default.keys2 (omega arith) (omega arith), omega arith)
+    (numbers-most _ c.args.k c.args.j (opened c.in_default.in_default-own.keys2) (omega arith) (omega arith), omega arith)

@@ -1,3 +1,4 @@
+use borrow.Enum.Refused.{opened}
 use Prim.Native.Nat.{ℕ}
 use native.Mathlib.Omega.{arith}
 use mathlib.Core.Path.{ap, sym, ◌∙◌}
@@ -23,4 +24,4 @@ returns-in-Name c =
 
 pub returns : goal.returns
 returns c =
-    put_same (ap (λ (n : ℕ). value_text (decimal n)) c.requires.2 ∙ ap value_text (sym (value-number _ _ _ _ c.in_default.keys2))) c.put_number_value.ensures
+    put_same (ap (λ (n : ℕ). value_text (decimal n)) c.requires.2 ∙ ap value_text (sym (value-number _ _ _ _ (opened c.in_default.in_default-own.keys2)))) c.put_number_value.ensures

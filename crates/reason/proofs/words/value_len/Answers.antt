@@ -1,3 +1,4 @@
+use borrow.Enum.Refused.{opened}
 use mathlib.Core.Path.{◌∙◌}
 use Rattle.reason.proofs.ValueLaws.{name-short, length-of-name, length-of-number}
 use Rattle.reason.proofs.words.value_len.Goals as goal
@@ -9,4 +10,4 @@ pub returns-in-Name : goal.returns-in-Name
 returns-in-Name c = (c.text_len.ensures.0 ∙ length-of-name _ c.in-Name.is, c.text_len.ensures.1)
 
 pub returns : goal.returns
-returns c = (c.number_len.ensures.0 ∙ length-of-number _ _ c.in_default.keys2, c.number_len.ensures.1)
+returns c = (c.number_len.ensures.0 ∙ length-of-number _ _ (opened c.in_default.in_default-own.keys2), c.number_len.ensures.1)
