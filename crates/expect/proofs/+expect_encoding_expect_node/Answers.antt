@@ -15,7 +15,7 @@ use Rattle.expect.proofs.+expect_encoding_expect_node.Goals as goal
 pub expect_encoding-loop-left-init : goal.expect_encoding-loop-left-init
 expect_encoding-loop-left-init t c =
     let pre = c.requires in
-    (omega arith, record { nodes = c.decreases.0; walk = pre; within = c.decreases.1; rest = sym (resume-level _ _ _) })
+    (omega arith, record { nodes = pre.trees_at.0; walk = pre.kinds_and_names; within = pre.trees_at.1; rest = sym (resume-level _ _ _) })
 
 pub expect_encoding-offset_bounds-nodes-at : goal.expect_encoding-offset_bounds-nodes-at
 expect_encoding-offset_bounds-nodes-at t c =

@@ -7,7 +7,7 @@ use Rattle.expect.proofs.tree_matches.Goals as goal
 
 pub expect_encoding-walked-requires : goal.expect_encoding-walked-requires
 expect_encoding-walked-requires c = let p = strip-place c.args.text.now _ c.strip_leading_qualifiers-start.ensures in
-    rw (whole, whole, whole) ((c.requires.0, p.1), c.requires.1)
+    rw (whole, whole, whole) (record { trees_at = (c.requires.0, p.1); kinds_and_names = c.requires.1 })
 
 pub returns : goal.returns
 returns c =

@@ -22,13 +22,12 @@ pub loop-i-smaller : goal.loop-i-smaller
 loop-i-smaller c = omega arith
 
 pub loop-i-preserved : goal.loop-i-preserved
-loop-i-preserved c =
-    (
-      then-put (shown_byte (get_or c.args.s.now c.loop-i.i 0)) (each shown_byte (drop (c.loop-i.i + 1) c.args.s.now))
-          (each_more shown_byte c.args.s.now c.loop-i.i c.loop-i-test.true) c.loop-i.invariant.0 (put_same c.glyph.ensures c.put_bytes-to.ensures),
-      c.put_bytes-to.auto.out ∙ c.loop-i.invariant.1,
-      omega arith,
-    )
+loop-i-preserved c = (
+  then-put (shown_byte (get_or c.args.s.now c.loop-i.i 0)) (each shown_byte (drop (c.loop-i.i + 1) c.args.s.now))
+      (each_more shown_byte c.args.s.now c.loop-i.i c.loop-i-test.true) c.loop-i.invariant.0 (put_same c.glyph.ensures c.put_bytes-to.ensures),
+  c.put_bytes-to.auto.out ∙ c.loop-i.invariant.1,
+  omega arith,
+)
 
 pub shape_of-out : goal.shape_of-out
 shape_of-out c = c.loop-i.invariant.1

@@ -17,12 +17,11 @@ pub loop-left-smaller : goal.loop-left-smaller
 loop-left-smaller c = omega arith
 
 pub loop-left-preserved : goal.loop-left-preserved
-loop-left-preserved c =
-    (
-      then-put c.args.s.now (times (c.loop-left.left - 1) c.args.s.now) (times_more c.loop-left.left c.args.s.now c.loop-left-test.true)
-          c.loop-left.invariant.0 c.put_bytes-to.ensures,
-      c.put_bytes-to.auto.out ∙ c.loop-left.invariant.1,
-    )
+loop-left-preserved c = (
+  then-put c.args.s.now (times (c.loop-left.left - 1) c.args.s.now) (times_more c.loop-left.left c.args.s.now c.loop-left-test.true)
+      c.loop-left.invariant.0 c.put_bytes-to.ensures,
+  c.put_bytes-to.auto.out ∙ c.loop-left.invariant.1,
+)
 
 pub shape_of-out : goal.shape_of-out
 shape_of-out c = c.loop-left.invariant.1

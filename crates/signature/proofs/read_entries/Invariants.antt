@@ -1,3 +1,4 @@
+use Rattle.signature.specs.Reads.{ReadTo}
 use Prim.Native.Nat.{◌-◌}
 use lib.ListN.{length}
 use Rattle.signature.proofs.read_entries.Given as goal

@@ -6,6 +6,7 @@ use Rattle.kinds.proofs.ListLaws.{whole}
 use Rattle.reason.proofs.SpotLaws.{resume-level}
 use Rattle.reason.proofs.WalkLaws.{some_left, zero_left, part-all, left_end, left-short, left-bounds, left_here, left-own, left-next, left_over, left-count, left-inner, left-fields, left_after, left-last}
 use Rattle.reason.proofs.find.+first_difference_items_difference.Goals as goal
+use Rattle.reason.proofs.find.+first_difference_items_difference.Goals.{first_difference-then-is_container+in-NotCompared, first_difference-then-is_container+in-Equal+else-left-c+in_default-below, first_difference-else-is_container}
 
 pub first_difference-loop-left-init : goal.first_difference-loop-left-init
 first_difference-loop-left-init t c =
@@ -134,7 +135,7 @@ pub first_difference-items_difference-below-requires : goal.first_difference-ite
 first_difference-items_difference-below-requires t c = let b = left-bounds c.loop-left.invariant.1 c.loop-left-test.true (some_left _ c.if-more-eq0.false) in
     let i = left-inner c.loop-left.invariant.1 c.loop-left-test.true (some_left _ c.if-more-eq0.false)
     (rw c.in_default.is at c.own_difference.ensures) (sym c.is_container.ensures ∙ c.if-is_container.true) c.level_for.ensures
-    (rw c.in-Equal.is at (c.compare_counts.ensures c.args.an.now c.args.bn.now)) in record { c_nonzero = omega arith; kinds_and_names = ((omega arith, omega arith, i.0.0, i.0.1), i.1) }
+    (rw c.in-Equal.is at (c.compare_counts.ensures c.args.an.now c.args.bn.now)) in (omega arith, ((omega arith, omega arith, i.0.0, i.0.1), i.1))
 
 pub first_difference-returns-in-At-below : goal.first_difference-returns-in-At-below
 first_difference-returns-in-At-below t c =
@@ -159,19 +160,19 @@ pub first_difference-overflow_mul-at : goal.first_difference-overflow_mul-at
 first_difference-overflow_mul-at t c =
     let b = left-bounds c.loop-left.invariant.1 c.loop-left-test.true (some_left _ c.if-more-eq0.false) in
     let g = c.well_formed in
-    ⊎_elim (λ i. omega arith) (⊎_elim (λ i. omega arith) (λ i. omega arith)) c.if-is_container.branch
+    elim c.if-is_container.branch [ first_difference-then-is_container+in-NotCompared w ↦ omega arith | first_difference-then-is_container+in-Equal+else-left-c+in_default-below w ↦ omega arith | first_difference-else-is_container w ↦ omega arith ]
 
 pub first_difference-overflow_add-at-in-loop-left : goal.first_difference-overflow_add-at-in-loop-left
 first_difference-overflow_add-at-in-loop-left t c =
     let b = left-bounds c.loop-left.invariant.1 c.loop-left-test.true (some_left _ c.if-more-eq0.false) in
     let g = c.well_formed in
-    ⊎_elim (λ i. omega arith) (⊎_elim (λ i. omega arith) (λ i. omega arith)) c.if-is_container.branch
+    elim c.if-is_container.branch [ first_difference-then-is_container+in-NotCompared w ↦ omega arith | first_difference-then-is_container+in-Equal+else-left-c+in_default-below w ↦ omega arith | first_difference-else-is_container w ↦ omega arith ]
 
 pub first_difference-overflow_sub-left-in-loop-left : goal.first_difference-overflow_sub-left-in-loop-left
 first_difference-overflow_sub-left-in-loop-left t c =
     let b = left-bounds c.loop-left.invariant.1 c.loop-left-test.true (some_left _ c.if-more-eq0.false) in
     let g = c.well_formed in
-    ⊎_elim (λ i. omega arith) (⊎_elim (λ i. omega arith) (λ i. omega arith)) c.if-is_container.branch
+    elim c.if-is_container.branch [ first_difference-then-is_container+in-NotCompared w ↦ omega arith | first_difference-then-is_container+in-Equal+else-left-c+in_default-below w ↦ omega arith | first_difference-else-is_container w ↦ omega arith ]
 
 pub first_difference-overflow_mul-bt : goal.first_difference-overflow_mul-bt
 first_difference-overflow_mul-bt t c =
@@ -179,8 +180,7 @@ first_difference-overflow_mul-bt t c =
     c.loop-left-test.true
     (some_left _ c.if-more-eq0.false) in
     let g = c.well_formed in
-    ⊎_elim (λ i. omega arith) (⊎_elim (λ i. omega arith) (λ i. omega arith))
-    c.if-is_container.branch
+    elim c.if-is_container.branch [ first_difference-then-is_container+in-NotCompared w ↦ omega arith | first_difference-then-is_container+in-Equal+else-left-c+in_default-below w ↦ omega arith | first_difference-else-is_container w ↦ omega arith ]
 
 pub first_difference-overflow_add-bt-in-loop-left : goal.first_difference-overflow_add-bt-in-loop-left
 first_difference-overflow_add-bt-in-loop-left t c =
@@ -188,41 +188,42 @@ first_difference-overflow_add-bt-in-loop-left t c =
     c.loop-left-test.true
     (some_left _ c.if-more-eq0.false) in
     let g = c.well_formed in
-    ⊎_elim (λ i. omega arith) (⊎_elim (λ i. omega arith) (λ i. omega arith))
-    c.if-is_container.branch
+    elim c.if-is_container.branch [ first_difference-then-is_container+in-NotCompared w ↦ omega arith | first_difference-then-is_container+in-Equal+else-left-c+in_default-below w ↦ omega arith | first_difference-else-is_container w ↦ omega arith ]
 
 pub first_difference-overflow_sub-more-in-loop-left : goal.first_difference-overflow_sub-more-in-loop-left
 first_difference-overflow_sub-more-in-loop-left t c =
     let b = left-bounds c.loop-left.invariant.1 c.loop-left-test.true (some_left _ c.if-more-eq0.false) in
     let g = c.well_formed in
-    ⊎_elim (λ i. omega arith) (⊎_elim (λ i. omega arith) (λ i. omega arith)) c.if-is_container.branch
+    elim c.if-is_container.branch [ first_difference-then-is_container+in-NotCompared w ↦ omega arith | first_difference-then-is_container+in-Equal+else-left-c+in_default-below w ↦ omega arith | first_difference-else-is_container w ↦ omega arith ]
 
 pub first_difference-loop-left-smaller : goal.first_difference-loop-left-smaller
 first_difference-loop-left-smaller t c =
     let b = left-bounds c.loop-left.invariant.1 c.loop-left-test.true (some_left _ c.if-more-eq0.false) in
     let g = c.well_formed in
-    ⊎_elim (λ i. omega arith) (⊎_elim (λ i. omega arith) (λ i. omega arith)) c.if-is_container.branch
+    elim c.if-is_container.branch [ first_difference-then-is_container+in-NotCompared w ↦ omega arith | first_difference-then-is_container+in-Equal+else-left-c+in_default-below w ↦ omega arith | first_difference-else-is_container w ↦ omega arith ]
 
 pub first_difference-loop-left-preserved : goal.first_difference-loop-left-preserved
 first_difference-loop-left-preserved t c =
     let b = left-bounds c.loop-left.invariant.1 c.loop-left-test.true (some_left _ c.if-more-eq0.false) in
     let e = (rw c.in_default.is at c.own_difference.ensures) in
-    ⊎_elim (λ i. (
-      omega arith,
-      left_over c.loop-left.invariant.1 c.loop-left-test.true (some_left _ c.if-more-eq0.false) e (sym c.is_container.ensures ∙ i.0.taken) i.3.ensures
-          (rw i.6.given.1 at (i.4.ensures c.args.an.now c.args.bn.now)) i.7 i.8 c.level_after-here.ensures,
-    ))
-    (⊎_elim (λ i. (
-      omega arith,
-      left_after c.loop-left.invariant.1 c.loop-left-test.true (some_left _ c.if-more-eq0.false) e (sym c.is_container.ensures ∙ i.0.taken) i.3.ensures
-          (rw i.6.given.1 at (i.4.ensures c.args.an.now c.args.bn.now))
-          (rw i.10.given.1 at i.8.ensures) i.11 i.12 c.level_after-here.ensures,
-    ))
-    (λ i. (
-      omega arith,
-      left-next c.loop-left.invariant.1 c.loop-left-test.true (some_left _ c.if-more-eq0.false) e (sym c.is_container.ensures ∙ i.0.left) i.1 i.2
-          c.level_after-here.ensures,
-    ))) c.if-is_container.branch
+    elim c.if-is_container.branch [
+      | first_difference-then-is_container+in-NotCompared i ↦ (
+        omega arith,
+        left_over c.loop-left.invariant.1 c.loop-left-test.true (some_left _ c.if-more-eq0.false) e (sym c.is_container.ensures ∙ i.if-is_container.true) i.level_for.ensures
+            (rw i.in-NotCompared.is at (i.compare_counts.ensures c.args.an.now c.args.bn.now)) i.c-is i.d-is c.level_after-here.ensures,
+      )
+      | first_difference-then-is_container+in-Equal+else-left-c+in_default-below i ↦ (
+        omega arith,
+        left_after c.loop-left.invariant.1 c.loop-left-test.true (some_left _ c.if-more-eq0.false) e (sym c.is_container.ensures ∙ i.if-is_container.true) i.level_for.ensures
+            (rw i.in-Equal.is at (i.compare_counts.ensures c.args.an.now c.args.bn.now))
+            (rw i.in_default-below.is at i.items_difference-below.ensures) i.c-is i.d-is c.level_after-here.ensures,
+      )
+      | first_difference-else-is_container i ↦ (
+        omega arith,
+        left-next c.loop-left.invariant.1 c.loop-left-test.true (some_left _ c.if-more-eq0.false) e (sym c.is_container.ensures ∙ i.if-is_container.false) i.c-is i.d-is
+            c.level_after-here.ensures,
+      )
+    ]
 
 pub first_difference-returns : goal.first_difference-returns
 first_difference-returns t c = left_end c.loop-left.invariant.1 c.loop-left-test.false
@@ -277,7 +278,7 @@ items_difference-overflow_sub-d t c =
 
 pub items_difference-first_difference-requires : goal.items_difference-first_difference-requires
 items_difference-first_difference-requires t c = let p = c.requires in
-    rw (whole, whole, whole, whole) (omega arith, ((c.decreases.2, c.decreases.3), p))
+    rw (whole, whole, whole, whole) (omega arith, ((p.c_nonzero.2, p.c_nonzero.3), p.kinds_and_names))
 
 pub items_difference-returns : goal.items_difference-returns
 items_difference-returns t c = rw (whole, whole, whole, whole) at c.first_difference.ensures

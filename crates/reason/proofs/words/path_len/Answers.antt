@@ -3,6 +3,7 @@ use mathlib.Core.Logic.{⊎_elim}
 use native.Mathlib.Omega.{arith}
 use Rattle.reason.proofs.PathLaws.{rest-begin, rest_all, rest-first, rest-later, node-below, node-first, inside-place, item-digits}
 use Rattle.reason.proofs.words.path_len.Goals as goal
+use Rattle.reason.proofs.words.path_len.Goals.{then-at-gt0, else-at-gt0}
 
 pub loop-at-init : goal.loop-at-init
 loop-at-init c = (c.requires.root, c.requires.node, rest-begin _, omega arith)
@@ -24,7 +25,7 @@ overflow_add-len-in-loop-at c =
     let b = c.loop-at.invariant.3 in
     let r = c.static_int_str_len-len.ensures in
     let d = item-digits c.item_towards-item.ensures p in
-    ⊎_elim (λ j. let e = j.1 in omega arith) (λ j. let e = j.1 in omega arith) c.if-at-gt0.branch
+    elim c.if-at-gt0.branch [ then-at-gt0 w ↦ omega arith | else-at-gt0 w ↦ omega arith ]
 
 pub loop-at-smaller : goal.loop-at-smaller
 loop-at-smaller c =
@@ -43,9 +44,11 @@ loop-at-preserved c =
     let f = w.further in (
       w.whole,
       w.holds,
-      ⊎_elim (λ j. rest-later _ _ _ _ _ w l.len _ _ r l.invariant.2 j.0.taken j.1)
-          (λ j. rest-first _ _ _ _ _ w l.len _ _ r l.invariant.2 j.0.left j.1) c.if-at-gt0.branch,
-      ⊎_elim (λ j. let e = j.1 in omega arith) (λ j. let e = j.1 in omega arith) c.if-at-gt0.branch,
+      elim c.if-at-gt0.branch [
+        | then-at-gt0 j ↦ rest-later _ _ _ _ _ w l.len _ _ r l.invariant.2 j.if-at-gt0.true j.len-is
+        | else-at-gt0 j ↦ rest-first _ _ _ _ _ w l.len _ _ r l.invariant.2 j.if-at-gt0.false j.len-is
+      ],
+      elim c.if-at-gt0.branch [ then-at-gt0 w ↦ omega arith | else-at-gt0 w ↦ omega arith ],
     )
 
 pub returns : goal.returns
