@@ -14,9 +14,9 @@ pub neither : (a b : Bool) → (a || b) ≡ false → (a ≡ false) × (b ≡ fa
 neither true b h = absurd (true≢false h)
 neither false b h = (refl, h)
 
-infixr 20 ◌orElse◌
+infixr 20 ◌or_else◌
 -- The first of two, if there is one, else the second.
-abbrev pub ◌orElse◌ : Option ℕ → Option ℕ → Option ℕ
+abbrev pub ◌or_else◌ : Option ℕ → Option ℕ → Option ℕ
 none or_else b = b
 some i or_else b = some i
 

@@ -19,7 +19,7 @@ use Rattle.kinds.proofs.TreeLaws.{end-shown}
 use Rattle.layout.specs.Layout.{Extent, is_pointer, laid_out, is_bit_field, first_bit_field, sizeless, any_sizeless, node_extent, extents, Side, in_node, begins, holds_inside, offsets}
 use Rattle.layout_agreement.specs.Shown.{shown_only, up_from, shown_numbers, number_in}
 use Rattle.layout_agreement.proofs.OffsetLaws.{below, below_length}
-use Rattle.layout_agreement.proofs.PartLaws.{neither, ◌orElse◌, first-append, any_append, held, sized-parts}
+use Rattle.layout_agreement.proofs.PartLaws.{neither, ◌or_else◌, first-append, any_append, held, sized-parts}
 
 -- ---- Whether a node has no size.
 
@@ -164,7 +164,7 @@ bits_in L Q v k i (node l cs ts) h =
     let long = cond-keep (shows l v) (numbers (inside l v) (i + 1) cs) (shown (inside l v) cs) (numbers-length (inside l v) (i + 1) cs) in
     let after = bits_in L Q v (k + 1 + count K) (i + 1 + count cs) ts (sym (drop-drop (count K) (k + 1) L) ∙ ap (drop (count K)) next ∙ drop_at C (R ++ Q) (count K) long) in
     go (is_bit_field l) (first_bit_field (held v i l cs end ++ laid_out v (i + 1 + count cs) ts)) (first_bit_field (held v k l K end ++ laid_out v (k + 1 + count K) (shown v ts))) first
-    (first-append (held v i l cs end) (laid_out v (i + 1 + count cs) ts) ∙ ap₂ ◌orElse◌ inner after
+    (first-append (held v i l cs end) (laid_out v (i + 1 + count cs) ts) ∙ ap₂ ◌or_else◌ inner after
     ∙ number-or L (first_bit_field (held v k l K end)) (first_bit_field (laid_out v (k + 1 + count K) (shown v ts)))
     ∙ ap (number_in L) (sym (first-append (held v k l K end) (laid_out v (k + 1 + count K) (shown v ts)))))
   where

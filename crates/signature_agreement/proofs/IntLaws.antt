@@ -30,7 +30,7 @@ unfolding written ints print print_node code codes decimal digits
 ints-length zero = refl
 ints-length (suc m) = omega (arith, ints-length m)
 
-pub ints-entries : (at m : ℕ) → length (entries_for at (ints m)) ≡ m
+pub ints-entries : (m at : ℕ) → length (entries_for at (ints m)) ≡ m
 unfolding entries_for ints
-ints-entries at zero = refl
-ints-entries at (suc m) = ap suc (ints-entries _ m)
+ints-entries zero at = refl
+ints-entries (suc m) at = ap suc (ints-entries m _)

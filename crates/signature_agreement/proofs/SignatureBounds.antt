@@ -36,4 +36,4 @@ most-numbers l h = omega arith
 pub numbers-reached : (m : ℕ)
     → (length (written (ints (suc m))) ≡ 2 * suc m) × (signature (written (ints (suc m))) ≡ entries (entries_for 0 (ints (suc m)))) ×
     (3 * length (entries_for 0 (ints (suc m))) ≡ signature_for (2 * suc m))
-numbers-reached m = (ints-length (suc m), ints-read m, omega (arith, ints-entries 0 (suc m)))
+numbers-reached m = (ints-length (suc m), ints-read m, omega (arith, ints-entries (suc m) 0))

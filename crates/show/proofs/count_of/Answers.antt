@@ -5,6 +5,7 @@ use mathlib.Core.Logic.{⊎_elim}
 use Rattle.show.specs.Answer.{count_of}
 use Rattle.show.proofs.ShowLaws.{counts, counts-not, counts_end}
 use Rattle.show.proofs.count_of.Goals as goal
+use Rattle.show.proofs.count_of.Goals.{then-s-i, else-s-i}
 
 pub loop-i-init : goal.loop-i-init
 loop-i-init c = (omega arith, omega arith, omega arith)
@@ -26,10 +27,10 @@ loop-i-preserved c =
     let a = c.args in
     let l = c.loop-i in
     let h = c.loop-i-test.true in
-    ⊎_elim
-    (λ w. let e = counts a.b a.s.now l.i h w.0.taken in let q = l.invariant.0 in (omega arith, omega arith, omega arith))
-    (λ w. let e = counts-not a.b a.s.now l.i h w.0.left in let q = l.invariant.0 in (omega arith, omega arith, omega arith))
-    c.if-s-i.branch
+    elim c.if-s-i.branch [
+      | then-s-i w ↦ let e = counts a.b a.s.now l.i h w.if-s-i.true in let q = l.invariant.0 in (omega arith, omega arith, omega arith)
+      | else-s-i w ↦ let e = counts-not a.b a.s.now l.i h w.if-s-i.false in let q = l.invariant.0 in (omega arith, omega arith, omega arith)
+    ]
 
 pub returns : goal.returns
 returns c =

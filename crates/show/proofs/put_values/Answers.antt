@@ -25,10 +25,10 @@ returns-in-29 c =
 
 pub returns-in_default : goal.returns-in_default
 returns-in_default c =
-    put_same (no-values c.args.names.now c.args.kind c.args.first c.args.second c.in_default-1.rest.0.0.1
-    c.in_default-1.rest.0.1 c.in_default-1.rest.1 (λ e. absurd (omega (arith, e))) (λ e. absurd (omega (arith, e)))) (put-none _ _)
+    put_same (no-values c.args.names.now c.args.kind c.args.first c.args.second c.in_default.in_default-own.rest.0.0.1
+    c.in_default.in_default-own.rest.0.1 c.in_default.in_default-own.rest.1 (λ e. absurd (omega (arith, e))) (λ e. absurd (omega (arith, e)))) (put-none _ _)
 
 pub returns-in_default-2 : goal.returns-in_default-2
 returns-in_default-2 c =
-    put_same (no-values c.args.names.now c.args.kind c.args.first c.args.second c.in_default-1.rest.0.0.1 c.in_default-1.rest.0.1
-    c.in_default-1.rest.1 (λ e. absurd (omega (arith, e))) (λ e. absurd (omega (arith, e)))) (put-none _ _)
+    put_same (no-values c.args.names.now c.args.kind c.args.first c.args.second c.in_default.in_default-own.rest.0.0.1 c.in_default.in_default-own.rest.0.1
+    c.in_default.in_default-own.rest.1 (λ e. absurd (omega (arith, e))) (λ e. absurd (omega (arith, e)))) (put-none _ _)
