@@ -1,5 +1,0 @@
-use mathlib.Core.Path.{refl}
-use Rattle.berzhotun.proofs.give_reasoned.Goals as goal
-
-pub returns-in-Bytes : goal.returns-in-Bytes
-returns-in-Bytes c = rw c.in-Bytes.is (refl, refl)
