@@ -162,7 +162,7 @@ refusals =
     bytes "-\n- the text has more than 2,000 bytes\n- the lists are too short for the tree\n- the lists hold no tree\n"
     ++ (bytes "- a name is neither ? nor letters, digits and underscores\n- the output is too short for the text\n- the size or an offset is above 2^64 - 1 bytes, or in row 2 above 2^32 - 1\n"
     ++ (bytes "^ the text ends where another byte must stand\nb no type starts with \nb f, d or D must follow j, not \n^ a digit must stand here\n"
-    ++ (bytes "^ a number is above 2^64 - 1, or a bitfield's size above 255\n^ the array's item is missing, or no ] follows it\n"
+    ++ (bytes "^ a number is above 2^64 - 1, or a bitfield's size above 255\n^ no ] follows the array's item\n"
     ++ (bytes "c the text ends inside the \nc neither ? nor letters, digits and underscores name the \n^ bytes remain after the type\n"
     ++ (bytes "^ no digit follows the type\n^ the number is above 4294967295\n- the signature is empty\n^ the number starts with a surplus zero\n"
     ++ bytes "- there is no row of that number: they are 0 to 3\nn a bitfield cannot be laid out: node ")))))

@@ -408,7 +408,7 @@ pub fn put_refused(out: &mut [u8], text: &[u8], why: &[u64; 4]) -> usize
         b f, d or D must follow j, not \n\
         ^ a digit must stand here\n\
         ^ a number is above 2^64 - 1, or a bitfield's size above 255\n\
-        ^ the array's item is missing, or no ] follows it\n\
+        ^ no ] follows the array's item\n\
         c the text ends inside the \n\
         c neither ? nor letters, digits and underscores name the \n\
         ^ bytes remain after the type\n\

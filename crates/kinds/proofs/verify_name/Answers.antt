@@ -2,8 +2,6 @@
 use Prim.Native.Nat.{◌-◌}
 use mathlib.Core.Path.{sym, ◌∙◌}
 use native.Mathlib.Omega.{arith}
-use borrow.Author.Rules.{rules}
-use borrow.Author.Tests.{not-true, not-false}
 use Rattle.kinds.specs.Name.{verify_name}
 use Rattle.kinds.proofs.NameLaws.{all_more, all-stop, all_end, name-empty, name-unknown, name-one, name-more}
 use Rattle.kinds.proofs.verify_name.Goals as goal
@@ -31,7 +29,7 @@ pub bounds-name-i : goal.bounds-name-i
 bounds-name-i c = omega arith
 
 pub returns-then-not-is_name_byte : goal.returns-then-not-is_name_byte
-returns-then-not-is_name_byte c = sym (c.loop-i.invariant.0 ∙ all-stop _ _ c.loop-i-test.true (sym c.is_name_byte.ensures ∙ not-true _ c.if-not-is_name_byte.true-raw))
+returns-then-not-is_name_byte c = sym (c.loop-i.invariant.0 ∙ all-stop _ _ c.loop-i-test.true (sym c.is_name_byte.ensures ∙ c.if-not-is_name_byte.true))
 
 pub overflow_add-i : goal.overflow_add-i
 overflow_add-i c = omega arith
@@ -40,7 +38,7 @@ pub loop-i-smaller : goal.loop-i-smaller
 loop-i-smaller c = omega arith
 
 pub loop-i-preserved : goal.loop-i-preserved
-loop-i-preserved c = (c.loop-i.invariant.0 ∙ all_more _ _ c.loop-i-test.true (sym c.is_name_byte.ensures ∙ not-false _ c.if-not-is_name_byte.false-raw), omega arith)
+loop-i-preserved c = (c.loop-i.invariant.0 ∙ all_more _ _ c.loop-i-test.true (sym c.is_name_byte.ensures ∙ c.if-not-is_name_byte.false), omega arith)
 
 pub returns : goal.returns
 returns c = sym (c.loop-i.invariant.0 ∙ all_end _ _ c.loop-i-test.false)

@@ -1,5 +1,4 @@
 use mathlib.Core.Path.{sym, ◌∙◌}
-use borrow.Author.Tests.{not-true, not-false}
 use Rattle.names.proofs.NameLaws.{name-ends, bad-name, answer-ended, answer-refused, answer-equals, answer-closes}
 use Rattle.names.proofs.parse_name.Goals as goal
 
@@ -14,13 +13,13 @@ returns-then-n-e c =
 pub returns-then-not-verify_name : goal.returns-then-not-verify_name
 returns-then-not-verify_name c =
     let e = c.name_end-e.ensures in
-    let bad = sym c.verify_name.ensures ∙ not-true _ c.if-not-verify_name.true-raw in
+    let bad = sym c.verify_name.ensures ∙ c.if-not-verify_name.true in
     answer-refused _ _ _ _ _ e.within (e.scanned ∙ bad-name _ _ _ _ e c.if-n-e.false bad)
 
 pub returns-then-text-e-eq61 : goal.returns-then-text-e-eq61
 returns-then-text-e-eq61 c =
-    answer-equals _ _ _ _ c.name_end-e.ensures c.if-n-e.false (sym c.verify_name.ensures ∙ not-false _ c.if-not-verify_name.false-raw) c.if-text-e-eq61.true
+    answer-equals _ _ _ _ c.name_end-e.ensures c.if-n-e.false (sym c.verify_name.ensures ∙ c.if-not-verify_name.false) c.if-text-e-eq61.true
 
 pub returns : goal.returns
 returns c =
-    answer-closes _ _ _ _ c.name_end-e.ensures c.if-n-e.false (sym c.verify_name.ensures ∙ not-false _ c.if-not-verify_name.false-raw) c.if-text-e-eq61.false
+    answer-closes _ _ _ _ c.name_end-e.ensures c.if-n-e.false (sym c.verify_name.ensures ∙ c.if-not-verify_name.false) c.if-text-e-eq61.false

@@ -3,7 +3,7 @@ use mathlib.Core.Path.{◌≡◌, refl, sym, ap, ◌∙◌}
 use native.Mathlib.Omega.{arith}
 use lib.ListN.{length, drop, length-drop}
 use borrow.Author.Rules.{rules}
-use borrow.Author.Tests.{not-true, not-false, ltb-true, ltb-false}
+use borrow.Author.Tests.{ltb-true, ltb-false}
 use Rattle.kinds.specs.Parse.{bounded, no_number}
 use Rattle.kinds.specs.declared.ErrorKind.TheVariants.{IntegerTooLarge}
 use Rattle.kinds.specs.Byte.{is_digit}
@@ -20,30 +20,30 @@ returns-then-text-at c = rw c.digits_taken.ensures (answer-ended _ _ _ c.if-text
 pub returns-then-not-is_digit : goal.returns-then-not-is_digit
 returns-then-not-is_digit c =
     let h = c.if-text-at.false in
-    let no = sym c.is_digit.ensures ∙ not-true _ c.if-not-is_digit.true-raw in
+    let no = sym c.is_digit.ensures ∙ c.if-not-is_digit.true in
     answer-refused _ _ _ _ _ _ (omega arith) (c.digits_taken-then-not-is_digit.ensures ∙ no-digits _ (count-stop-at _ _ h no)) (number-none-at _ _ _ h no)
 
 pub loop-i-init : goal.loop-i-init
 loop-i-init c =
     let h = c.if-text-at.false in
-    (number-starts-at _ _ _ h (sym c.is_digit.ensures ∙ not-false _ c.if-not-is_digit.false-raw), omega arith)
+    (number-starts-at _ _ _ h (sym c.is_digit.ensures ∙ c.if-not-is_digit.false), omega arith)
 
 pub returns-then-not-is_digit-2 : goal.returns-then-not-is_digit-2
 returns-then-not-is_digit-2 c =
     let l = c.loop-i in
     let h = c.loop-i-test.true in
-    let no = sym c.is_digit-in-loop-i.ensures ∙ not-true _ c.if-not-is_digit-2.true-raw in
+    let no = sym c.is_digit-in-loop-i.ensures ∙ c.if-not-is_digit-2.true in
     let stop = digits-stop-at _ _ _ h no in
     let a = c.args in
     let all = all_digits_lem a.text.now a.at (l.i - a.at) (omega (arith, l.invariant.1.3, count-stop-at a.text.now l.i h no)) c.if-text-at.false in
     answer-value _ _ _ _ _ _ (omega arith) (c.digits_taken-then-not-is_digit-2.ensures ∙ all) (l.invariant.0 ∙ ap (bounded _) stop ∙ within-limit _ _ _ l.invariant.1.2)
 
 pub overflow_sub-b : goal.overflow_sub-b
-overflow_sub-b c = omega (arith, digit-range _ (sym c.is_digit-in-loop-i.ensures ∙ not-false _ c.if-not-is_digit-2.false-raw))
+overflow_sub-b c = omega (arith, digit-range _ (sym c.is_digit-in-loop-i.ensures ∙ c.if-not-is_digit-2.false))
 
 pub is_above-requires : goal.is_above-requires
 is_above-requires c =
-    (omega (arith, c.wide-d.ensures, digit-range _ (sym c.is_digit-in-loop-i.ensures ∙ not-false _ c.if-not-is_digit-2.false-raw)), search rules)
+    (omega (arith, c.wide-d.ensures, digit-range _ (sym c.is_digit-in-loop-i.ensures ∙ c.if-not-is_digit-2.false)), search rules)
 
 pub overflow_sub-to : goal.overflow_sub-to
 overflow_sub-to c =
@@ -55,7 +55,7 @@ returns-then-is_above c =
     let l = c.loop-i in
     let a = c.args in
     let w = c.wide-d.ensures in
-    let digit = sym c.is_digit-in-loop-i.ensures ∙ not-false _ c.if-not-is_digit-2.false-raw in
+    let digit = sym c.is_digit-in-loop-i.ensures ∙ c.if-not-is_digit-2.false in
     let range = digit-range _ digit in
     let here = digits-more-at _ _ _ c.loop-i-test.true digit in
     let more = count-more-at a.text.now l.i c.loop-i-test.true digit in
@@ -92,7 +92,7 @@ loop-i-preserved c =
     let l = c.loop-i in
     let a = c.args in
     let w = c.wide-d.ensures in
-    let digit = sym c.is_digit-in-loop-i.ensures ∙ not-false _ c.if-not-is_digit-2.false-raw in
+    let digit = sym c.is_digit-in-loop-i.ensures ∙ c.if-not-is_digit-2.false in
     let below = ltb-false c.args.limit (c.loop-i.acc * 10 + c.wide-d.result) (sym c.is_above.ensures ∙ c.if-is_above.false) in (
       l.invariant.0 ∙ ap (bounded _) (digits-more-at _ _ _ c.loop-i-test.true digit)
           ∙ rw w refl,

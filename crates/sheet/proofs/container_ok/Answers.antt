@@ -1,14 +1,13 @@
 use mathlib.Core.Path.{sym, ◌∙◌}
 use borrow.Author.Tests.{le-leb, lt-leb}
-use Rattle.sheet.proofs.TestLaws.{passed, failed}
 use Rattle.sheet.proofs.WalkLaws.{node-container}
 use Rattle.sheet.proofs.container_ok.Goals as goal
 
 pub returns-then-not-name_ok : goal.returns-then-not-name_ok
-returns-then-not-name_ok c = sym (node-container _ _ _ _ _ c.requires.0 ∙ rw (failed c.name_ok.ensures c.if-not-name_ok.true-raw))
+returns-then-not-name_ok c = sym (node-container _ _ _ _ _ c.requires.0 ∙ rw (sym c.name_ok.ensures ∙ c.if-not-name_ok.true))
 
 pub returns-then-count-lt1 : goal.returns-then-count-lt1
-returns-then-count-lt1 c = sym (node-container _ _ _ _ _ c.requires.0 ∙ rw (passed c.name_ok.ensures c.if-not-name_ok.false-raw, lt-leb _ _ c.if-count-lt1.true))
+returns-then-count-lt1 c = sym (node-container _ _ _ _ _ c.requires.0 ∙ rw (sym c.name_ok.ensures ∙ c.if-not-name_ok.false, lt-leb _ _ c.if-count-lt1.true))
 
 pub returns : goal.returns
-returns c = sym (node-container _ _ _ _ _ c.requires.0 ∙ rw (passed c.name_ok.ensures c.if-not-name_ok.false-raw, le-leb _ _ c.if-count-lt1.false))
+returns c = sym (node-container _ _ _ _ _ c.requires.0 ∙ rw (sym c.name_ok.ensures ∙ c.if-not-name_ok.false, le-leb _ _ c.if-count-lt1.false))

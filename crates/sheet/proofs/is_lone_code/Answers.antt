@@ -3,7 +3,6 @@ use native.Mathlib.Omega.{arith}
 use mathlib.Core.Path.{sym, ◌∙◌}
 use borrow.Author.Tests.{eqb-true, eq-eqb}
 use Rattle.kinds.proofs.TableLaws.{both}
-use Rattle.sheet.proofs.TestLaws.{failed, passed}
 use Rattle.sheet.proofs.is_lone_code.Goals as goal
 
 pub returns-then-words : goal.returns-then-words
@@ -25,12 +24,12 @@ pub returns-then-words-ge-PRIMITIVES : goal.returns-then-words-ge-PRIMITIVES
 returns-then-words-ge-PRIMITIVES c = record { holds = λ e. absurd (false≢true e); fails = λ _ l. let k = l.kind in let t = c.if-words-ge-PRIMITIVES.true in omega arith }
 
 pub returns-then-not-no_numbers : goal.returns-then-not-no_numbers
-returns-then-not-no_numbers c = record { holds = λ e. absurd (false≢true e); fails = λ _ l. false≢true (sym (failed c.no_numbers.ensures c.if-not-no_numbers.true-raw) ∙ rw (l.first, l.second)) }
+returns-then-not-no_numbers c = record { holds = λ e. absurd (false≢true e); fails = λ _ l. false≢true (sym (sym c.no_numbers.ensures ∙ c.if-not-no_numbers.true) ∙ rw (l.first, l.second)) }
 
 pub returns : goal.returns
 returns c = record {
   holds = λ e.
-      let n = both _ _ (passed c.no_numbers.ensures c.if-not-no_numbers.false-raw) in
+      let n = both _ _ (sym c.no_numbers.ensures ∙ c.if-not-no_numbers.false) in
       record {
         room = c.if-words.false;
         nodes = c.if-words-ne1.false;

@@ -1,4 +1,4 @@
-use borrow.Author.Tests.{eqb-true, not-false}
+use borrow.Author.Tests.{eqb-true}
 use mathlib.Core.Bool.{false≢true}
 use mathlib.Core.Path.{sym, ◌∙◌}
 use Rattle.kinds.proofs.KindLaws.{indirection-range}
@@ -9,4 +9,4 @@ returns-then-not-is_indirection c = λ e h. absurd (false≢true e)
 
 pub returns : goal.returns
 returns c =
-    λ e h. let k = indirection-range c.args.kind (sym c.is_indirection.ensures ∙ not-false _ c.if-not-is_indirection.false-raw) in (k.0, k.1, eqb-true _ _ e)
+    λ e h. let k = indirection-range c.args.kind (sym c.is_indirection.ensures ∙ c.if-not-is_indirection.false) in (k.0, k.1, eqb-true _ _ e)
