@@ -16,7 +16,7 @@ use kinds::{
     ARRAY, BIT_FIELD, Compared, Fields, NONE, NestingLevel, POINTER, PRIMITIVES, PrimitiveSize,
     ROWS, Refusal, SIZES, STRUCT, TYPED_BIT_FIELD, equivalent_kinds, is_container, primitive_size,
 };
-use sheet::{Checked, CheckedBoth, Lone, check, check_both, lone_code};
+use sheet::{Checked, CheckedBoth, Lone, check, check_both, code_alone};
 
 // The kind word of a primitive that is a pointer, by which a pointer's size is found in a row.
 const STRING: usize = 18;
@@ -530,8 +530,8 @@ fn compare_sheets(aw: &[u64], an: &[u8], bw: &[u64], bn: &[u8], all: bool) -> Co
 pub fn compare_encodings(aw: &[u64], an: &[u8], bw: &[u64], bn: &[u8], all: bool) -> Compared
     ensures { result ≡ compare_answer all aw.now an.now bw.now bn.now }
 {
-    if let Lone::Code(k) = lone_code(aw) {
-        if let Lone::Code(j) = lone_code(bw) {
+    if let Lone::Code(k) = code_alone(aw) {
+        if let Lone::Code(j) = code_alone(bw) {
             return Compared::Decided(equivalent_kinds(k, j));
         }
     }

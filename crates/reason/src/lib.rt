@@ -13,7 +13,7 @@ ghost use Rattle.reason.specs.Spot.{Rooted, codes_difference};
 use find::{Found, first_difference};
 use kinds::{NestingLevel, Refusal, equivalent_kinds};
 use lines::put_bytes;
-use sheet::{CheckedBoth, Lone, both_of, check, lone_code};
+use sheet::{CheckedBoth, Lone, both_of, check, code_alone};
 use words::{difference_len, number_len, path_len, put_number_value, put_reason, reason_fits};
 
 // A yes, or the count of bytes of the reason for a no; or why there is neither.
@@ -113,8 +113,8 @@ fn sheets_len(aw: &[u64], an: &[u8], bw: &[u64], bn: &[u8], all: bool) -> Reason
 pub fn reason_len(aw: &[u64], an: &[u8], bw: &[u64], bn: &[u8], all: bool) -> Reasoned
     ensures { result ≡ reason_len all aw.now an.now bw.now bn.now }
 {
-    if let Lone::Code(k) = lone_code(aw) {
-        if let Lone::Code(j) = lone_code(bw) {
+    if let Lone::Code(k) = code_alone(aw) {
+        if let Lone::Code(j) = code_alone(bw) {
             return codes_len(k, j);
         }
     }

@@ -1,4 +1,4 @@
--- What two lent lists hold (01, refusals 3 and 4), the answers that are made of it, and what `check`, `check_both` and `lone_code` answer.
+-- What two lent lists hold (01, refusals 3 and 4), the answers that are made of it, and what `check`, `check_both` and `code_alone` answer.
 use Rattle.std.specs.Prelude.{ℕ, cond, ◌&&◌, List, [], leb, ltb, get_or}
 use Rattle.kinds.specs.Refusal.{number}
 use Rattle.kinds.specs.Sheet.{is_sheet, tree_of, header_words, node_words, kind_at}

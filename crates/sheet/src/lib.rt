@@ -326,7 +326,7 @@ fn check_sheet(words: &[u64], names: &[u8]) -> Checked
 }
 
 // Whether the words are the sheet of one code: the case that is asked for most, told apart before all else.
-fn is_lone_code(words: &[u64]) -> bool
+fn lone_code(words: &[u64]) -> bool
     ensures holds { result ≡ true → LoneCode words.now }
     ensures fails { result ≡ false → LoneCode words.now → ⊥ }
 {
@@ -355,10 +355,10 @@ fn is_lone_code(words: &[u64]) -> bool
 }
 
 // The code that the words hold, whatever names stand beside them: for a call that can answer for codes before the check of its sheets.
-pub fn lone_code(words: &[u64]) -> Lone
+pub fn code_alone(words: &[u64]) -> Lone
     ensures { result ≡ lone_code words.now }
 {
-    if is_lone_code(words) {
+    if lone_code(words) {
         return Lone::Code(words[HEADER]);
     }
     Lone::Other
@@ -370,7 +370,7 @@ pub fn check(words: &[u64], names: &[u8]) -> Checked
     ensures gives { Gives words.now names.now result }
     ensures number { checked_number result ≡ sheet_number words.now names.now }
 {
-    if is_lone_code(words) {
+    if lone_code(words) {
         return Checked::Code(HEADER, words[HEADER]);
     }
     check_sheet(&words[0..], &names[0..])
@@ -414,8 +414,8 @@ pub fn check_both(aw: &[u64], an: &[u8], bw: &[u64], bn: &[u8]) -> CheckedBoth
     ensures gives { GivesBoth aw.now an.now bw.now bn.now result }
     ensures number { checked_both_number result ≡ sheets_number aw.now an.now bw.now bn.now }
 {
-    if is_lone_code(aw) {
-        if is_lone_code(bw) {
+    if lone_code(aw) {
+        if lone_code(bw) {
             return CheckedBoth::Codes(aw[HEADER], bw[HEADER]);
         }
         return both_of(
