@@ -1,11 +1,11 @@
 /*
  * Berzhotun: Objective-C type encodings read, compared, measured, laid out and printed.
  *
- * A proved port of the core of the Rust crate objc2-encode 4.1.0. `rt staticlib berzhotun`, at the
- * repository's root, proves it and writes target/staticlib/libberzhotun.a, for x86-64 Linux;
+ * A proved port of the core of the Rust crate objc2-encode 4.1.0. `rt lib`, in the folder
+ * crates/berzhotun, proves it and writes out/libberzhotun.a there, for x86-64 Linux;
  * `tools/handover FOLDER` writes archives for macOS and for Linux on ARM from the same module.
  *
- *     cc -I include program.c target/staticlib/libberzhotun.a
+ *     cc -I include program.c crates/berzhotun/out/libberzhotun.a
  *
  * RETURNED NUMBER. Every function returns 0 if it accepts, and otherwise the number of the refusal
  * (BERZHOTUN_TEXT_TOO_LONG and so on). Where several reasons hold, the one that each function
