@@ -2,8 +2,9 @@
  * Berzhotun: Objective-C type encodings read, compared, measured, laid out and printed.
  *
  * A proved port of the core of the Rust crate objc2-encode 4.1.0. `rt lib`, in the folder
- * crates/berzhotun, proves it and writes out/libberzhotun.a there, for x86-64 Linux;
- * `tools/handover FOLDER` writes archives for macOS and for Linux on ARM from the same module.
+ * crates/berzhotun, proves it and writes out/libberzhotun.a there, for x86-64 Linux on processors of
+ * the level x86-64-v2 and above; `tools/handover FOLDER` writes archives for macOS and for Linux on
+ * ARM from the same module.
  *
  *     cc -I include program.c crates/berzhotun/out/libberzhotun.a
  *
