@@ -1,11 +1,19 @@
 // Reading an input into a lent buffer, as far as there is room.
 #![tactic(auto)]
 
-ghost use Rattle.std.specs.Prelude.{◌≡◌, ◌<◌, ◌≤◌, length, take, IfOk};
+ghost use Rattle.std.specs.Prelude.{◌≡◌, ◌<◌, ◌≤◌, length, take, All, IfOk};
 ghost use Rattle.std.specs.Io.KnownBytes.{Consumes, IsAtEnd};
 
 use std::io;
 use std::io::Read;
+
+// A buffer of zeros. A caller's proof has its length by this contract, and never looks into an array of half a million bytes.
+pub fn zeros<const N: usize>() -> [u8; N]
+    ensures size { N ≡ length result }
+    ensures bytes { All (λ b. b ≡ 0) result }
+{
+    [0; N]
+}
 
 // Reads until the buffer is full or the input ends; how many bytes stand at the start of the buffer.
 // After an error nothing is promised of the buffer, nor of how much of the input is read.

@@ -3,7 +3,7 @@
 #![tactic(auto)]
 
 use helper::Sized;
-use input::read_full;
+use input::{read_full, zeros};
 use kinds::{Compared, MAX_TEXT, Refusal};
 use layout::LaidOut;
 use lines::Decoded;
@@ -138,13 +138,11 @@ fn answer_start(text: &[u8], words: &mut [u64], names: &mut [u8], out: &mut [u8]
 // The three numbers of each entry.
 fn put_entries(out: &mut [u8], at: usize, list: &[u64], n: u16) -> usize {
     let mut to = at;
-    let mut k = 0;
-    while k < n {
+    for k in 0..n {
         let i = 3 * (k as usize);
         let start = lines::put_marked(out, to, b' ', lines::word_at(list, i));
         let size = lines::put_marked(out, start, b',', lines::word_at(list, i + 1));
         to = lines::put_marked(out, size, b',', lines::word_at(list, i + 2));
-        k += 1;
     }
     to
 }
@@ -174,10 +172,8 @@ fn answer_size(row: u64, word: &[u8], words: &[u64], names: &[u8], out: &mut [u8
 // The numbers of `n` nodes.
 fn put_offsets(out: &mut [u8], at: usize, list: &[u64], n: u16) -> usize {
     let mut to = lines::put_marked(out, at, b' ', lines::word_at(list, 0));
-    let mut k = 1;
-    while k < n {
+    for k in 1..n {
         to = lines::put_marked(out, to, b',', lines::word_at(list, k as usize));
-        k += 1;
     }
     to
 }
@@ -466,7 +462,7 @@ fn write_answers(
 }
 
 fn main(rt: HostRuntime) -> io::Result<()> {
-    let mut input = [0u8; MAX_INPUT];
+    let mut input = zeros::<MAX_INPUT>();
     let n = read_full(&mut rt.reader(), &mut input)?;
     let mut text = [0u8; MAX_DECODED];
     let mut aw = [0u64; MAX_WORDS];

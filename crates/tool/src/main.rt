@@ -3,7 +3,7 @@
 #![tactic(auto)]
 
 use helper::Sized;
-use input::read_full;
+use input::{read_full, zeros};
 use kinds::{Compared, MAX_TEXT, ROWS};
 use layout::LaidOut;
 use parse::Reading;
@@ -545,7 +545,7 @@ fn answer_lines(rt: &impl Print, err: &impl Print, input: &[u8]) -> io::Result<(
 }
 
 fn answer_input(rt: &(impl Input + Print), err: &impl Print) -> io::Result<()> {
-    let mut input = [0u8; MAX_INPUT];
+    let mut input = zeros::<MAX_INPUT>();
     let n = read_full(&mut rt.reader(), &mut input)?;
     answer_lines(rt, err, &input[..n])
 }
