@@ -4,8 +4,7 @@
 ghost use Rattle.std.specs.Prelude.{◌≡◌, ◌<◌, ◌≤◌, length, take, All, IfOk};
 ghost use Rattle.std.specs.Io.KnownBytes.{Consumes, IsAtEnd};
 
-use std::io;
-use std::io::Read;
+use std::io::{self, Read};
 
 // A buffer of zeros. A caller's proof has its length by this contract, and never looks into an array of half a million bytes.
 pub fn zeros<const N: usize>() -> [u8; N]
@@ -31,4 +30,29 @@ pub fn read_full<R: Read>(reader: &mut R, buf: &mut [u8]) -> io::Result<usize>
         done += n;
     }
     Ok(done)
+}
+
+#[cfg(test)]
+mod tests {
+    use super::*;
+    use std::test::Fail;
+
+    #[test]
+    fn reads_all_of_a_short_input(rt: HostRuntime) -> Result<(), Fail> {
+        let mut buf = zeros::<4>();
+        let mut short: &[u8] = b"abc";
+        assert_eq!(rt; read_full(&mut short, &mut buf)?, 3);
+        assert_eq!(rt; buf, *b"abc\0");
+        Ok(())
+    }
+
+    #[test]
+    fn leaves_what_has_no_room(rt: HostRuntime) -> Result<(), Fail> {
+        let mut buf = zeros::<4>();
+        let mut long: &[u8] = b"abcdef";
+        assert_eq!(rt; read_full(&mut long, &mut buf)?, 4);
+        assert_eq!(rt; buf, *b"abcd");
+        assert_eq!(rt; long, b"ef".as_slice());
+        Ok(())
+    }
 }

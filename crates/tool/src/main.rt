@@ -550,7 +550,7 @@ fn answer_input(rt: &(impl Input + Print), err: &impl Print) -> io::Result<()> {
     answer_lines(rt, err, &input[..n])
 }
 
-// How many words the command line has, the program's name among them.
+// How many words the command line has, the program's name among them. A word that is there is too long for no room, or empty.
 fn word_count(rt: &impl Env) -> usize {
     let mut none = [0u8; 0];
     for i in 0..usize::MAX {
