@@ -3,15 +3,16 @@
 #![tactic(auto)]
 
 use helper::Sized;
+use input::{read_full, zeros};
 use kinds::{Compared, MAX_TEXT, Refusal};
 use layout::LaidOut;
-use libc::{STDIN_FILENO, STDOUT_FILENO};
 use lines::Decoded;
 use parse::Reading;
 use reason::Reasoned;
 use sheet::MAX_WORDS;
 use signature::SignatureReading;
 use static_str::Printed;
+use std::io;
 
 // The most bytes of questions, of a text in one, which may be longer than any that is read, and of an answer.
 const MAX_INPUT: usize = 524288;
@@ -30,7 +31,7 @@ enum Loaded {
 
 // A text: `t:` and its bytes in hex.
 fn load_text(argument: &[u8], text: &mut [u8]) -> Decoded {
-    if !check::same(lines::field(argument, b':'), b"t") {
+    if !matches!(lines::field(argument, b':'), b"t") {
         return Decoded::Bad;
     }
     lines::decode_hex(lines::rest(argument, b':'), text)
@@ -49,7 +50,7 @@ fn load_sheet(sheet: &[u8], words: &mut [u64], names: &mut [u8]) -> Loaded {
 
 // A tree: a sheet, or a text, which is read.
 fn load_tree(argument: &[u8], text: &mut [u8], words: &mut [u64], names: &mut [u8]) -> Loaded {
-    if check::same(lines::field(argument, b':'), b"s") {
+    if matches!(lines::field(argument, b':'), b"s") {
         return load_sheet(lines::rest(argument, b':'), words, names);
     }
     let Decoded::Items(n) = load_text(argument, text) else {
@@ -137,13 +138,11 @@ fn answer_start(text: &[u8], words: &mut [u64], names: &mut [u8], out: &mut [u8]
 // The three numbers of each entry.
 fn put_entries(out: &mut [u8], at: usize, list: &[u64], n: u16) -> usize {
     let mut to = at;
-    let mut k = 0;
-    while k < n {
+    for k in 0..n {
         let i = 3 * (k as usize);
         let start = lines::put_marked(out, to, b' ', lines::word_at(list, i));
         let size = lines::put_marked(out, start, b',', lines::word_at(list, i + 1));
         to = lines::put_marked(out, size, b',', lines::word_at(list, i + 2));
-        k += 1;
     }
     to
 }
@@ -173,10 +172,8 @@ fn answer_size(row: u64, word: &[u8], words: &[u64], names: &[u8], out: &mut [u8
 // The numbers of `n` nodes.
 fn put_offsets(out: &mut [u8], at: usize, list: &[u64], n: u16) -> usize {
     let mut to = lines::put_marked(out, at, b' ', lines::word_at(list, 0));
-    let mut k = 1;
-    while k < n {
+    for k in 1..n {
         to = lines::put_marked(out, to, b',', lines::word_at(list, k as usize));
-        k += 1;
     }
     to
 }
@@ -249,16 +246,7 @@ fn answer_reason(
 }
 
 fn is_reading(question: &[u8]) -> bool {
-    if check::same(question, b"read") {
-        return true;
-    }
-    if check::same(question, b"read-strict") {
-        return true;
-    }
-    if check::same(question, b"signature") {
-        return true;
-    }
-    check::same(question, b"start")
+    matches!(question, b"read" | b"read-strict" | b"signature" | b"start")
 }
 
 fn answer_reading(
@@ -272,18 +260,19 @@ fn answer_reading(
     let Decoded::Items(n) = load_text(argument, text) else {
         return put_bad_line(out);
     };
-    if check::same(question, b"start") {
-        return answer_start(lines::front(text, n), words, names, out);
+    let given = lines::front(text, n);
+    match question {
+        b"start" => answer_start(given, words, names, out),
+        b"signature" => answer_signature(given, words, out),
+        b"read-strict" => {
+            let strict = encoding_box::from_str_strict(given, words, names);
+            answer_read(strict, words, names, out)
+        }
+        _ => {
+            let reading = encoding_box::from_str(given, words, names);
+            answer_read(reading, words, names, out)
+        }
     }
-    if check::same(question, b"signature") {
-        return answer_signature(lines::front(text, n), words, out);
-    }
-    if check::same(question, b"read-strict") {
-        let strict = encoding_box::from_str_strict(lines::front(text, n), words, names);
-        return answer_read(strict, words, names, out);
-    }
-    let reading = encoding_box::from_str(lines::front(text, n), words, names);
-    answer_read(reading, words, names, out)
 }
 
 fn answer_matching(
@@ -312,16 +301,12 @@ fn answer_one(
     text: &mut [u8],
     out: &mut [u8],
 ) -> usize {
-    if check::same(question, b"size") {
-        return answer_size(0, b"refused ", words, names, out);
+    match question {
+        b"size" => answer_size(0, b"refused ", words, names, out),
+        b"length" => answer_length(words, names, out),
+        b"print" => answer_print(words, names, text, out),
+        _ => put_bad_line(out),
     }
-    if check::same(question, b"length") {
-        return answer_length(words, names, out);
-    }
-    if check::same(question, b"print") {
-        return answer_print(words, names, text, out);
-    }
-    put_bad_line(out)
 }
 
 fn answer_tree(
@@ -340,10 +325,7 @@ fn answer_tree(
 }
 
 fn is_by_row(question: &[u8]) -> bool {
-    if check::same(question, b"size-in") {
-        return true;
-    }
-    check::same(question, b"layout")
+    matches!(question, b"size-in" | b"layout")
 }
 
 // A row's number in decimal, then a tree.
@@ -367,29 +349,18 @@ fn answer_by_row(
     match load_tree(lines::rest(arguments, b' '), text, words, names) {
         Loaded::Unread(why) => put_refused(out, b"unread ", why),
         Loaded::Bad => put_bad_line(out),
-        Loaded::Tree => {
-            if check::same(question, b"layout") {
-                return answer_layout(row[0], words, names, list, out);
-            }
-            answer_size(row[0], b"no ", words, names, out)
-        }
+        Loaded::Tree => match question {
+            b"layout" => answer_layout(row[0], words, names, list, out),
+            _ => answer_size(row[0], b"no ", words, names, out),
+        },
     }
 }
 
 fn is_comparison(question: &[u8]) -> bool {
-    if check::same(question, b"equivalent") {
-        return true;
-    }
-    if check::same(question, b"equivalent-box") {
-        return true;
-    }
-    if check::same(question, b"reason") {
-        return true;
-    }
-    if check::same(question, b"reason-all") {
-        return true;
-    }
-    check::same(question, b"equal")
+    matches!(
+        question,
+        b"equivalent" | b"equivalent-box" | b"reason" | b"reason-all" | b"equal"
+    )
 }
 
 fn answer_two(
@@ -401,19 +372,13 @@ fn answer_two(
     text: &mut [u8],
     out: &mut [u8],
 ) -> usize {
-    if check::same(question, b"equal") {
-        return answer_equal(aw, an, bw, bn, out);
+    match question {
+        b"equal" => answer_equal(aw, an, bw, bn, out),
+        b"equivalent-box" => put_compared(out, 0, encoding::equivalent_to_box(aw, an, bw, bn)),
+        b"reason" => answer_reason(aw, an, bw, bn, false, text, out),
+        b"reason-all" => answer_reason(aw, an, bw, bn, true, text, out),
+        _ => put_compared(out, 0, encoding::equivalent_to(aw, an, bw, bn)),
     }
-    if check::same(question, b"equivalent-box") {
-        return put_compared(out, 0, encoding::equivalent_to_box(aw, an, bw, bn));
-    }
-    if check::same(question, b"reason") {
-        return answer_reason(aw, an, bw, bn, false, text, out);
-    }
-    if check::same(question, b"reason-all") {
-        return answer_reason(aw, an, bw, bn, true, text, out);
-    }
-    put_compared(out, 0, encoding::equivalent_to(aw, an, bw, bn))
 }
 
 fn answer_trees(
@@ -448,7 +413,7 @@ fn answer(
     if is_reading(question) {
         return answer_reading(question, arguments, text, aw, an, out);
     }
-    if check::same(question, b"text") {
+    if matches!(question, b"text") {
         return answer_matching(arguments, text, aw, an, out);
     }
     if is_by_row(question) {
@@ -462,6 +427,7 @@ fn answer(
 
 // Writes the answer to a question, and a line end.
 fn write_answer(
+    rt: &impl Print,
     line: &[u8],
     text: &mut [u8],
     aw: &mut [u64],
@@ -469,13 +435,14 @@ fn write_answer(
     bw: &mut [u64],
     bn: &mut [u8],
     out: &mut [u8],
-) {
+) -> io::Result<()> {
     let n = answer(line, text, aw, an, bw, bn, out);
     let end = lines::put_bytes(out, n, b"\n");
-    io::write_all(STDOUT_FILENO, lines::front(out, end));
+    rt.write_all(lines::front(out, end))
 }
 
 fn write_answers(
+    rt: &impl Print,
     input: &[u8],
     text: &mut [u8],
     aw: &mut [u64],
@@ -483,18 +450,20 @@ fn write_answers(
     bw: &mut [u64],
     bn: &mut [u8],
     out: &mut [u8],
-) {
+) -> io::Result<()> {
     let mut unread = input;
     while 0 < unread.len() {
-        write_answer(lines::field(unread, b'\n'), text, aw, an, bw, bn, out);
+        let line = lines::field(unread, b'\n');
+        write_answer(rt, line, text, aw, an, bw, bn, out)?;
         let next = lines::rest(unread, b'\n');
         unread = next;
     }
+    Ok(())
 }
 
-fn main() {
-    let mut input = [0u8; MAX_INPUT];
-    let n = io::read_full(STDIN_FILENO, &mut input);
+fn main(rt: HostRuntime) -> io::Result<()> {
+    let mut input = zeros::<MAX_INPUT>();
+    let n = read_full(&mut rt.reader(), &mut input)?;
     let mut text = [0u8; MAX_DECODED];
     let mut aw = [0u64; MAX_WORDS];
     let mut an = [0u8; MAX_TEXT];
@@ -502,6 +471,7 @@ fn main() {
     let mut bn = [0u8; MAX_TEXT];
     let mut out = [0u8; MAX_ANSWER];
     write_answers(
+        &rt,
         &input[..n],
         &mut text,
         &mut aw,
@@ -509,5 +479,5 @@ fn main() {
         &mut bw,
         &mut bn,
         &mut out,
-    );
+    )
 }

@@ -7,7 +7,7 @@ ghost use Rattle.lines.specs.Answer.{Put};
 ghost use Rattle.rows.specs.Answer.{four, spaced, row_text, table_text};
 
 use kinds::SIZES;
-use libc::STDOUT_FILENO;
+use std::io;
 
 // More bytes than the table has.
 const MAX_TABLE: usize = 512;
@@ -104,8 +104,8 @@ fn put_table(out: &mut [u8], at: usize) -> usize
     put_row(out, fourth, 3)
 }
 
-fn main() {
+fn main(rt: HostRuntime) -> io::Result<()> {
     let mut out = [0u8; MAX_TABLE];
     let n = put_table(&mut out, 0);
-    io::write_all(STDOUT_FILENO, lines::front(&out, n));
+    rt.write_all(lines::front(&out, n))
 }

@@ -1,5 +1,5 @@
 -- `rows::put_spaced` meets its contract. Assumes nothing.
-use Prim.Native.Nat.{◌+◌, ◌-◌}
+use Prim.Native.Nat.{◌+◌}
 use mathlib.Core.Path.{refl, sym, ◌∙◌}
 use native.Mathlib.Omega.{arith}
 use lib.ListN.{drop, get_or}
@@ -29,14 +29,13 @@ loop-i-smaller c = omega arith
 
 pub loop-i-preserved : goal.loop-i-preserved
 unfolding space_number
-loop-i-preserved c =
-    (
-      then-put (space_number (get_or c.args.row.now c.loop-i.i 0)) (each space_number (drop (c.loop-i.i + 1) c.args.row.now))
-          (each_more space_number c.args.row.now c.loop-i.i c.loop-i-test.true) c.loop-i.invariant.0 c.put_marked-to.ensures,
-      c.put_marked-to.auto.out
-          ∙ c.loop-i.invariant.1,
-      omega arith,
-    )
+loop-i-preserved c = (
+  then-put (space_number (get_or c.args.row.now c.loop-i.i 0)) (each space_number (drop (c.loop-i.i + 1) c.args.row.now))
+      (each_more space_number c.args.row.now c.loop-i.i c.loop-i-test.true) c.loop-i.invariant.0 c.put_marked-to.ensures,
+  c.put_marked-to.auto.out
+      ∙ c.loop-i.invariant.1,
+  omega arith,
+)
 
 pub shape_of-out : goal.shape_of-out
 shape_of-out c =

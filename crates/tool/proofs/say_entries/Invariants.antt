@@ -1,9 +1,0 @@
--- `tool::say_entries` meets its contract. Assumes nothing.
-use Prim.Native.Nat.{◌-◌}
-use Rattle.tool.proofs.say_entries.Given as goal
-
-abbrev pub invariant-loop-k : goal.invariant-loop-k
-invariant-loop-k l = Unit {0}
-
-abbrev pub decreases-loop-k : goal.decreases-loop-k
-decreases-loop-k l = l.n - l.k
