@@ -1,7 +1,7 @@
 // Reading an input into a lent buffer, as far as there is room.
 #![tactic(auto)]
 
-ghost use Rattle.std.specs.Prelude.{◌≡◌, ◌<◌, ◌≤◌, length, take, All, IfOk};
+ghost use Rattle.std.specs.Prelude.{◌≡◌, ◌<◌, ◌≤◌, ℕ, length, take, All, IfOk, IfErr};
 ghost use Rattle.std.specs.Io.KnownBytes.{Consumes, IsAtEnd};
 
 use std::io::{self, Read};
@@ -14,12 +14,13 @@ pub fn zeros<const N: usize>() -> [u8; N]
     [0; N]
 }
 
-// Reads until the buffer is full or the input ends; how many bytes stand at the start of the buffer.
-// After an error nothing is promised of the buffer, nor of how much of the input is read.
+// Reads until the buffer is full or the input ends; how many bytes stand at the start of the buffer. After an error too what the input has lost
+// stands there, however much that is. Of the bytes behind it nothing is promised, as no `Read` promises to leave them.
 pub fn read_full<R: Read>(reader: &mut R, buf: &mut [u8]) -> io::Result<usize>
     ensures within { IfOk result (λ n. n ≤ length buf.new) }
     ensures bytes { IfOk result (λ n. Consumes (R.remaining reader.old) (R.remaining reader.new) (take n buf.new)) }
     ensures end { IfOk result (λ n. n < length buf.new → IsAtEnd (R.remaining reader.new)) }
+    ensures none_lost { IfErr result (λ e. (n : ℕ) × (n ≤ length buf.new) × Consumes (R.remaining reader.old) (R.remaining reader.new) (take n buf.new)) }
 {
     let mut done = 0;
     while done < buf.len() {
