@@ -1,6 +1,6 @@
 -- The marked cases of 01, "Corner cases, file by file", as one table, and what a row of it claims.
 use Rattle.std.specs.Prelude.{ℕ, ◌≡◌, Bool, true, false, List, [], ◌∷◌}
-use Rattle.std.proofs.Math.Option.{Option, some, none}
+use Rattle.std.specs.Prelude.{Option, Some, None}
 use Rattle.kinds.specs.Byte.{byte, bytes}
 use Rattle.kinds.specs.Compare.{equivalent_to}
 use Rattle.kinds.specs.Expect.{equivalent_to_str}
@@ -29,8 +29,8 @@ refused_by r = refused (number r) (place r) (refused_byte r) (refused_container 
 
 -- How whole-text reading refuses, if it does.
 unfoldable pub refusal_of : Whole → Option Refused
-refusal_of (tree l cs) = none
-refusal_of (P.refusal e at) = some (refused_by (Parse e at))
+refusal_of (tree l cs) = None
+refusal_of (P.refusal e at) = Some (refused_by (Parse e at))
 
 pub data Case : Type 0 where
   -- Whole-text reading gives the tree, or refuses.
@@ -52,7 +52,7 @@ IsTree t = is_one t ≡ true
 -- What a row claims.
 abbrev pub Holds : Case → Type 0
 Holds (reads s t) = read_tree s ≡ t
-Holds (refuses s r) = refusal_of (from_str s) ≡ some r
+Holds (refuses s r) = refusal_of (from_str s) ≡ Some r
 Holds (has_size t n) = IsTree t × (size (widths 0) t ≡ n)
 Holds (against_text t s answer) = IsTree t × (equivalent_to_str t s ≡ answer)
 Holds (against_tree t u answer) = IsTree t × IsTree u × (equivalent_to t u ≡ answer)
@@ -67,15 +67,15 @@ unfoldable pub marked_cases : List Case
 marked_cases =
     -- parse.rs
     reads (bytes "") (node T.none end end)
-    ∷ refuses (bytes "x") (refused 8 (some 1) (some (byte "x")) none)
-    ∷ refuses (bytes "^]") (refused 15 (some 1) none none)
+    ∷ refuses (bytes "x") (refused 8 (Some 1) (Some (byte "x")) None)
+    ∷ refuses (bytes "^]") (refused 15 (Some 1) None None)
     ∷ reads (bytes "b255") (node (bit_field 255) end end)
-    ∷ refuses (bytes "{") (refused 13 (some 1) none (some Struct))
-    ∷ refuses (bytes "{}") (refused 14 (some 1) none (some Struct))
+    ∷ refuses (bytes "{") (refused 13 (Some 1) None (Some Struct))
+    ∷ refuses (bytes "{}") (refused 14 (Some 1) None (Some Struct))
     -- helper.rs
-    ∷ has_size (read_tree (bytes "{x=}")) (some 0)
-    ∷ has_size (read_tree (bytes "(x=)")) none
-    ∷ has_size (read_tree (bytes "b255")) (some 32)
+    ∷ has_size (read_tree (bytes "{x=}")) (Some 0)
+    ∷ has_size (read_tree (bytes "(x=)")) None
+    ∷ has_size (read_tree (bytes "b255")) (Some 32)
     -- encoding.rs
     ∷ against_text (read_tree (bytes "{R=i}")) (bytes "{R=}") true
     ∷ against_text (read_tree (bytes "{R=i}")) (bytes "{R}") false

@@ -3,7 +3,7 @@ use Prim.Native.Nat.{ℕ, zero, suc, ◌+◌, ◌≤◌, ◌<◌}
 use native.Mathlib.Omega.{arith}
 use mathlib.Core.Path.{◌≡◌, refl, ap, ◌∙◌}
 use mathlib.Core.List.{List, []}
-use mathlib.Core.Option.{some, none}
+use Rattle.std.specs.Prelude.{Some}
 use lib.ListN.{length, get_or, replicate, length-replicate}
 use Rattle.kinds.specs.Byte.{byte, among}
 use Rattle.kinds.specs.Parse as P
@@ -77,7 +77,7 @@ no-qualifiers (suc n) = refl
 
 -- What whole-text reading makes of it.
 record WholeIs (t : Trees) (q : Whole) : Type 0 where
-  the-tree : whole_tree q ≡ some t
+  the-tree : whole_tree q ≡ Some t
   accepted : whole_reading q ≡ Tree
 
 whole_of : (k n : ℕ) (q : Parsed) → Read n q → WholeIs (pointers_to n) (whole k (encoding_or_none q))
@@ -96,7 +96,7 @@ unfolding pointers
 pointers-length n = length-replicate n (byte "^")
 
 -- The header of a sheet that is written over the front of a list.
-words-used : (k : ℕ) (t : Trees) (words : List ℕ) → get_or (filled k (sheet_words (some t)) words) 3 0 ≡ words_used (count t)
+words-used : (k : ℕ) (t : Trees) (words : List ℕ) → get_or (filled k (sheet_words (Some t)) words) 3 0 ≡ words_used (count t)
 unfolding filled padded sheet_words sheet_of header_for
 words-used k t words = refl
 

@@ -5,7 +5,7 @@ use mathlib.Core.Path.{◌≡◌, refl}
 use mathlib.Core.Bool.{true}
 use mathlib.Core.List.{List, [], ◌∷◌, ◌++◌, map}
 use mathlib.Core.Logic.{◌↔◌}
-use mathlib.Core.Option.{some, none}
+use Rattle.std.specs.Prelude.{Some, None}
 use Rattle.kinds.specs.Byte.{byte, bytes, among}
 use Rattle.kinds.specs.Parse.{max_u64, max_u8, qualifiers, is_qualifier, strip_leading_qualifiers}
 use Rattle.kinds.specs.Primitive.{widths}
@@ -58,15 +58,15 @@ guide-reads = type-read
 -- ---- The guide's widths.
 
 -- The guide states one width, that of a long.
-pub guide-bits : (m : Meaning) (n : ℕ) → (bits m ≡ some n) ↔ ((m ≡ long) × (n ≡ 32))
+pub guide-bits : (m : Meaning) (n : ℕ) → (bits m ≡ Some n) ↔ ((m ≡ long) × (n ≡ 32))
 guide-bits = one-stated
 
 -- Row 3 gives each code for which the guide states a width that width: 8 times its bytes are the bits.
-pub guide-width : (m : Meaning) (n : ℕ) → bits m ≡ some n → (b : ℕ) × (size (widths 3) (one (meant m)) ≡ some b) × (8 * b ≡ n)
+pub guide-width : (m : Meaning) (n : ℕ) → bits m ≡ Some n → (b : ℕ) × (size (widths 3) (one (meant m)) ≡ Some b) × (8 * b ≡ n)
 guide-width = stated-width
 
 -- It gives each other code, the crate's own included, what row 0 gives.
-pub guide-width-only : (p : Primitive) → ((m : Meaning) → p ≡ meant m → bits m ≡ none) → size (widths 3) (one p) ≡ size (widths 0) (one p)
+pub guide-width-only : (p : Primitive) → ((m : Meaning) → p ≡ meant m → bits m ≡ None) → size (widths 3) (one p) ≡ size (widths 0) (one p)
 guide-width-only = other_width
 
 -- ---- The guide's qualifiers.

@@ -3,7 +3,7 @@ use Prim.Native.Nat.{ℕ, ◌*◌}
 use native.Mathlib.Omega.{arith}
 use mathlib.Core.Logic.{◌↔◌}
 use mathlib.Core.Path.{◌≡◌, refl, sym}
-use mathlib.Core.Option.{some, none}
+use Rattle.std.specs.Prelude.{Some, None}
 use Rattle.kinds.specs.Primitive.{widths, primitive_size}
 use Rattle.kinds.specs.Size.{only, node_size, sizes, size}
 use Rattle.kinds.specs.declared.Primitive.{Primitive}
@@ -12,13 +12,13 @@ use Rattle.documents.specs.Guide as G
 use Rattle.documents.specs.Guide.{Meaning, bits}
 use Rattle.documents.specs.Translation.{meant, one}
 
-nothing-stated : {A : Type 0} {n : ℕ} → none ≡ some n → A
+nothing-stated : {A : Type 0} {n : ℕ} → None ≡ Some n → A
 nothing-stated e = let z : ◌≡◌ {A = ℕ} 0 1 = cc in absurd (omega arith)
 
-pub one-stated : (m : Meaning) (n : ℕ) → (bits m ≡ some n) ↔ ((m ≡ G.long) × (n ≡ 32))
+pub one-stated : (m : Meaning) (n : ℕ) → (bits m ≡ Some n) ↔ ((m ≡ G.long) × (n ≡ 32))
 one-stated m n = (from m, λ e. rw (e.0, e.1))
   where
-    from : (x : Meaning) → bits x ≡ some n → (x ≡ G.long) × (n ≡ 32)
+    from : (x : Meaning) → bits x ≡ Some n → (x ≡ G.long) × (n ≡ 32)
     from G.char e = nothing-stated e
     from G.int e = nothing-stated e
     from G.short e = nothing-stated e
@@ -39,11 +39,11 @@ one-stated m n = (from m, λ e. rw (e.0, e.1))
     from G.selector e = nothing-stated e
     from G.unknown e = nothing-stated e
 
-pub stated-width : (m : Meaning) (n : ℕ) → bits m ≡ some n → (b : ℕ) × (size (widths 3) (one (meant m)) ≡ some b) × (8 * b ≡ n)
+pub stated-width : (m : Meaning) (n : ℕ) → bits m ≡ Some n → (b : ℕ) × (size (widths 3) (one (meant m)) ≡ Some b) × (8 * b ≡ n)
 unfolding size sizes only node_size primitive_size
 stated-width m n e = let o = (one-stated m n).0 e in (4, rw o.0, sym o.1)
 
-pub other_width : (p : Primitive) → ((m : Meaning) → p ≡ meant m → bits m ≡ none) → size (widths 3) (one p) ≡ size (widths 0) (one p)
+pub other_width : (p : Primitive) → ((m : Meaning) → p ≡ meant m → bits m ≡ None) → size (widths 3) (one p) ≡ size (widths 0) (one p)
 unfolding size sizes only node_size primitive_size
 other_width P.Char h = refl
 other_width P.Short h = refl

@@ -1,6 +1,6 @@
 -- Where the crate parts from the documents, as rows that hold of the definitions of both (docs/DIFFERENCES.md has them in words).
 use Rattle.std.specs.Prelude.{ℕ, zero, ◌*◌, ◌^◌, ◌≡◌, true, false, List, [], ◌∷◌, ◌++◌}
-use Rattle.std.proofs.Math.Option.{Option, some, none}
+use Rattle.std.specs.Prelude.{Option, Some, None}
 use Rattle.kinds.specs.Byte.{byte, bytes}
 use Rattle.kinds.specs.Compare.{equivalent_to}
 use Rattle.kinds.specs.Parse.{Whole, tree, refusal, from_str}
@@ -44,12 +44,12 @@ pub data Row : Type 0 where
   reads : List ℕ → Trees → Row
 
 unfoldable pub refused_with : Whole → Option (ℕ × ℕ)
-refused_with (tree l cs) = none
-refused_with (refusal e place) = some (number (Parse e place), place)
+refused_with (tree l cs) = None
+refused_with (refusal e place) = Some (number (Parse e place), place)
 
 -- The crate refuses the text.
 abbrev pub Refuses : List ℕ → ℕ → ℕ → Type 0
-Refuses s n place = refused_with (from_str s) ≡ some (n, place)
+Refuses s n place = refused_with (from_str s) ≡ Some (n, place)
 
 -- What a row claims.
 abbrev pub Holds : Row → Type 0
@@ -59,7 +59,7 @@ Holds (also_reads t g s) = (is_type t ≡ true) × (encode zero t ≡ g) × (pri
 Holds (no_type t s u) = (is_type t ≡ false) × (encode zero t ≡ s) × (read_tree s ≡ u)
 Holds (undefined t s p) = (is_type t ≡ false) × (read_tree s ≡ trees t) × (print Top (trees t) ≡ p)
 Holds (no_code b s u p) = (begins b ≡ false) × (read_tree (b ∷ s) ≡ u) × (print Top u ≡ p)
-Holds (width m bits a b) = (G.bits m ≡ some bits) × (size (widths 0) (read_tree (encode zero (only m))) ≡ some a) × (size (widths 3) (read_tree (encode zero (only m))) ≡ some b) × (8 * b ≡ bits)
+Holds (width m bits a b) = (G.bits m ≡ Some bits) × (size (widths 0) (read_tree (encode zero (only m))) ≡ Some a) × (size (widths 3) (read_tree (encode zero (only m))) ≡ Some b) × (8 * b ≡ bits)
 Holds (refuses_type t s n place) = (is_type t ≡ true) × (encode zero t ≡ s) × Refuses s n place
 Holds (refuses d s n place) = (d ≡ s) × Refuses s n place
 Holds (differ s t) = (equivalent_to (read_tree s) (read_tree t) ≡ false) × (equivalent_to (read_tree t) (read_tree s) ≡ false)

@@ -1,7 +1,6 @@
 -- Apple's Objective-C Runtime Programming Guide, "Type Encodings": its two tables, and the encoding of a type.
 use Rattle.std.specs.Prelude.{ℕ, zero, suc, Bool, true, false, ◌&&◌, ◌||◌, not, List, [], ◌∷◌, ◌++◌, map, leb, eqb}
-use Rattle.std.proofs.Math.Option as O
-use Rattle.std.proofs.Math.Option.{Option}
+use Rattle.std.specs.Prelude.{Option, Some, None}
 use Rattle.kinds.specs.Byte.{byte, bytes, among}
 use Rattle.documents.specs.Decimal.{decimal}
 
@@ -64,25 +63,25 @@ table =
 
 -- The widths in bits, in 64-bit programs, that the table states: its remark on a long. It says nothing about any other, an unsigned long included.
 abbrev pub bits : Meaning → Option ℕ
-bits char = O.none
-bits int = O.none
-bits short = O.none
-bits long = O.some 32
-bits long_long = O.none
-bits unsigned_char = O.none
-bits unsigned_int = O.none
-bits unsigned_short = O.none
-bits unsigned_long = O.none
-bits unsigned_long_long = O.none
-bits float = O.none
-bits double = O.none
-bits bool = O.none
-bits void = O.none
-bits string = O.none
-bits object = O.none
-bits class = O.none
-bits selector = O.none
-bits unknown = O.none
+bits char = None
+bits int = None
+bits short = None
+bits long = Some 32
+bits long_long = None
+bits unsigned_char = None
+bits unsigned_int = None
+bits unsigned_short = None
+bits unsigned_long = None
+bits unsigned_long_long = None
+bits float = None
+bits double = None
+bits bool = None
+bits void = None
+bits string = None
+bits object = None
+bits class = None
+bits selector = None
+bits unknown = None
 
 -- The bytes that begin an encoding: these codes, and those of the rows of arrays, structures, unions, bit fields and pointers.
 unfoldable pub begins : ℕ → Bool

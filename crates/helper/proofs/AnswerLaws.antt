@@ -3,7 +3,7 @@ use Prim.Native.Nat.{ℕ, ◌≤◌, ◌<◌}
 use native.Mathlib.Omega.{arith}
 use mathlib.Core.Path.{◌≡◌, refl, ap, ap₂, sym, ◌∙◌}
 use mathlib.Core.List.{List, ◌∷◌}
-use mathlib.Core.Option.{Option, some, none}
+use Rattle.std.specs.Prelude.{Option, Some, None}
 use mathlib.Core.Bool.{Bool, true, false, cond, and-true}
 use borrow.Author.Tests.{le-leb, lt-leb, leb-false}
 use lib.Dec.{leb, eqb}
@@ -53,8 +53,8 @@ max_least row = go (eqb row 2)
 
 measured-clip : (row : ℕ) (x : Option ℕ) → measured (max_size row) (clip x) ≡ sized (max_size row) x
 unfolding sized clip fit
-measured-clip row none = refl
-measured-clip row (some n) = go (leb n max_u64) refl
+measured-clip row None = refl
+measured-clip row (Some n) = go (leb n max_u64) refl
   where
     above : max_u64 < n → max_size row ≤ max_u64 → max_size row < n
     above p q = omega arith
@@ -85,11 +85,11 @@ module _ (row : ℕ) where
   unfolding sized_in size_in size sizes node_size only
   code-sized h k = rw (le-leb row 3 (omega arith))
 
-  pub code-none : row < 4 → (k : ℕ) → none ≡ size_in row k → S.Nothing ≡ sized_in row (node (primitive k) end end)
+  pub code-none : row < 4 → (k : ℕ) → None ≡ size_in row k → S.Nothing ≡ sized_in row (node (primitive k) end end)
   unfolding sized
   code-none h k e = sym (code-sized h k ∙ ap (sized (max_size row)) (sym e))
 
-  pub code-some : row < 4 → (k n : ℕ) → some n ≡ size_in row k → S.Bytes n ≡ sized_in row (node (primitive k) end end)
+  pub code-some : row < 4 → (k n : ℕ) → Some n ≡ size_in row k → S.Bytes n ≡ sized_in row (node (primitive k) end end)
   unfolding sized
   code-some h k n e = sym (code-sized h k ∙ ap (sized (max_size row)) (sym e)
       ∙ rw (le-leb n (max_size row) (small (max_size row) (size_small row k n e) (max-most row))))

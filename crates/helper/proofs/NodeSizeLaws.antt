@@ -3,8 +3,7 @@ use Prim.Native.Nat.{ℕ, zero, suc, ◌+◌, ◌-◌, ◌*◌, ◌≤◌, ◌<�
 use native.Mathlib.Omega.{arith}
 use mathlib.Core.Path.{◌≡◌, refl, ap, ap₂, sym, ◌∙◌, subst}
 use mathlib.Core.List.{List, [], ◌∷◌}
-use mathlib.Core.Option
-use mathlib.Core.Option.{Option, some, none}
+use Rattle.std.specs.Prelude.{Option, Some, None, unwrap_or}
 use mathlib.Core.Bool.{Bool, true, false, cond, ◌||◌, false≢true}
 use borrow.Author.Tests.{le-leb, lt-leb, leb-true, leb-false, ne_eqb, eqb-true, eqb-false}
 use lib.Dec.{leb, eqb}
@@ -61,13 +60,13 @@ module _ (m : Widths) (s w : List ℕ) (at : ℕ) where
       )
 
   size-container : (v : NestingLevel) → is_container_kind (kind_at w at) ≡ true → size_at m s w at v
-      ≡ cond (shows_fields v) (fold (kind_at w at) (sizes m Within (trees s w (count_at w at - 1) (at + 4)))) none
+      ≡ cond (shows_fields v) (fold (kind_at w at) (sizes m Within (trees s w (count_at w at - 1) (at + 4)))) None
   unfolding size_at node_size fold
   size-container v p = go (eqb (kind_at w at) 29) refl (eqb (kind_at w at) 30) refl p
     where
       go : (t : Bool) → eqb (kind_at w at) 29 ≡ t → (u : Bool) → eqb (kind_at w at) 30 ≡ u → (t || u) ≡ true → size_at m s w at v
           ≡ cond (shows_fields v) (cond (eqb (kind_at w at) 29) (sum (sizes m Within (trees s w (count_at w at - 1) (at + 4))))
-          (largest (sizes m Within (trees s w (count_at w at - 1) (at + 4))))) none
+          (largest (sizes m Within (trees s w (count_at w at - 1) (at + 4))))) None
       go true e u d r = rw (label-struct s (kind_at w at) (first_at w at) (second_at w at) (eqb-true (kind_at w at) 29 e), e)
       go false e true d r = rw (label-union s (kind_at w at) (first_at w at) (second_at w at) (eqb-true (kind_at w at) 30 d), e)
       go false e false d r = absurd (false≢true r)
@@ -92,7 +91,7 @@ module _ (m : Widths) (s w : List ℕ) (at : ℕ) where
             ≡ holding (kind_at w at) (first_at w at) (second_at w at) (size_at m s w (at + 4) (inside (label_at s w at) v))
         go true e u d =
             rw (label-typed s (kind_at w at) (first_at w at) (second_at w at) (eqb-true (kind_at w at) 25 e), e)
-            (ap (λ (x : Option ℕ). some (max (bit_bytes (second_at w at)) (Option.get_or x 0))) (only_child v)
+            (ap (λ (x : Option ℕ). Some (max (bit_bytes (second_at w at)) (unwrap_or x 0))) (only_child v)
             ∙ larger-some (bit_bytes (second_at w at)) (size_at m s w (at + 4) v))
         go false e true d =
             rw (label-array s (kind_at w at) (first_at w at) (second_at w at) (eqb-true (kind_at w at) 28 d), e, d) (ap (times (first_at w at)) (only_child v))
@@ -109,21 +108,21 @@ module _ (m : Widths) (s w : List ℕ) (at : ℕ) where
       ∙ ap (join k e) (fold-cons k (size_at m s w at v) (sizes m v (trees s w (n - count_at w at) (at + 4 * count_at w at))))
       ∙ sym (join-assoc k e (size_at m s w at v) (fold k (sizes m v (trees s w (n - count_at w at) (at + 4 * count_at w at)))))
 
-plus-end : (e : Option ℕ) → plus e (some 0) ≡ e
+plus-end : (e : Option ℕ) → plus e (Some 0) ≡ e
 unfolding plus
-plus-end none = refl
-plus-end (some n) = ap some (omega arith)
+plus-end None = refl
+plus-end (Some n) = ap Some (omega arith)
 
-larger-end : (e : Option ℕ) → larger e none ≡ e
+larger-end : (e : Option ℕ) → larger e None ≡ e
 unfolding larger
-larger-end none = refl
-larger-end (some n) = refl
+larger-end None = refl
+larger-end (Some n) = refl
 
 fold_end : (m : Widths) (s w : List ℕ) (at k : ℕ) (v : NestingLevel) (n : ℕ) (e : Option ℕ) → n ≤ 0 → join k e (fold k (sizes m v (trees s w n at))) ≡ e
 unfolding join fold sizes trees read sum largest
 fold_end m s w at k v zero e p = go (eqb k 29)
   where
-    go : (t : Bool) → cond t (plus e (cond t (some 0) none)) (larger e (cond t (some 0) none)) ≡ e
+    go : (t : Bool) → cond t (plus e (cond t (Some 0) None)) (larger e (cond t (Some 0) None)) ≡ e
     go true = plus-end e
     go false = larger-end e
 fold_end m s w at k v (suc n) e p = absurd (omega arith)
@@ -133,12 +132,12 @@ pub leaf-entry : {row : List ℕ} {m : Widths} → RowOf row m → (k b : ℕ) �
 unfolding leaf_entry leaf_size
 leaf-entry {row} {m} o k b = go (leb k 23) refl
   where
-    go : (t : Bool) → leb k 23 ≡ t → cond t (entry (get_or row k 0)) (cond (eqb k 24) (some (bit_bytes b)) (cond (eqb k 26) (entry (get_or row 18 0)) none))
-        ≡ cond t (primitive_size m k) (cond (eqb k 24) (some (bit_bytes b)) (cond (eqb k 26) (some m.pointer) none))
+    go : (t : Bool) → leb k 23 ≡ t → cond t (entry (get_or row k 0)) (cond (eqb k 24) (Some (bit_bytes b)) (cond (eqb k 26) (entry (get_or row 18 0)) None))
+        ≡ cond t (primitive_size m k) (cond (eqb k 24) (Some (bit_bytes b)) (cond (eqb k 26) (Some m.pointer) None))
     go true e = o.codes k (lt_of (leb-true k 23 e))
-    go false e = ap (λ x. cond (eqb k 24) (some (bit_bytes b)) (cond (eqb k 26) x none)) o.pointers
+    go false e = ap (λ x. cond (eqb k 24) (Some (bit_bytes b)) (cond (eqb k 26) x None)) o.pointers
 
-string-size : (m : Widths) → primitive_size m 18 ≡ some m.pointer
+string-size : (m : Widths) → primitive_size m 18 ≡ Some m.pointer
 unfolding primitive_size
 string-size m = refl
 
@@ -173,7 +172,7 @@ not-leaf k h = go (leb k 24) refl (eqb k 26) refl (leb 31 k) refl h
         le p = omega arith
 
 module _ (m : Widths) (s w : List ℕ) (at : ℕ) (v : NestingLevel) (p : is_container_kind (kind_at w at) ≡ true) where
-  pub size-dropped : container_include_fields v ≡ Dropped → size_at m s w at v ≡ none
+  pub size-dropped : container_include_fields v ≡ Dropped → size_at m s w at v ≡ None
   size-dropped h = size-container m s w at v p ∙ rw (dropped v h)
 
   pub size-included : (u : NestingLevel) → container_include_fields v ≡ Included u → fold (kind_at w at) (sizes m u (trees s w (count_at w at - 1) (at + 4)))

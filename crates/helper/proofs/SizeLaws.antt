@@ -4,7 +4,7 @@ use native.Mathlib.Omega.{arith}
 use native.Mathlib.Nat.{zero-mul, mul_comm, mul-le-mul_right, max-zero, add_assoc, le-div_iff_mul-le, div-lt_iff_lt-mul}
 use mathlib.Core.Path.{◌≡◌, refl, ap, sym, ◌∙◌, subst}
 use mathlib.Core.List.{List, [], ◌∷◌}
-use mathlib.Core.Option.{Option, some, none, get_or}
+use Rattle.std.specs.Prelude.{Option, Some, None, unwrap_or}
 use mathlib.Core.Bool.{Bool, true, false, cond}
 use borrow.Author.Tests.{le-leb, lt-leb, leb-true, leb-false, ne_eqb}
 use lib.Dec.{leb, eqb}
@@ -23,7 +23,7 @@ pub fit-gt : (n : ℕ) → max_u64 < n → fit n ≡ TooLarge
 unfolding fit
 fit-gt n h = rw (lt-leb n max_u64 h)
 
-pub clip-some : (n : ℕ) → n ≤ max_u64 → clip (some n) ≡ Bytes n
+pub clip-some : (n : ℕ) → n ≤ max_u64 → clip (Some n) ≡ Bytes n
 unfolding clip
 clip-some n h = fit-le n h
 
@@ -38,26 +38,26 @@ by-fit P n f g = go (leb n max_u64) refl
 -- clipping commutes with what is done to sizes
 pub clip-plus : (a b : Option ℕ) → plus_measured (clip a) (clip b) ≡ clip (plus a b)
 unfolding clip plus plus_measured
-clip-plus none b = refl
-clip-plus (some m) none = by-fit (λ x. plus_measured x Nothing ≡ Nothing) m (λ h. refl) (λ h. refl)
-clip-plus (some m) (some n) =
+clip-plus None b = refl
+clip-plus (Some m) None = by-fit (λ x. plus_measured x Nothing ≡ Nothing) m (λ h. refl) (λ h. refl)
+clip-plus (Some m) (Some n) =
     by-fit (λ x. plus_measured x (fit n) ≡ fit (m + n)) m
     (λ p. by-fit (λ y. plus_measured (Bytes m) y ≡ fit (m + n)) n (λ q. refl) (λ q. sym (fit-gt (m + n) (omega arith))))
     (λ p. by-fit (λ y. plus_measured TooLarge y ≡ fit (m + n)) n (λ q. sym (fit-gt (m + n) (omega arith))) (λ q. sym (fit-gt (m + n) (omega arith))))
 
 pub clip-larger : (a b : Option ℕ) → larger_measured (clip a) (clip b) ≡ clip (larger a b)
 unfolding clip larger larger_measured
-clip-larger none b = refl
-clip-larger (some m) none = by-fit (λ x. larger_measured x Nothing ≡ x) m (λ h. refl) (λ h. refl)
-clip-larger (some m) (some n) =
+clip-larger None b = refl
+clip-larger (Some m) None = by-fit (λ x. larger_measured x Nothing ≡ x) m (λ h. refl) (λ h. refl)
+clip-larger (Some m) (Some n) =
     by-fit (λ x. larger_measured x (fit n) ≡ fit (max m n)) m
     (λ p. by-fit (λ y. larger_measured (Bytes m) y ≡ fit (max m n)) n (λ q. sym (fit-le (max m n) (omega arith))) (λ q. sym (fit-gt (max m n) (omega arith))))
     (λ p. sym (fit-gt (max m n) (omega arith)))
 
 pub clip-times : (n : ℕ) (a : Option ℕ) → times_measured n (clip a) ≡ clip (times n a)
 unfolding clip times times_measured
-clip-times n none = refl
-clip-times n (some m) = by-fit (λ x. times_measured n x ≡ fit (n * m)) m (λ p. refl) (λ p. go n p)
+clip-times n None = refl
+clip-times n (Some m) = by-fit (λ x. times_measured n x ≡ fit (n * m)) m (λ p. refl) (λ p. go n p)
   where
     go : (k : ℕ) → max_u64 < m → cond (eqb k 0) (Bytes 0) TooLarge ≡ fit (k * m)
     go zero p = sym (ap fit (zero-mul m) ∙ fit-le 0 (omega arith))
@@ -76,17 +76,17 @@ clip-join k a b = go (eqb k 29)
 
 plus_assoc : (a b c : Option ℕ) → plus (plus a b) c ≡ plus a (plus b c)
 unfolding plus
-plus_assoc none b c = refl
-plus_assoc (some a) none c = refl
-plus_assoc (some a) (some b) none = refl
-plus_assoc (some a) (some b) (some c) = ap some (add_assoc a b c)
+plus_assoc None b c = refl
+plus_assoc (Some a) None c = refl
+plus_assoc (Some a) (Some b) None = refl
+plus_assoc (Some a) (Some b) (Some c) = ap Some (add_assoc a b c)
 
 larger-assoc : (a b c : Option ℕ) → larger (larger a b) c ≡ larger a (larger b c)
 unfolding larger
-larger-assoc none b c = refl
-larger-assoc (some a) none c = refl
-larger-assoc (some a) (some b) none = refl
-larger-assoc (some a) (some b) (some c) = ap some (omega arith)
+larger-assoc None b c = refl
+larger-assoc (Some a) None c = refl
+larger-assoc (Some a) (Some b) None = refl
+larger-assoc (Some a) (Some b) (Some c) = ap Some (omega arith)
 
 pub join-assoc : (k : ℕ) (a b c : Option ℕ) → join k (join k a b) c ≡ join k a (join k b c)
 unfolding join
@@ -104,12 +104,12 @@ fold-cons k a xs = go (eqb k 29)
     go true = refl
     go false = refl
 
-plus-zero : (a : Option ℕ) → plus (some 0) a ≡ a
+plus-zero : (a : Option ℕ) → plus (Some 0) a ≡ a
 unfolding plus
-plus-zero none = refl
-plus-zero (some n) = ap some (omega arith)
+plus-zero None = refl
+plus-zero (Some n) = ap Some (omega arith)
 
-larger-none : (a : Option ℕ) → larger none a ≡ a
+larger-none : (a : Option ℕ) → larger None a ≡ a
 unfolding larger
 larger-none a = refl
 
@@ -117,14 +117,14 @@ pub join-unit : (k : ℕ) (xs : List (Option ℕ)) → join k (fold k []) (fold 
 unfolding fold join sum largest
 join-unit k xs = go (eqb k 29)
   where
-    go : (t : Bool) → cond t (plus (cond t (some 0) none) (cond t (sum xs) (largest xs))) (larger (cond t (some 0) none) (cond t (sum xs) (largest xs))) ≡ cond t (sum xs) (largest xs)
+    go : (t : Bool) → cond t (plus (cond t (Some 0) None) (cond t (sum xs) (largest xs))) (larger (cond t (Some 0) None) (cond t (sum xs) (largest xs))) ≡ cond t (sum xs) (largest xs)
     go true = plus-zero (sum xs)
     go false = larger-none (largest xs)
 
-pub larger-some : (b : ℕ) (x : Option ℕ) → some (max b (get_or x 0)) ≡ larger (some b) x
+pub larger-some : (b : ℕ) (x : Option ℕ) → Some (max b (unwrap_or x 0)) ≡ larger (Some b) x
 unfolding larger
-larger-some b none = ap some (max-zero b)
-larger-some b (some n) = refl
+larger-some b None = ap Some (max-zero b)
+larger-some b (Some n) = refl
 
 -- a product that fits, by a division
 pub product-fits : (n a : ℕ) → (n ≡ 0 → ⊥) → a ≤ max_u64 / n → n * a ≤ max_u64
@@ -137,8 +137,8 @@ pub clip-holding : (k a b : ℕ) (x : Option ℕ) → holding_measured k a b (cl
 unfolding holding_measured holding clip
 clip-holding k a b x = go (eqb k 25) (eqb k 28)
   where
-    go : (t u : Bool) → cond t (larger_measured (fit (bit_bytes b)) (clip x)) (cond u (times_measured a (clip x)) (clip x)) ≡ clip (cond t (larger (some (bit_bytes b)) x) (cond u (times a x) x))
-    go true u = clip-larger (some (bit_bytes b)) x
+    go : (t u : Bool) → cond t (larger_measured (fit (bit_bytes b)) (clip x)) (cond u (times_measured a (clip x)) (clip x)) ≡ clip (cond t (larger (Some (bit_bytes b)) x) (cond u (times a x) x))
+    go true u = clip-larger (Some (bit_bytes b)) x
     go false true = clip-times a x
     go false false = refl
 

@@ -1,6 +1,6 @@
 -- What `size` and `compare_encodings` (helper.rs) answer for sheets, with 01's refusals 3, 4 and 6 and 02's 20 (N5, N6).
 use Rattle.std.specs.Prelude.{ℕ, Bool, cond, List, leb, eqb}
-use Rattle.std.proofs.Math.Option.{Option, some, none}
+use Rattle.std.specs.Prelude.{Option, Some, None}
 use Rattle.kinds.specs.Compare.{compare_encodings}
 use Rattle.kinds.specs.Parse.{max_u32, max_u64}
 use Rattle.kinds.specs.Primitive.{is_row, widths}
@@ -20,8 +20,8 @@ max_size row = cond (eqb row 2) max_u32 max_u64
 
 -- A size of at most `limit` bytes as `size` hands it out.
 unfoldable pub sized : ℕ → Option ℕ → Sized
-sized limit none = S.Nothing
-sized limit (some n) = cond (leb n limit) (S.Bytes n) (S.Refused SizeTooLarge)
+sized limit None = S.Nothing
+sized limit (Some n) = cond (leb n limit) (S.Bytes n) (S.Refused SizeTooLarge)
 
 -- A tree's size in a row, or that there is no such row.
 unfoldable pub sized_in : ℕ → Trees → Sized

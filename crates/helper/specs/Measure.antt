@@ -1,6 +1,6 @@
 -- What the functions below the entry points answer: sizes cut off at 2^64 - 1, and the comparison of fields.
 use Rattle.std.specs.Prelude.{ℕ, ◌+◌, ◌-◌, ◌*◌, ◌<◌, max, ◌≡◌, Bool, cond, ◌||◌, List, leb, eqb, get_or}
-use Rattle.std.proofs.Math.Option.{Option, some, none}
+use Rattle.std.specs.Prelude.{Option, Some, None}
 use Rattle.kinds.specs.Compare.{compare_encodings, level_for}
 use Rattle.kinds.specs.Kind.{inside_kind}
 use Rattle.kinds.specs.Level.{shows_fields}
@@ -24,8 +24,8 @@ unfoldable pub fit : ℕ → Measured
 fit n = cond (leb n max_u64) (Bytes n) TooLarge
 
 unfoldable pub clip : Option ℕ → Measured
-clip none = Nothing
-clip (some n) = fit n
+clip None = Nothing
+clip (Some n) = fit n
 
 -- A size as `size` hands it out, where sizes are at most `limit`.
 abbrev pub measured : ℕ → Measured → Sized
@@ -72,7 +72,7 @@ unfoldable pub holding_measured : ℕ → ℕ → ℕ → Measured → Measured
 holding_measured k a b x = cond (eqb k 25) (larger_measured (fit (bit_bytes b)) x) (cond (eqb k 28) (times_measured a x) x)
 
 unfoldable pub holding : ℕ → ℕ → ℕ → Option ℕ → Option ℕ
-holding k a b x = cond (eqb k 25) (larger (some (bit_bytes b)) x) (cond (eqb k 28) (times a x) x)
+holding k a b x = cond (eqb k 25) (larger (Some (bit_bytes b)) x) (cond (eqb k 28) (times a x) x)
 
 -- A node whose size does not depend on what it holds: a primitive, a bitfield without a type, a pointer, None.
 unfoldable pub is_leaf : ℕ → Bool
@@ -80,16 +80,16 @@ is_leaf k = leb k 24 || (eqb k 26 || leb 31 k)
 
 -- The size of such a node with the second number `b`.
 unfoldable pub leaf_size : Widths → ℕ → ℕ → Option ℕ
-leaf_size m k b = cond (leb k 23) (primitive_size m k) (cond (eqb k 24) (some (bit_bytes b)) (cond (eqb k 26) (some m.pointer) none))
+leaf_size m k b = cond (leb k 23) (primitive_size m k) (cond (eqb k 24) (Some (bit_bytes b)) (cond (eqb k 26) (Some m.pointer) None))
 
 -- The size of such a node by a row of the table, in which a pointer's is that of the string.
 unfoldable pub leaf_entry : List ℕ → ℕ → ℕ → Option ℕ
-leaf_entry row k b = cond (leb k 23) (entry (get_or row k 0)) (cond (eqb k 24) (some (bit_bytes b)) (cond (eqb k 26) (entry (get_or row 18 0)) none))
+leaf_entry row k b = cond (leb k 23) (entry (get_or row k 0)) (cond (eqb k 24) (Some (bit_bytes b)) (cond (eqb k 26) (entry (get_or row 18 0)) None))
 
 -- The row has the sizes of a machine.
 pub record RowOf (row : List ℕ) (m : Widths) : Type 0 where
   pub codes : (k : ℕ) → k < 24 → entry (get_or row k 0) ≡ primitive_size m k
-  pub pointers : entry (get_or row 18 0) ≡ some m.pointer
+  pub pointers : entry (get_or row 18 0) ≡ Some m.pointer
 
 -- The size of the node at `at`.
 unfoldable pub size_at : Widths → List ℕ → List ℕ → ℕ → NestingLevel → Option ℕ

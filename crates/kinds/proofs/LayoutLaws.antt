@@ -18,7 +18,6 @@ use Rattle.kinds.specs.Sheet.{first, second, names_of, nodes, kind_at, first_at,
 use Rattle.kinds.proofs.SheetLaws.{trees-step, nests-step, nests-none, arity-one, arity-low, packed-on, packed_none}
 use Rattle.kinds.proofs.TableLaws.{both_left, both_right}
 use Rattle.kinds.proofs.NodeLaws.{no-trees}
-use mathlib.Core.Option.{none}
 
 -- A label's numbers and children are those of a sheet.
 abbrev pub ok_node : Label → Trees → Bool

@@ -4,8 +4,7 @@ use native.Mathlib.Omega.{arith}
 use mathlib.Core.Path.{◌≡◌, refl, ap, sym, subst}
 use mathlib.Core.Bool.{Bool, true, false, cond, false≢true}
 use mathlib.Core.List.{List, [], ◌∷◌, map}
-use mathlib.Core.Option
-use mathlib.Core.Option.{Option, some, none}
+use Rattle.std.specs.Prelude.{Option, Some, None, unwrap_or}
 use lib.Dec.{eqb, leb, ltb}
 use borrow.Author.Tests.{eq-eqb, ne_eqb, eqb-true, lt-leb, leb-true, ltb-true, ltb-false}
 use lib.ListN.{get_or, get_or-eq_default}
@@ -54,30 +53,30 @@ code-beyond k h = get_or-eq_default codes [] h
 
 -- ---- Sizes.
 
-pub size-beyond : (row k : ℕ) → 24 ≤ k → size_in row k ≡ none
+pub size-beyond : (row k : ℕ) → 24 ≤ k → size_in row k ≡ None
 unfolding size_in primitive_size
 size-beyond row k h = go (is_row row)
   where
-    go : (t : Bool) → cond t (get_or (map (width (widths row)) primitives) k none) none ≡ none
-    go true = get_or-eq_default (map (width (widths row)) primitives) none h
+    go : (t : Bool) → cond t (get_or (map (width (widths row)) primitives) k None) None ≡ None
+    go true = get_or-eq_default (map (width (widths row)) primitives) None h
     go false = refl
 
-pub no_row : (row k : ℕ) → 4 ≤ row → size_in row k ≡ none
+pub no_row : (row k : ℕ) → 4 ≤ row → size_in row k ≡ None
 unfolding size_in
 no_row row k h = rw (lt-leb row 3 h)
 
 same : Option ℕ → Option ℕ → Bool
-same none none = true
-same none (some b) = false
-same (some a) none = false
-same (some a) (some b) = eqb a b
+same None None = true
+same None (Some b) = false
+same (Some a) None = false
+same (Some a) (Some b) = eqb a b
 
 same_size : (x y : Option ℕ) → same x y ≡ true → x ≡ y
 unfolding same
-same_size none none h = refl
-same_size none (some b) h = absurd (false≢true h)
-same_size (some a) none h = absurd (false≢true h)
-same_size (some a) (some b) h = ap some (eqb-true a b h)
+same_size None None h = refl
+same_size None (Some b) h = absurd (false≢true h)
+same_size (Some a) None h = absurd (false≢true h)
+same_size (Some a) (Some b) h = ap Some (eqb-true a b h)
 
 sized-right : ℕ → ℕ → Bool
 sized-right row k = same (entry (get_or (get_or size_rows row []) k 0)) (size_in row k)
@@ -95,17 +94,17 @@ unfolding sized-right row-right
 table-size row k g h = same_size (entry (get_or (get_or size_rows row []) k 0)) (size_in row k)
     (pass_below (sized-right row) 24 (pass_below row-right 4 all-sized row g) k h)
 
-pub entry-none : {n : ℕ} → n ≡ 0 → none ≡ entry n
+pub entry-none : {n : ℕ} → n ≡ 0 → None ≡ entry n
 unfolding entry
 entry-none e = rw e
 
-pub entry-some : {n : ℕ} → (n ≡ 0 → ⊥) → some n ≡ entry n
+pub entry-some : {n : ℕ} → (n ≡ 0 → ⊥) → Some n ≡ entry n
 unfolding entry
 entry-some {n} e = rw (ne_eqb n 0 e)
 
 -- No primitive has more than 32 bytes.
 small : ℕ → ℕ → Bool
-small row k = leb (Option.get_or (size_in row k) 0) 32
+small row k = leb (unwrap_or (size_in row k) 0) 32
 
 row_small : ℕ → Bool
 row_small row = every_below (small row) 24
@@ -114,16 +113,16 @@ all_small : every_below row_small 4 ≡ true
 unfolding every_below row_small small size_in primitive_size
 all_small = refl
 
-pub size_small : (row k n : ℕ) → some n ≡ size_in row k → n ≤ 32
+pub size_small : (row k n : ℕ) → Some n ≡ size_in row k → n ≤ 32
 unfolding small row_small
 size_small row k n e = go (ltb row 4) refl (ltb k 24) refl
   where
-    not_some : size_in row k ≡ none → ⊥
+    not_some : size_in row k ≡ None → ⊥
     not_some f = let z : ◌≡◌ {A = ℕ} 0 1 = cc in absurd (omega arith)
 
     up_to : row < 4 → k < 24 → n ≤ 32
-    up_to g h = subst (λ x. Option.get_or x 0 ≤ 32) (sym e)
-        (leb-true (Option.get_or (size_in row k) 0) 32 (pass_below (small row) 24 (pass_below row_small 4 all_small row g) k h))
+    up_to g h = subst (λ x. unwrap_or x 0 ≤ 32) (sym e)
+        (leb-true (unwrap_or (size_in row k) 0) 32 (pass_below (small row) 24 (pass_below row_small 4 all_small row g) k h))
 
     go : (t : Bool) → ltb row 4 ≡ t → (u : Bool) → ltb k 24 ≡ u → n ≤ 32
     go true p true q = up_to (ltb-true row 4 p) (ltb-true k 24 q)

@@ -1,7 +1,7 @@
 -- Reading text (parse.rs; the entry points of encoding_box.rs). Text is the list of unread bytes.
 -- A refusal carries what was unread where it was met; its place is the text's length less that.
 use Rattle.std.specs.Prelude.{ℕ, zero, suc, ◌+◌, ◌-◌, ◌*◌, ◌^◌, Bool, true, false, ◌&&◌, List, [], ◌∷◌, ◌++◌, leb, eqb, length}
-use Rattle.std.proofs.Math.Option.{get_or}
+use Rattle.std.specs.Prelude.{unwrap_or}
 use Rattle.kinds.specs.Byte.{byte, bytes, among, is_digit}
 use Rattle.kinds.specs.Container.{end_byte, same_container}
 use Rattle.kinds.specs.Name.{verify_name}
@@ -305,7 +305,7 @@ pub data FromStart : Type 0 where
 
 -- A digit stands where a type should begin: refusal 8, with a digit. Its place says nothing here.
 unfoldable pub unknown_digit : ErrorKind → Bool
-unknown_digit e = eqb (number (Parse e 0)) 8 && is_digit (get_or (refused_byte (Parse e 0)) 0)
+unknown_digit e = eqb (number (Parse e 0)) 8 && is_digit (unwrap_or (refused_byte (Parse e 0)) 0)
 
 unfoldable pub from_start : ℕ → Encoded → FromStart
 from_start n (encoded l cs t) = tree_then l cs t

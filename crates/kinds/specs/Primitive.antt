@@ -1,7 +1,6 @@
 -- Primitives (helper.rs, `Primitive`): their kind words in a sheet (01, "The sheet"), codes, equivalents and sizes.
 use Rattle.std.specs.Prelude.{ℕ, ◌*◌, Bool, cond, ◌&&◌, ◌||◌, List, [], ◌∷◌, map, eqb, leb, get_or}
-use Rattle.std.proofs.Math.Option
-use Rattle.std.proofs.Math.Option.{Option, some, none}
+use Rattle.std.specs.Prelude.{Option, Some, None, unwrap_or}
 use Rattle.kinds.specs.Byte.{bytes, among}
 use Rattle.kinds.specs.declared.Code.{Code}
 use Rattle.kinds.specs.declared.Code.TheVariants.{Empty, One, Two}
@@ -73,30 +72,30 @@ pub record Widths : Type 0 where
 -- Char and bool 1, short 2, int and float 4, long long and double 8, complex twice its part; long, unsigned long, pointers and long double
 -- are the machine's; void and Unknown have none (01, "Sizes"; 02, N5 and N6).
 abbrev pub width : Widths → Primitive → Option ℕ
-width w P.Char = some 1
-width w P.UChar = some 1
-width w P.Bool = some 1
-width w P.Short = some 2
-width w P.UShort = some 2
-width w P.Int = some 4
-width w P.UInt = some 4
-width w P.Float = some 4
-width w P.Long = some w.long
-width w P.ULong = some w.unsigned-long
-width w P.LongLong = some 8
-width w P.ULongLong = some 8
-width w P.Double = some 8
-width w P.LongDouble = some w.long-double
-width w P.String = some w.pointer
-width w P.Object = some w.pointer
-width w P.Block = some w.pointer
-width w P.Class = some w.pointer
-width w P.Sel = some w.pointer
-width w P.FloatComplex = some (2 * 4)
-width w P.DoubleComplex = some (2 * 8)
-width w P.LongDoubleComplex = some (2 * w.long-double)
-width w P.Void = none
-width w P.Unknown = none
+width w P.Char = Some 1
+width w P.UChar = Some 1
+width w P.Bool = Some 1
+width w P.Short = Some 2
+width w P.UShort = Some 2
+width w P.Int = Some 4
+width w P.UInt = Some 4
+width w P.Float = Some 4
+width w P.Long = Some w.long
+width w P.ULong = Some w.unsigned-long
+width w P.LongLong = Some 8
+width w P.ULongLong = Some 8
+width w P.Double = Some 8
+width w P.LongDouble = Some w.long-double
+width w P.String = Some w.pointer
+width w P.Object = Some w.pointer
+width w P.Block = Some w.pointer
+width w P.Class = Some w.pointer
+width w P.Sel = Some w.pointer
+width w P.FloatComplex = Some (2 * 4)
+width w P.DoubleComplex = Some (2 * 8)
+width w P.LongDoubleComplex = Some (2 * w.long-double)
+width w P.Void = None
+width w P.Unknown = None
 
 -- The primitives in order.
 abbrev pub primitives : List Primitive
@@ -108,7 +107,7 @@ primitives =
 
 -- The size of the primitive of kind `p`; other kinds have none.
 unfoldable pub primitive_size : Widths → ℕ → Option ℕ
-primitive_size w p = get_or (map (width w) primitives) p none
+primitive_size w p = get_or (map (width w) primitives) p None
 
 -- The machines in the order of their row numbers (02, N5 and N6): 64-bit Apple ARM, the machine of 01; x86_64; 32-bit ARM; and, as no machine
 -- has it, the first with the long of Apple's guide.
@@ -129,20 +128,20 @@ widths row = get_or machines row (record { long = 8; unsigned-long = 8; pointer 
 
 -- The size of the primitive of kind `p` in a row; a number that is no row's has none.
 unfoldable pub size_in : ℕ → ℕ → Option ℕ
-size_in row p = cond (is_row row) (primitive_size (widths row) p) none
+size_in row p = cond (is_row row) (primitive_size (widths row) p) None
 
 -- A machine's row of sizes in the order of `Primitive`, 0 for none, and the rows of all machines.
 abbrev pub size_row : Widths → List ℕ
-size_row w = map (λ p. Option.get_or (width w p) 0) primitives
+size_row w = map (λ p. unwrap_or (width w p) 0) primitives
 
 abbrev pub size_rows : List (List ℕ)
 size_rows = map size_row machines
 
 -- The size that a number of such a row stands for.
 unfoldable pub entry : ℕ → Option ℕ
-entry n = cond (eqb n 0) none (some n)
+entry n = cond (eqb n 0) None (Some n)
 
 -- A size as the functions hand it out.
 abbrev pub size_of : PrimitiveSize → Option ℕ
-size_of (Bytes n) = some n
-size_of Nothing = none
+size_of (Bytes n) = Some n
+size_of Nothing = None

@@ -1,6 +1,6 @@
 -- Why an input is turned away (01, "Why an input is turned away"; 16 to 18 are 02's, N1, 19 is N3's, 20 N5's and N6's, and 21 N7's, whose place is the number of a node): the number of each refusal and the values that it carries.
 use Rattle.std.specs.Prelude.{ℕ, List, [], ◌∷◌}
-use Rattle.std.proofs.Math.Option.{Option, some, none, get_or}
+use Rattle.std.specs.Prelude.{Option, Some, None, unwrap_or}
 use Rattle.kinds.specs.declared.ContainerKind.{ContainerKind}
 use Rattle.kinds.specs.declared.ContainerKind.TheVariants.{Struct, Union}
 use Rattle.kinds.specs.declared.ErrorKind.TheVariants as E
@@ -15,16 +15,16 @@ pub record Row : Type 0 where
   pub its-container : Option ContainerKind
 
 abbrev pub plain : ℕ → Row
-plain n = record { its-number = n; its-place = none; its-byte = none; its-container = none }
+plain n = record { its-number = n; its-place = None; its-byte = None; its-container = None }
 
 abbrev pub placed : ℕ → ℕ → Row
-placed n at = record { its-number = n; its-place = some at; its-byte = none; its-container = none }
+placed n at = record { its-number = n; its-place = Some at; its-byte = None; its-container = None }
 
 abbrev pub with_byte : ℕ → ℕ → ℕ → Row
-with_byte n at b = record { its-number = n; its-place = some at; its-byte = some b; its-container = none }
+with_byte n at b = record { its-number = n; its-place = Some at; its-byte = Some b; its-container = None }
 
 abbrev pub within : ℕ → ℕ → ContainerKind → Row
-within n at k = record { its-number = n; its-place = some at; its-byte = none; its-container = some k }
+within n at k = record { its-number = n; its-place = Some at; its-byte = None; its-container = Some k }
 
 -- The table. A refusal more is its name in an enum, its row here and its row in the code's `words`.
 abbrev pub row : Refusal → Row
@@ -65,13 +65,13 @@ refused_container r = (row r).its-container
 -- ---- The same as plain numbers, 0 where a refusal carries none; a container by its kind word.
 
 abbrev pub container_word : Option ContainerKind → ℕ
-container_word none = 0
-container_word (some Struct) = 29
-container_word (some Union) = 30
+container_word None = 0
+container_word (Some Struct) = 29
+container_word (Some Union) = 30
 
 -- Place, byte and container.
 abbrev pub values : Refusal → List ℕ
-values r = get_or (place r) 0 ∷ get_or (refused_byte r) 0 ∷ container_word (refused_container r) ∷ []
+values r = unwrap_or (place r) 0 ∷ unwrap_or (refused_byte r) 0 ∷ container_word (refused_container r) ∷ []
 
 -- The number and these.
 abbrev pub words : Refusal → List ℕ

@@ -1,6 +1,6 @@
 -- Strict whole-text reading (02, N3): whole-text reading, except that a number with a surplus zero, as soon as reading meets it, is refusal 19.
 use Rattle.std.specs.Prelude.{ℕ, zero, suc, ◌+◌, ◌-◌, Bool, true, false, cond, ◌&&◌, List, [], ◌∷◌, ◌++◌, ltb, eqb, length, get_or}
-use Rattle.std.proofs.Math.Option.{Option, some, none}
+use Rattle.std.specs.Prelude.{Option, Some, None}
 use Rattle.kinds.specs.Byte.{byte, is_digit}
 use Rattle.kinds.specs.Parse.{max_u64, value, no_number, parse_number, integral, Start, single, complex, object, bits, indirection, open_array, close_array, open_container, close_container, nothing, start}
 use Rattle.kinds.specs.Parse.{Parsed, empty, encoding, container_end, array_end, refused, named, unnamed, parse_name, parse_inner, strip_leading_qualifiers, Whole, refusal, from_str}
@@ -84,13 +84,13 @@ numbers_met s = numbers (strip_leading_qualifiers s)
 
 -- The first of the numbers that has a surplus zero.
 unfoldable pub first_surplus : List (List ℕ) → Option (List ℕ)
-first_surplus [] = none
-first_surplus (s ∷ ss) = cond (surplus_zero s) (some s) (first_surplus ss)
+first_surplus [] = None
+first_surplus (s ∷ ss) = cond (surplus_zero s) (Some s) (first_surplus ss)
 
 -- 19 at its first digit; else as whole-text reading answers. `n` is the length of the whole text.
 unfoldable pub unless_surplus : ℕ → Option (List ℕ) → Whole → Whole
-unless_surplus n (some t) w = refusal SurplusZero (n - length t)
-unless_surplus n none w = w
+unless_surplus n (Some t) w = refusal SurplusZero (n - length t)
+unless_surplus n None w = w
 
 -- Strict whole-text reading.
 unfoldable pub from_str_strict : List ℕ → Whole

@@ -10,7 +10,6 @@ ghost use Rattle.kinds.specs.Container.{start_byte, end_byte, prefix_byte};
 ghost use Rattle.kinds.specs.Sheet.{is_container_kind};
 ghost use Rattle.kinds.specs.Parse.{unknown_digit};
 ghost use Rattle.kinds.specs.Refusal.{number, container_word, values, words};
-ghost use Rattle.std.proofs.Math.Option.{some};
 
 // The kind words of a sheet from 24 on; below are the primitives, of which there are so many.
 pub const PRIMITIVES: u64 = 24;
@@ -260,7 +259,7 @@ impl ContainerKind {
 impl ContainerKind {
     // The kind word of a container in a sheet.
     pub fn kind(self) -> u64
-        ensures { result ≡ container_word (some self) }
+        ensures { result ≡ container_word (Some self) }
     {
         match self {
             ContainerKind::Struct => STRUCT,

@@ -3,7 +3,7 @@ use Prim.Native.Nat.{ℕ, zero, ◌+◌, ◌-◌, ◌≤◌, ◌<◌}
 use native.Mathlib.Omega.{arith}
 use mathlib.Core.Path.{◌≡◌, refl, ap, ap₂, sym, ◌∙◌}
 use mathlib.Core.List.{List, [], ◌∷◌, ◌++◌, map, append-nil}
-use mathlib.Core.Option.{Option, some, none}
+use Rattle.std.specs.Prelude.{Option, Some, None}
 use mathlib.Core.Bool.{Bool, true, false, cond, not, ◌&&◌, ◌||◌, and-false}
 use borrow.Author.Tests.{le-leb, lt-leb, leb-true, leb-false, lt-ltb, eqb-true, ne_eqb}
 use lib.Dec.{leb, eqb}
@@ -137,9 +137,9 @@ unfolding layout_of found_in
 layout-found row t = go (first_bit_field (laid_out Top 0 t)) (any_sizeless (widths row) (laid_out Top 0 t)) (fitted (max_size row) (extent (widths row) t) (offsets_in row t))
   where
     go : (o : Option ℕ) (b : Bool) (a : LaidOut) → unless_bit_field o (cond b A.Nothing a) ≡ by_found (unless_found o (cond (false || b) F.Nothing F.Sized)) a
-    go (some i) b a = refl
-    go none true a = refl
-    go none false a = refl
+    go (Some i) b a = refl
+    go None true a = refl
+    go None false a = refl
 
 module _ (m : Widths) (s w : List ℕ) (limit : ℕ) {n : ℕ} (c : count_at w 0 ≡ n) {f : Found} (e : f ≡ found_in m false (laid_out Top 0 (trees s w n 0))) where
   answer-is : answer_at m s w limit ≡ by_found f (fitted_at m s w limit)
@@ -276,14 +276,14 @@ module _ (row k : ℕ) where
     unfolding list_in fitted all_within plain_extent
     code-bytes z p {a} f = (sym laid, set_first list l ∙ sym (ap₂ (λ (x : LaidOut) (ns : List ℕ). list_after x ns list) laid lone-offsets))
       where
-        some : 0 < get_or sizes k 0
-        some = omega arith
+        Some : 0 < get_or sizes k 0
+        Some = omega arith
 
         positive : 0 < get_or sizes (part_kind k) 0
-        positive = (p k g some).0.0
+        positive = (p k g Some).0.0
 
         low : b < 256
-        low = let q = (p k g some).1 in omega arith
+        low = let q = (p k g Some).1 in omega arith
 
         takes : plain_extent sizes k ≡ record { bytes = b; alignment = a }
         takes = rw (lt-ltb k 24 g) (ap₂ (λ (x y : ℕ). record { bytes = x; alignment = y }) (sym e) (let q = positive in omega arith))

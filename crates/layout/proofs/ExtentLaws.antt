@@ -3,8 +3,7 @@ use Prim.Native.Nat.{ℕ, zero, suc, ◌+◌, ◌-◌, ◌*◌, ◌%◌, ◌≤�
 use native.Mathlib.Omega.{arith}
 use mathlib.Core.Path.{◌≡◌, refl, ap, ap₂, sym, ◌∙◌, subst}
 use mathlib.Core.List.{List, [], ◌∷◌, map}
-use mathlib.Core.Option
-use mathlib.Core.Option.{Option, some, none}
+use Rattle.std.specs.Prelude.{Option, Some, None, unwrap_or}
 use mathlib.Core.Bool.{Bool, true, false, cond, ◌&&◌, ◌||◌, false≢true}
 use borrow.Author.Tests.{le-leb, leb-false, ltb-true, ltb-false, lt-ltb, le-ltb, ne_eqb, eqb-true, eqb-false}
 use lib.Dec.{leb, ltb, eqb}
@@ -36,15 +35,15 @@ next-fit a n p = go (leb n max_u64) refl
 
 pub plus-fit : (m n : ℕ) → plus_measured (fit m) (fit n) ≡ fit (m + n)
 unfolding clip plus
-plus-fit m n = clip-plus (some m) (some n)
+plus-fit m n = clip-plus (Some m) (Some n)
 
 pub larger-fit : (m n : ℕ) → larger_measured (fit m) (fit n) ≡ fit (max m n)
 unfolding clip larger
-larger-fit m n = clip-larger (some m) (some n)
+larger-fit m n = clip-larger (Some m) (Some n)
 
 pub times-fit : (m n : ℕ) → times_measured m (fit n) ≡ fit (m * n)
 unfolding clip times
-times-fit m n = clip-times m (some n)
+times-fit m n = clip-times m (Some n)
 
 pub stored-fit : (n : ℕ) → stored_of (fit n) ≡ stored n
 unfolding fit stored
@@ -130,12 +129,12 @@ all_right : every_below right 24 ≡ true
 unfolding every_below right part_kinds part_kind
 all_right = refl
 
-get_d_map : (f : ℕ → Option ℕ) (xs : List ℕ) (k : ℕ) → k < length xs → get_or (map f xs) k none ≡ f (get_or xs k 0)
+get_d_map : (f : ℕ → Option ℕ) (xs : List ℕ) (k : ℕ) → k < length xs → get_or (map f xs) k None ≡ f (get_or xs k 0)
 get_d_map f [] k h = absurd (omega arith)
 get_d_map f (x ∷ xs) zero h = refl
 get_d_map f (x ∷ xs) (suc k) h = get_d_map f xs k (omega arith)
 
-alignment-list : (w : Widths) (k : ℕ) → primitive_alignment w k ≡ get_or (map (primitive_size w) part_kinds) k none
+alignment-list : (w : Widths) (k : ℕ) → primitive_alignment w k ≡ get_or (map (primitive_size w) part_kinds) k None
 unfolding primitive_alignment primitive_size part_kinds
 alignment-list w k = refl
 
@@ -157,12 +156,12 @@ part_low k h = go (leb 13 k && leb k 15)
     go true = omega arith
     go false = h
 
-entry_zero : (n : ℕ) → Option.get_or (entry n) 0 ≡ n
+entry_zero : (n : ℕ) → unwrap_or (entry n) 0 ≡ n
 unfolding entry
 entry_zero zero = refl
 entry_zero (suc n) = rw (ne_eqb (suc n) 0 (λ e. omega arith))
 
-entry-one : (n : ℕ) → Option.get_or (entry n) 1 ≡ max 1 n
+entry-one : (n : ℕ) → unwrap_or (entry n) 1 ≡ max 1 n
 unfolding entry
 entry-one zero = refl
 entry-one (suc n) = rw (ne_eqb (suc n) 0 (λ e. omega arith)) (omega arith)
@@ -172,8 +171,8 @@ unfolding primitive_extent plain_extent
 primitive-extent row m o k h =
     rw (lt-ltb k 24 h)
     (ap₂ (λ x y. record { bytes = x; alignment = y })
-    (ap (λ z. Option.get_or z 0) (sym (o.codes k h)) ∙ entry_zero (get_or row k 0))
-    (ap (λ z. Option.get_or z 1) (part-alignment m k h ∙ sym (o.codes (part_kind k) (part_low k h))) ∙ entry-one (get_or row (part_kind k) 0)))
+    (ap (λ z. unwrap_or z 0) (sym (o.codes k h)) ∙ entry_zero (get_or row k 0))
+    (ap (λ z. unwrap_or z 1) (part-alignment m k h ∙ sym (o.codes (part_kind k) (part_low k h))) ∙ entry-one (get_or row (part_kind k) 0)))
 
 module _ (row : List ℕ) (m : Widths) (o : RowOf row m) (s : List ℕ) where
   code-extent : (k a b : ℕ) (xs : List Extent) → k < 24 → node_extent m (label s k a b) xs ≡ plain_extent row k
@@ -185,8 +184,8 @@ module _ (row : List ℕ) (m : Widths) (o : RowOf row m) (s : List ℕ) where
   pointer-extent k a b xs e =
       rw (label-pointer s k a b e, e)
       (ap₂ (λ x y. record { bytes = x; alignment = y })
-      (ap (λ z. Option.get_or z 0) (sym o.pointers) ∙ entry_zero (get_or row 18 0))
-      (ap (λ z. Option.get_or z 1) (sym o.pointers) ∙ entry-one (get_or row 18 0)))
+      (ap (λ z. unwrap_or z 0) (sym o.pointers) ∙ entry_zero (get_or row 18 0))
+      (ap (λ z. unwrap_or z 1) (sym o.pointers) ∙ entry-one (get_or row 18 0)))
 
 -- Kinds that hold nothing inside, one by one.
 pub by-plain : (P : ℕ → Type 0) → ((k : ℕ) → k < 24 → P k) → P 24 → P 25 → P 26 → ((k : ℕ) → 30 < k → P k) → (k : ℕ) → is_plain k ≡ true → P k

@@ -4,7 +4,7 @@ use native.Mathlib.Omega.{arith}
 use mathlib.Core.Path.{◌≡◌, refl, ap, ap₂, sym, ◌∙◌, subst₂}
 use mathlib.Core.List.{List, [], ◌∷◌, ◌++◌, append_assoc, append-nil}
 use mathlib.Core.Bool.{Bool, true, false, cond, not, ◌&&◌, ◌||◌, false≢true}
-use mathlib.Core.Option.{some, none}
+use Rattle.std.specs.Prelude.{Some, None}
 use borrow.Author.Tests.{ltb-true, ltb-false, lt-ltb, le-ltb, lt-leb, ne_eqb, eqb-true, eqb-false}
 use lib.Dec.{ltb, eqb}
 use lib.ListN.{length, get_or}
@@ -145,7 +145,7 @@ pub none-entry : (n : ℕ) → is_none (entry n) ≡ eqb n 0
 unfolding is_none entry
 none-entry n = go (eqb n 0)
   where
-    go : (t : Bool) → is_none (cond t none (some n)) ≡ t
+    go : (t : Bool) → is_none (cond t None (Some n)) ≡ t
     go true = refl
     go false = refl
 
@@ -317,14 +317,14 @@ sought-first row w n h e = record {
       ∙ sym (laid-top 0 (trees s w n 0)));
 }
 
-module _ {row w : List ℕ} {n i : ℕ} {bottom none : Bool} (g : Sought row w n i bottom none) where
-  pub sought-end : n ≤ i → (t : Bool) → none ≡ t → (m : Widths) → RowOf row m → (s : List ℕ) → cond t F.Nothing F.Sized
+module _ {row w : List ℕ} {n i : ℕ} {bottom None : Bool} (g : Sought row w n i bottom None) where
+  pub sought-end : n ≤ i → (t : Bool) → None ≡ t → (m : Widths) → RowOf row m → (s : List ℕ) → cond t F.Nothing F.Sized
       ≡ found_in m false (laid_out Top 0 (trees s w n 0))
   unfolding laid_from
   sought-end p t e m o s =
       ap (λ x. cond x F.Nothing F.Sized) (sym e)
-      ∙ sym (found-end m none)
-      ∙ ap (λ x. found_in m none (laid_from bottom i x)) (sym (no-trees s w (n - i) (4 * i) (omega arith)))
+      ∙ sym (found-end m None)
+      ∙ ap (λ x. found_in m None (laid_from bottom i x)) (sym (no-trees s w (n - i) (4 * i) (omega arith)))
       ∙ g.rest m o s
 
   module _ (p : i < n) where
@@ -353,16 +353,16 @@ module _ {row w : List ℕ} {n i : ℕ} {bottom none : Bool} (g : Sought row w n
     pub sought-bits : (eqb (kind_at w (4 * i)) 24 || eqb (kind_at w (4 * i)) 25) ≡ true → (m : Widths) → RowOf row m → (s : List ℕ)
         → F.BitField i ≡ found_in m false (laid_out Top 0 (trees s w n 0))
     unfolding own_part
-    sought-bits e m o s = sym (ap (found_in m none) (step s) ∙ found-bits m none (own s) (others s) (bit-label s w (4 * i) (sort_at s w (4 * i)) ∙ e)) ∙ g.rest m o s
+    sought-bits e m o s = sym (ap (found_in m None) (step s) ∙ found-bits m None (own s) (others s) (bit-label s w (4 * i) (sort_at s w (4 * i)) ∙ e)) ∙ g.rest m o s
 
-    module _ (plain : (eqb (kind_at w (4 * i)) 24 || eqb (kind_at w (4 * i)) 25) ≡ false) {t u : Bool} (e : t ≡ (none || u))
+    module _ (plain : (eqb (kind_at w (4 * i)) 24 || eqb (kind_at w (4 * i)) 25) ≡ false) {t u : Bool} (e : t ≡ (None || u))
         (z : u ≡ sizeless_kind row (kind_at w (4 * i)) (count_at w (4 * i)) bottom) where
       turn : (m : Widths) → RowOf row m → (s : List ℕ) → found_in m t (others s) ≡ found_in m false (laid_out Top 0 (trees s w n 0))
       unfolding own_part
       turn m o s =
-          ap (λ x. found_in m x (others s)) (e ∙ ap (λ x. none || x) z)
-          ∙ sym (ap (found_in m none) (step s)
-          ∙ found-on m none (own s) (others s) (bit-label s w (4 * i) (sort_at s w (4 * i)) ∙ plain) (sizeless-label s w (4 * i) first o (sort_at s w (4 * i)) bottom))
+          ap (λ x. found_in m x (others s)) (e ∙ ap (λ x. None || x) z)
+          ∙ sym (ap (found_in m None) (step s)
+          ∙ found-on m None (own s) (others s) (bit-label s w (4 * i) (sort_at s w (4 * i)) ∙ plain) (sizeless-label s w (4 * i) first o (sort_at s w (4 * i)) bottom))
           ∙ g.rest m o s
 
       -- a node that is passed over with all below it
@@ -393,7 +393,7 @@ module _ {row w : List ℕ} {n i : ℕ} {bottom none : Bool} (g : Sought row w n
       }
 
     -- a code
-    pub sought-code : kind_at w (4 * i) < 24 → {t u : Bool} → t ≡ (none || u) → u ≡ eqb (get_or row (kind_at w (4 * i)) 0) 0 → Sought row w n (i + 1) false t
+    pub sought-code : kind_at w (4 * i) < 24 → {t u : Bool} → t ≡ (None || u) → u ≡ eqb (get_or row (kind_at w (4 * i)) 0) 0 → Sought row w n (i + 1) false t
     unfolding sizeless_kind passes_kind bottom_after
     sought-code lo {t} {u} e z =
         let k = kind_at w (4 * i) in

@@ -1,7 +1,7 @@
 -- What `layout` answers for a sheet (02, N7), and what it leaves in the lent list of offsets. The refusals: 3, 4, 20, 2, 21; then none; then 6. And what
 -- `extents` answers and leaves.
 use Rattle.std.specs.Prelude.{ℕ, ◌*◌, Bool, true, false, cond, ◌&&◌, List, [], ◌∷◌, ◌++◌, leb, length, drop}
-use Rattle.std.proofs.Math.Option.{Option, some, none}
+use Rattle.std.specs.Prelude.{Option, Some, None}
 use Rattle.kinds.specs.Primitive.{Widths, is_row, widths}
 use Rattle.kinds.specs.Tree.{Trees, end, node, count}
 use Rattle.kinds.specs.declared.NestingLevel.TheVariants.{Top}
@@ -26,8 +26,8 @@ fitted limit x ns = cond (leb x.bytes limit && all_within limit ns) (A.Bytes x.b
 
 -- Refused by the first bitfield's number, or this.
 abbrev pub unless_bit_field : Option ℕ → LaidOut → LaidOut
-unless_bit_field (some i) a = A.Refused (BitFieldInLayout i)
-unless_bit_field none a = a
+unless_bit_field (Some i) a = A.Refused (BitFieldInLayout i)
+unless_bit_field None a = a
 
 -- A tree's layout in a row: refusal 21, none, and refusal 6 in this order.
 unfoldable pub layout_of : ℕ → Trees → LaidOut

@@ -1,7 +1,6 @@
 -- Where each field lies (02, N7) on a machine, in numbers of any length.
 use Rattle.std.specs.Prelude.{ℕ, suc, ◌+◌, ◌-◌, ◌*◌, ◌/◌, max, Bool, true, false, cond, not, ◌&&◌, ◌||◌, List, [], ◌∷◌, ◌++◌, map, get_or, replicate}
-use Rattle.std.proofs.Math.Option
-use Rattle.std.proofs.Math.Option.{Option, some, none}
+use Rattle.std.specs.Prelude.{Option, Some, None, unwrap_or}
 use Rattle.kinds.specs.Primitive.{Widths, width, primitives, primitive_size}
 use Rattle.kinds.specs.Size.{is_none}
 use Rattle.kinds.specs.Tree as T
@@ -51,8 +50,8 @@ is_bit_field T.none = false
 
 -- The number of the first bitfield that is laid out: the lowest, as the nodes stand in the order of their numbers.
 unfoldable pub first_bit_field : List Part → Option ℕ
-first_bit_field [] = none
-first_bit_field (p ∷ ps) = cond (is_bit_field p.label) (some p.number) (first_bit_field ps)
+first_bit_field [] = None
+first_bit_field (p ∷ ps) = cond (is_bit_field p.label) (Some p.number) (first_bit_field ps)
 
 -- A node has no size of its own: void, Unknown and None, an empty union, and a container that does not show its fields. An array and an atomic have
 -- none if what they hold has none, and that is laid out too.
@@ -116,10 +115,10 @@ part P.Unknown = P.Unknown
 
 -- A primitive's alignment is its size, a complex number's that of its part.
 unfoldable pub primitive_alignment : Widths → ℕ → Option ℕ
-primitive_alignment w p = get_or (map (λ q. width w (part q)) primitives) p none
+primitive_alignment w p = get_or (map (λ q. width w (part q)) primitives) p None
 
 unfoldable pub primitive_extent : Widths → ℕ → Extent
-primitive_extent w p = record { bytes = Option.get_or (primitive_size w p) 0; alignment = Option.get_or (primitive_alignment w p) 1 }
+primitive_extent w p = record { bytes = unwrap_or (primitive_size w p) 0; alignment = unwrap_or (primitive_alignment w p) 1 }
 
 -- The largest alignment, 1 if there is none.
 unfoldable pub alignments : List Extent → ℕ

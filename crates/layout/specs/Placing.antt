@@ -1,6 +1,6 @@
 -- What the functions below the entry point answer: extents cut off at 2^64 - 1, nodes by their place in the words, and what stands in a list of numbers.
 use Rattle.std.specs.Prelude.{ℕ, ◌+◌, ◌-◌, ◌*◌, ◌≤◌, ◌<◌, max, ◌≡◌, Bool, true, false, cond, ◌&&◌, ◌||◌, List, [], ◌∷◌, map, leb, ltb, eqb, length, get_or, replicate}
-use Rattle.std.proofs.Math.Option.{Option, some, none}
+use Rattle.std.specs.Prelude.{Option, Some, None}
 use Rattle.std.proofs.lemmas.List.Edits.{sets}
 use Rattle.kinds.specs.Parse.{max_u64}
 use Rattle.kinds.specs.Primitive.{Widths}
@@ -131,8 +131,8 @@ pub record Laid (row w : List ℕ) (i : ℕ) (entry exit : List ℕ) (r : Placed
 
 -- A bitfield goes before all else that is found.
 abbrev pub unless_found : Option ℕ → Found → Found
-unless_found (some i) f = F.BitField i
-unless_found none f = f
+unless_found (Some i) f = F.BitField i
+unless_found None f = f
 
 -- What the node's kind and count say of it, where the row of the table has 0 for no size.
 unfoldable pub sizeless_kind : List ℕ → ℕ → ℕ → Bool → Bool

@@ -3,7 +3,7 @@ use Prim.Native.Nat.{ℕ, zero, suc, ◌+◌}
 use native.Mathlib.Omega.{arith}
 use mathlib.Core.Bool.{Bool, true, false, cond, not, ◌&&◌}
 use mathlib.Core.List.{List, [], ◌∷◌, ◌++◌}
-use mathlib.Core.Option.{Option, some, none}
+use Rattle.std.specs.Prelude.{Option, Some, None}
 use mathlib.Core.Path.{◌≡◌, refl, sym, ap, ap₂, ◌∙◌}
 use borrow.Author.Tests.{le-leb, not-false}
 use lib.Dec.{leb}
@@ -84,17 +84,17 @@ module _ (m : ℕ) where
 
 -- ---- A tree against its shown part.
 
-number-none : (ns : List ℕ) (x : Option ℕ) → number_in ns x ≡ none → x ≡ none
-number-none ns none e = refl
-number-none ns (some k) e = let z : ◌≡◌ {A = ℕ} 0 1 = cc in absurd (omega arith)
+number-none : (ns : List ℕ) (x : Option ℕ) → number_in ns x ≡ None → x ≡ None
+number-none ns None e = refl
+number-none ns (Some k) e = let z : ◌≡◌ {A = ℕ} 0 1 = cc in absurd (omega arith)
 
-none-shown : (t : Trees) → first_bit_field (laid_out Top 0 t) ≡ none → first_bit_field (laid_out Top 0 (shown Top t)) ≡ none
+none-shown : (t : Trees) → first_bit_field (laid_out Top 0 t) ≡ None → first_bit_field (laid_out Top 0 (shown Top t)) ≡ None
 none-shown t e = number-none (shown_numbers t) (first_bit_field (laid_out Top 0 (shown Top t))) (sym (bits-shown t) ∙ e)
 
 fit : ℕ → Extent → Bool → LaidOut
 fit m x b = cond (leb x.bytes m && b) (A.Bytes x.bytes x.alignment) (A.Refused SizeTooLarge)
 
-layout-shown : (row : ℕ) (t : Trees) → first_bit_field (laid_out Top 0 t) ≡ none → layout_of row (shown Top t) ≡ layout_of row t
+layout-shown : (row : ℕ) (t : Trees) → first_bit_field (laid_out Top 0 t) ≡ None → layout_of row (shown Top t) ≡ layout_of row t
 unfolding layout_of fitted extent offsets_in fit
 layout-shown row t o =
     ap₂ (λ x b. unless_bit_field x (cond b A.Nothing (fit (max_size row) (extent w (shown Top t)) (all_within (max_size row) (offsets w others 0 (shown Top t)))))) (none-shown t o) (sizeless-shown w Top 0 0 t)
@@ -116,7 +116,7 @@ module _ (t u : Trees) (e : shown Top t ≡ shown Top u) where
   pub bits-alike : first_bit_field (laid_out Top 0 u) ≡ number_in (shown_numbers u) (first_bit_field (laid_out Top 0 (shown Top t)))
   bits-alike = bits-shown u ∙ ap (λ s. number_in (shown_numbers u) (first_bit_field (laid_out Top 0 s))) (sym e)
 
-  none_alike : first_bit_field (laid_out Top 0 t) ≡ none → first_bit_field (laid_out Top 0 u) ≡ none
+  none_alike : first_bit_field (laid_out Top 0 t) ≡ None → first_bit_field (laid_out Top 0 u) ≡ None
   none_alike o = bits-alike ∙ ap (number_in (shown_numbers u)) (none-shown t o)
 
   pub sizeless-alike : (w : Widths) → any_sizeless w (laid_out Top 0 t) ≡ any_sizeless w (laid_out Top 0 u)
@@ -130,5 +130,5 @@ module _ (t u : Trees) (e : shown Top t ≡ shown Top u) where
   pub offsets-alike : (w : Widths) → any_sizeless w (laid_out Top 0 t) ≡ false → shown_only Top t (offsets w others 0 t) ≡ shown_only Top u (offsets w others 0 u)
   offsets-alike w a = offsets-shown w Top 0 others 0 t a ∙ ap (offsets w others 0) e ∙ sym (offsets-shown w Top 0 others 0 u (sym (sizeless-alike w) ∙ a))
 
-  pub layout-alike : (row : ℕ) → first_bit_field (laid_out Top 0 t) ≡ none → layout_of row t ≡ layout_of row u
+  pub layout-alike : (row : ℕ) → first_bit_field (laid_out Top 0 t) ≡ None → layout_of row t ≡ layout_of row u
   layout-alike row o = sym (layout-shown row t o) ∙ ap (layout_of row) e ∙ layout-shown row u (none_alike o)

@@ -4,7 +4,7 @@ use native.Mathlib.Omega.{arith}
 use mathlib.Core.Bool.{Bool, true, false, cond, ◌&&◌, false≢true}
 use mathlib.Core.List.{List, [], ◌∷◌}
 use mathlib.Core.Logic.{◌↔◌}
-use mathlib.Core.Option.{Option, some, none}
+use Rattle.std.specs.Prelude.{Option, Some, None}
 use mathlib.Core.Path.{◌≡◌, refl, sym, ◌∙◌}
 use borrow.Author.Tests.{le-leb, leb-true}
 use lib.Dec.{leb}
@@ -36,35 +36,35 @@ within_all m (n ∷ ns) h (suc i) = within_all m ns (both (leb n m) (all_within 
 abbrev tells : Option ℕ → Bool → Bool → ℕ → ℕ → LaidOut
 tells o b f n a = unless_bit_field o (cond b A.Nothing (cond f (A.Bytes n a) (A.Refused R.SizeTooLarge)))
 
-tells-bits : (o : Option ℕ) (b f : Bool) (n a i : ℕ) → tells o b f n a ≡ A.Refused (R.BitFieldInLayout i) → o ≡ some i
-tells-bits (some j) b f n a i e = cc
-tells-bits none true f n a i e = let z : ◌≡◌ {A = ℕ} 0 1 = cc in absurd (omega arith)
-tells-bits none false true n a i e = let z : ◌≡◌ {A = ℕ} 0 1 = cc in absurd (omega arith)
-tells-bits none false false n a i e = let z : ◌≡◌ {A = ℕ} 0 1 = cc in absurd (omega arith)
+tells-bits : (o : Option ℕ) (b f : Bool) (n a i : ℕ) → tells o b f n a ≡ A.Refused (R.BitFieldInLayout i) → o ≡ Some i
+tells-bits (Some j) b f n a i e = cc
+tells-bits None true f n a i e = let z : ◌≡◌ {A = ℕ} 0 1 = cc in absurd (omega arith)
+tells-bits None false true n a i e = let z : ◌≡◌ {A = ℕ} 0 1 = cc in absurd (omega arith)
+tells-bits None false false n a i e = let z : ◌≡◌ {A = ℕ} 0 1 = cc in absurd (omega arith)
 
 -- It is neither that there is no row nor that the list is too short.
 tells-other : (r : Refusal) → ((i : ℕ) → R.BitFieldInLayout i ≡ r → ⊥) → (R.SizeTooLarge ≡ r → ⊥) → (o : Option ℕ) (b f : Bool) (n a : ℕ) → tells o b f n a ≡ A.Refused r → ⊥
-tells-other r p q (some i) b f n a e = p i (cc)
-tells-other r p q none true f n a e = let z : ◌≡◌ {A = ℕ} 0 1 = cc in omega arith
-tells-other r p q none false true n a e = let z : ◌≡◌ {A = ℕ} 0 1 = cc in omega arith
-tells-other r p q none false false n a e = q (cc)
+tells-other r p q (Some i) b f n a e = p i (cc)
+tells-other r p q None true f n a e = let z : ◌≡◌ {A = ℕ} 0 1 = cc in omega arith
+tells-other r p q None false true n a e = let z : ◌≡◌ {A = ℕ} 0 1 = cc in omega arith
+tells-other r p q None false false n a e = q (cc)
 
-tells-nothing : (b f : Bool) (n a : ℕ) → tells none b f n a ≡ A.Nothing → b ≡ true
+tells-nothing : (b f : Bool) (n a : ℕ) → tells None b f n a ≡ A.Nothing → b ≡ true
 tells-nothing true f n a e = refl
 tells-nothing false true n a e = let z : ◌≡◌ {A = ℕ} 0 1 = cc in absurd (omega arith)
 tells-nothing false false n a e = let z : ◌≡◌ {A = ℕ} 0 1 = cc in absurd (omega arith)
 
-tells-bytes : (f : Bool) (n a m c : ℕ) → tells none false f n a ≡ A.Bytes m c → (f ≡ true) × (n ≡ m) × (a ≡ c)
+tells-bytes : (f : Bool) (n a m c : ℕ) → tells None false f n a ≡ A.Bytes m c → (f ≡ true) × (n ≡ m) × (a ≡ c)
 tells-bytes true n a m c e = (refl, cc, cc)
 tells-bytes false n a m c e = let z : ◌≡◌ {A = ℕ} 0 1 = cc in absurd (omega arith)
 
 -- Bytes are told where nothing else is.
-tells_all : (o : Option ℕ) (b f : Bool) (n a m c : ℕ) → tells o b f n a ≡ A.Bytes m c → (o ≡ none) × (b ≡ false) × (f ≡ true) × (n ≡ m) × (a ≡ c)
-tells_all (some i) b f n a m c e = let z : ◌≡◌ {A = ℕ} 0 1 = cc in absurd (omega arith)
-tells_all none true f n a m c e = let z : ◌≡◌ {A = ℕ} 0 1 = cc in absurd (omega arith)
-tells_all none false f n a m c e = let p = tells-bytes f n a m c e in (refl, refl, p.0, p.1, p.2)
+tells_all : (o : Option ℕ) (b f : Bool) (n a m c : ℕ) → tells o b f n a ≡ A.Bytes m c → (o ≡ None) × (b ≡ false) × (f ≡ true) × (n ≡ m) × (a ≡ c)
+tells_all (Some i) b f n a m c e = let z : ◌≡◌ {A = ℕ} 0 1 = cc in absurd (omega arith)
+tells_all None true f n a m c e = let z : ◌≡◌ {A = ℕ} 0 1 = cc in absurd (omega arith)
+tells_all None false f n a m c e = let p = tells-bytes f n a m c e in (refl, refl, p.0, p.1, p.2)
 
-tells-large : (f : Bool) (n a : ℕ) → tells none false f n a ≡ A.Refused R.SizeTooLarge → f ≡ false
+tells-large : (f : Bool) (n a : ℕ) → tells None false f n a ≡ A.Refused R.SizeTooLarge → f ≡ false
 tells-large true n a e = let z : ◌≡◌ {A = ℕ} 0 1 = cc in absurd (omega arith)
 tells-large false n a e = refl
 
@@ -96,13 +96,13 @@ module _ (row : ℕ) (t : Trees) where
   says-fits : Fits row t → fits ≡ true
   says-fits f = rw (le-leb (extent (widths row) t).bytes (max_size row) f.0, all-below (max_size row) (offsets_in row t) f.1)
 
-  pub layout-bits : (i : ℕ) → (layout_of row t ≡ A.Refused (R.BitFieldInLayout i)) ↔ (first_bit_field parts ≡ some i)
+  pub layout-bits : (i : ℕ) → (layout_of row t ≡ A.Refused (R.BitFieldInLayout i)) ↔ (first_bit_field parts ≡ Some i)
   layout-bits i = (
     λ e. tells-bits (first_bit_field parts) (any_sizeless (widths row) parts) fits (extent (widths row) t).bytes (extent (widths row) t).alignment i (sym layout-tells ∙ e),
     λ e. layout-tells ∙ rw e,
   )
 
-  module _ (o : first_bit_field parts ≡ none) where
+  module _ (o : first_bit_field parts ≡ None) where
     pub layout-nothing : (layout_of row t ≡ A.Nothing) ↔ (any_sizeless (widths row) parts ≡ true)
     layout-nothing = (
       λ e. tells-nothing (any_sizeless (widths row) parts) fits (extent (widths row) t).bytes (extent (widths row) t).alignment (rw o at (sym layout-tells ∙ e)),
@@ -110,7 +110,7 @@ module _ (row : ℕ) (t : Trees) where
     )
 
     module _ (b : any_sizeless (widths row) parts ≡ false) where
-      fit-tells : layout_of row t ≡ tells none false fits (extent (widths row) t).bytes (extent (widths row) t).alignment
+      fit-tells : layout_of row t ≡ tells None false fits (extent (widths row) t).bytes (extent (widths row) t).alignment
       fit-tells = layout-tells ∙ rw (o, b)
 
       pub layout-bytes : (n a : ℕ) → (layout_of row t ≡ A.Bytes n a) ↔ (((extent (widths row) t).bytes ≡ n) × ((extent (widths row) t).alignment ≡ a) × Fits row t)
@@ -125,13 +125,13 @@ module _ (row : ℕ) (t : Trees) where
         λ h. fit-tells ∙ go fits refl h,
       )
         where
-          go : (f : Bool) → fits ≡ f → (Fits row t → ⊥) → tells none false f (extent (widths row) t).bytes (extent (widths row) t).alignment ≡ A.Refused R.SizeTooLarge
+          go : (f : Bool) → fits ≡ f → (Fits row t → ⊥) → tells None false f (extent (widths row) t).bytes (extent (widths row) t).alignment ≡ A.Refused R.SizeTooLarge
           go true e h = absurd (h (fits-says e))
           go false e h = refl
 
   -- What is so of a tree that is laid out.
   pub record Laid (n a : ℕ) : Type 0 where
-    pub no_bits : first_bit_field parts ≡ none
+    pub no_bits : first_bit_field parts ≡ None
     pub all-sized : any_sizeless (widths row) parts ≡ false
     pub bytes : (extent (widths row) t).bytes ≡ n
     pub alignment : (extent (widths row) t).alignment ≡ a

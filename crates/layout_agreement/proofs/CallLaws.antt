@@ -4,7 +4,7 @@ use native.Mathlib.Omega.{arith}
 use mathlib.Core.Bool.{Bool, true, false, cond}
 use mathlib.Core.List.{List, ◌++◌}
 use mathlib.Core.Logic.{◌↔◌, ◌⊎◌, inl, inr, ⊎_elim}
-use mathlib.Core.Option.{some, none}
+use Rattle.std.specs.Prelude.{Some, None}
 use mathlib.Core.Path.{◌≡◌, refl, sym, ap, ◌∙◌}
 use borrow.Author.Tests.{le-leb, lt-leb, leb-true, leb-false}
 use lib.Dec.{leb}
@@ -136,10 +136,10 @@ module _ (row : ℕ) (words names list : List ℕ) where
       pub room-answer : layout_answer row words names list ≡ layout_of row t
       room-answer = row-answer ∙ rw (le-leb (count t) (length list) m)
 
-      pub answer-bits : (i : ℕ) → (layout_answer row words names list ≡ A.Refused (R.BitFieldInLayout i)) ↔ (first_bit_field (laid_out Top 0 t) ≡ some i)
+      pub answer-bits : (i : ℕ) → (layout_answer row words names list ≡ A.Refused (R.BitFieldInLayout i)) ↔ (first_bit_field (laid_out Top 0 t) ≡ Some i)
       answer-bits i = by_answer room-answer (layout-bits row t i)
 
-      module _ (o : first_bit_field (laid_out Top 0 t) ≡ none) where
+      module _ (o : first_bit_field (laid_out Top 0 t) ≡ None) where
         pub answer-nothing : (layout_answer row words names list ≡ A.Nothing) ↔ (any_sizeless (widths row) (laid_out Top 0 t) ≡ true)
         answer-nothing = by_answer room-answer (layout-nothing row t o)
 

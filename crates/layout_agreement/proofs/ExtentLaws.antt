@@ -3,8 +3,7 @@ use Prim.Native.Nat.{ℕ, zero, suc, ◌≤◌, ◌<◌}
 use native.Mathlib.Nat.{le-max_left, le-max_right, max-le}
 use native.Mathlib.Omega.{arith}
 use mathlib.Core.List.{List, [], ◌∷◌, map}
-use mathlib.Core.Option
-use mathlib.Core.Option.{none}
+use Rattle.std.specs.Prelude.{None, unwrap_or}
 use lib.ListN.{length, get_or}
 use Rattle.kinds.specs.Primitive.{Widths, width, primitives, widths}
 use Rattle.kinds.specs.Tree as T
@@ -54,7 +53,7 @@ only-positive [] a = omega arith
 only-positive (x ∷ xs) a = a.0
 
 module _ (w : Widths) (p : Positive w) where
-  part-positive : (q : Primitive) → 0 < Option.get_or (width w (part q)) 1
+  part-positive : (q : Primitive) → 0 < unwrap_or (width w (part q)) 1
   part-positive P.Char = omega arith
   part-positive P.Short = omega arith
   part-positive P.Int = omega arith
@@ -80,7 +79,7 @@ module _ (w : Widths) (p : Positive w) where
   part-positive P.Sel = p.pointer
   part-positive P.Unknown = omega arith
 
-  parts-positive : (qs : List Primitive) (i : ℕ) → 0 < Option.get_or (get_or (map (λ q. width w (part q)) qs) i none) 1
+  parts-positive : (qs : List Primitive) (i : ℕ) → 0 < unwrap_or (get_or (map (λ q. width w (part q)) qs) i None) 1
   parts-positive [] i = omega arith
   parts-positive (q ∷ qs) zero = part-positive q
   parts-positive (q ∷ qs) (suc i) = parts-positive qs i

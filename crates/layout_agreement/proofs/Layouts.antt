@@ -5,7 +5,7 @@ use native.Mathlib.Omega.{arith}
 use mathlib.Core.Bool.{true, false}
 use mathlib.Core.List.{List}
 use mathlib.Core.Logic.{◌↔◌}
-use mathlib.Core.Option.{some, none}
+use Rattle.std.specs.Prelude.{Some, None}
 use mathlib.Core.Path.{◌≡◌, sym, ◌∙◌}
 use lib.ListN.{length, take, drop, replicate}
 use Rattle.kinds.specs.Primitive.{Widths, is_row, widths}
@@ -146,8 +146,8 @@ module _ (w : Widths) (p : Positive w) where
 
   -- ---- Padding only adds: a tree that is laid out has a size without padding too (N5), and it is not the larger.
 
-  pub size-never-above : (t : Trees) → is_one t ≡ true → valid t ≡ true → first_bit_field (laid_out Top 0 t) ≡ none → any_sizeless w (laid_out Top 0 t) ≡ false
-      → (n : ℕ) × (size w t ≡ some n) × (n ≤ (extent w t).bytes)
+  pub size-never-above : (t : Trees) → is_one t ≡ true → valid t ≡ true → first_bit_field (laid_out Top 0 t) ≡ None → any_sizeless w (laid_out Top 0 t) ≡ false
+      → (n : ℕ) × (size w t ≡ Some n) × (n ≤ (extent w t).bytes)
   size-never-above = size_below w p
 
 -- ---- The numbers of the nodes.
@@ -206,16 +206,16 @@ module _ (t u : Trees) (e : shown Top t ≡ shown Top u) where
   same_numbers = offsets-alike t u e
 
   -- So in every row they are told the same, if no bitfield is laid out: none, refusal 6, or the same size and alignment.
-  pub same_layout : (row : ℕ) → first_bit_field (laid_out Top 0 t) ≡ none → layout_of row t ≡ layout_of row u
+  pub same_layout : (row : ℕ) → first_bit_field (laid_out Top 0 t) ≡ None → layout_of row t ≡ layout_of row u
   same_layout = layout-alike t u e
 
 -- ---- The first bitfield has the lowest number of all that are laid out; there is none exactly if none is laid out.
 
 module _ (t : Trees) where
-  pub lowest-bit-field : (i : ℕ) → (first_bit_field (laid_out Top 0 t) ≡ some i) ↔ (BitFieldAt (laid_out Top 0 t) i × ((j : ℕ) → BitFieldAt (laid_out Top 0 t) j → i ≤ j))
+  pub lowest-bit-field : (i : ℕ) → (first_bit_field (laid_out Top 0 t) ≡ Some i) ↔ (BitFieldAt (laid_out Top 0 t) i × ((j : ℕ) → BitFieldAt (laid_out Top 0 t) j → i ≤ j))
   lowest-bit-field = first-is-least Top 0 t
 
-  pub no-bit-field : (first_bit_field (laid_out Top 0 t) ≡ none) ↔ ((j : ℕ) → BitFieldAt (laid_out Top 0 t) j → ⊥)
+  pub no-bit-field : (first_bit_field (laid_out Top 0 t) ≡ None) ↔ ((j : ℕ) → BitFieldAt (laid_out Top 0 t) j → ⊥)
   no-bit-field = none-is-first Top 0 t
 
 -- ---- The call, for all lists.
@@ -236,10 +236,10 @@ module _ (row : ℕ) (words names list : List ℕ) where
 
     module _ (m : count t ≤ length list) where
       -- Where the list is long enough, refusal 21 comes exactly where a bitfield is laid out, and carries the number of the first.
-      pub bit-field : (i : ℕ) → (layout_answer row words names list ≡ Refused (R.BitFieldInLayout i)) ↔ (first_bit_field (laid_out Top 0 t) ≡ some i)
+      pub bit-field : (i : ℕ) → (layout_answer row words names list ≡ Refused (R.BitFieldInLayout i)) ↔ (first_bit_field (laid_out Top 0 t) ≡ Some i)
       bit-field = answer-bits row words names list h r m
 
-      module _ (o : first_bit_field (laid_out Top 0 t) ≡ none) where
+      module _ (o : first_bit_field (laid_out Top 0 t) ≡ None) where
         -- Where none is, there is no layout exactly if a node that is laid out has no size.
         pub no-layout : (layout_answer row words names list ≡ Nothing) ↔ (any_sizeless (widths row) (laid_out Top 0 t) ≡ true)
         no-layout = answer-nothing row words names list h r m o
@@ -278,7 +278,7 @@ tree-size-too = sized-below
 
 -- Two sheets whose trees have equal shown parts are answered alike in a row that there is, if each list is long enough and no bitfield is laid out.
 pub sheets-alike : (row : ℕ) (aw an al bw bn bl : List ℕ) {t u : Trees} → held aw an ≡ holding t → held bw bn ≡ holding u → shown Top t ≡ shown Top u → is_row row ≡ true → count t ≤ length al
-    → count u ≤ length bl → first_bit_field (laid_out Top 0 t) ≡ none → layout_answer row aw an al ≡ layout_answer row bw bn bl
+    → count u ≤ length bl → first_bit_field (laid_out Top 0 t) ≡ None → layout_answer row aw an al ≡ layout_answer row bw bn bl
 sheets-alike row aw an al bw bn bl {t} {u} h k e r m n o = room-answer row aw an al h r m ∙ same_layout t u e row o ∙ sym (room-answer row bw bn bl k r n)
 
 -- ---- Each case of the table holds.

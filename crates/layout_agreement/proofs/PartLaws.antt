@@ -3,7 +3,7 @@ use Prim.Native.Nat.{ℕ, ◌+◌}
 use native.Mathlib.Omega.{arith}
 use mathlib.Core.Bool.{Bool, true, false, cond, not, ◌&&◌, ◌||◌, true≢false}
 use mathlib.Core.List.{List, [], ◌∷◌, ◌++◌}
-use mathlib.Core.Option.{Option, some, none}
+use Rattle.std.specs.Prelude.{Option, Some, None}
 use mathlib.Core.Path.{◌≡◌, refl, sym, subst, ◌∙◌}
 use Rattle.kinds.specs.Primitive.{Widths}
 use Rattle.kinds.specs.Tree.{Label, Trees, node, is_end, count, inside, shows}
@@ -17,8 +17,8 @@ neither false b h = (refl, h)
 infixr 20 ◌or_else◌
 -- The first of two, if there is one, else the second.
 abbrev pub ◌or_else◌ : Option ℕ → Option ℕ → Option ℕ
-none or_else b = b
-some i or_else b = some i
+None or_else b = b
+Some i or_else b = Some i
 
 pub first-append : (ps qs : List Part) → first_bit_field (ps ++ qs) ≡ (first_bit_field ps or_else first_bit_field qs)
 unfolding first_bit_field
@@ -26,13 +26,13 @@ first-append [] qs = refl
 first-append (p ∷ ps) qs = go (is_bit_field p.label) (first-append ps qs)
   where
     go : (b : Bool) → first_bit_field (ps ++ qs) ≡ (first_bit_field ps or_else first_bit_field qs)
-        → cond b (some p.number) (first_bit_field (ps ++ qs)) ≡ (cond b (some p.number) (first_bit_field ps) or_else first_bit_field qs)
+        → cond b (Some p.number) (first_bit_field (ps ++ qs)) ≡ (cond b (Some p.number) (first_bit_field ps) or_else first_bit_field qs)
     go true e = refl
     go false e = e
 
-pub neither-first : (a b : Option ℕ) → (a or_else b) ≡ none → (a ≡ none) × (b ≡ none)
-neither-first none b h = (refl, h)
-neither-first (some i) b h = let z : ◌≡◌ {A = ℕ} 0 1 = cc in absurd (omega arith)
+pub neither-first : (a b : Option ℕ) → (a or_else b) ≡ None → (a ≡ None) × (b ≡ None)
+neither-first None b h = (refl, h)
+neither-first (Some i) b h = let z : ◌≡◌ {A = ℕ} 0 1 = cc in absurd (omega arith)
 
 pub any_append : (w : Widths) (ps qs : List Part) → any_sizeless w (ps ++ qs) ≡ (any_sizeless w ps || any_sizeless w qs)
 unfolding any_sizeless
@@ -64,15 +64,15 @@ module _ (v : NestingLevel) (i : ℕ) (l : Label) (cs ts : Trees) where
 
   pub record BitFree : Type 0 where
     pub own : is_bit_field l ≡ false
-    pub inner : (shows l v && not (is_pointer l)) ≡ true → first_bit_field (laid_out (inside l v) (i + 1) cs) ≡ none
-    pub after : first_bit_field (laid_out v (i + 1 + count cs) ts) ≡ none
+    pub inner : (shows l v && not (is_pointer l)) ≡ true → first_bit_field (laid_out (inside l v) (i + 1) cs) ≡ None
+    pub after : first_bit_field (laid_out v (i + 1 + count cs) ts) ≡ None
 
-  pub plain-parts : first_bit_field (laid_out v i (node l cs ts)) ≡ none → BitFree
+  pub plain-parts : first_bit_field (laid_out v i (node l cs ts)) ≡ None → BitFree
   unfolding laid_out first_bit_field
   plain-parts h = go (is_bit_field l) refl h
     where
-      go : (b : Bool) → is_bit_field l ≡ b → cond b (some i) (first_bit_field (held ++ laid_out v (i + 1 + count cs) ts)) ≡ none → BitFree
+      go : (b : Bool) → is_bit_field l ≡ b → cond b (Some i) (first_bit_field (held ++ laid_out v (i + 1 + count cs) ts)) ≡ None → BitFree
       go true e h = let z : ◌≡◌ {A = ℕ} 0 1 = cc in absurd (omega arith)
       go false e h =
           let b = neither-first (first_bit_field held) (first_bit_field (laid_out v (i + 1 + count cs) ts)) (sym (first-append held (laid_out v (i + 1 + count cs) ts)) ∙ h) in
-          record { own = e; inner = λ q. subst (λ x. first_bit_field (cond x (laid_out (inside l v) (i + 1) cs) []) ≡ none) q b.0; after = b.1 }
+          record { own = e; inner = λ q. subst (λ x. first_bit_field (cond x (laid_out (inside l v) (i + 1) cs) []) ≡ None) q b.0; after = b.1 }

@@ -4,7 +4,7 @@ use native.Mathlib.Nat.{zero-add, suc-add}
 use native.Mathlib.Omega.{arith}
 use mathlib.Core.Bool.{Bool, true, false, cond, not, ◌&&◌, ◌||◌}
 use mathlib.Core.List.{List, [], ◌∷◌, ◌++◌, append_assoc, append-nil}
-use mathlib.Core.Option.{Option, some, none}
+use Rattle.std.specs.Prelude.{Option, Some, None}
 use mathlib.Core.Path.{◌≡◌, refl, sym, ap, ap₂, ◌∙◌}
 use borrow.Author.Tests.{not-false}
 use lib.ListN.{length, get_or, take, drop, replicate, length-append, length-replicate, replicate-append-replicate}
@@ -142,8 +142,8 @@ rest_at : (L : List ℕ) (k i : ℕ) (rest : List ℕ) → drop k L ≡ i ∷ re
 rest_at L k i rest h = sym (drop-drop 1 k L) ∙ ap (drop 1) h
 
 number-or : (L : List ℕ) (a b : Option ℕ) → (number_in L a or_else number_in L b) ≡ number_in L (a or_else b)
-number-or L none b = refl
-number-or L (some k) b = refl
+number-or L None b = refl
+number-or L (Some k) b = refl
 
 held-bits : (L : List ℕ) (b c : Bool) (v : NestingLevel) (k i : ℕ) (cs : Trees) → (b ≡ true → first_bit_field (laid_out v i cs) ≡ number_in L (first_bit_field (laid_out v k (shown v cs))))
     → first_bit_field (cond (b && c) (laid_out v i cs) []) ≡ number_in L (first_bit_field (cond (b && c) (laid_out v k (keep b (shown v cs))) []))
@@ -177,8 +177,8 @@ bits_in L Q v k i (node l cs ts) h =
     K : Trees
     K = keep (shows l v) (shown (inside l v) cs)
 
-    go : (b : Bool) (x y : Option ℕ) → get_or L k 0 ≡ i → x ≡ number_in L y → cond b (some i) x ≡ number_in L (cond b (some k) y)
-    go true x y e d = ap some (sym e)
+    go : (b : Bool) (x y : Option ℕ) → get_or L k 0 ≡ i → x ≡ number_in L y → cond b (Some i) x ≡ number_in L (cond b (Some k) y)
+    go true x y e d = ap Some (sym e)
     go false x y e d = d
 
 pub bits-shown : (t : Trees) → first_bit_field (laid_out Top 0 t) ≡ number_in (shown_numbers t) (first_bit_field (laid_out Top 0 (shown Top t)))

@@ -4,7 +4,7 @@ use native.Mathlib.Nat.{le-max_left, le-max_right, max-le, mul-le-mul_left}
 use native.Mathlib.Omega.{arith}
 use mathlib.Core.Bool.{Bool, true, false, cond, not, ◌&&◌, true≢false, false≢true}
 use mathlib.Core.List.{List, [], ◌∷◌}
-use mathlib.Core.Option.{Option, some, none, get_or}
+use Rattle.std.specs.Prelude.{Option, Some, None, unwrap_or}
 use mathlib.Core.Path.{◌≡◌, refl, sym, ap, ap₂, ◌∙◌}
 use borrow.Author.Tests.{le-leb, not-false}
 use Rattle.kinds.specs.Level.{shows_fields}
@@ -35,7 +35,7 @@ use Rattle.layout_agreement.proofs.PartLaws.{neither, sized-parts, plain-parts}
 
 -- There is a size, and it is at most this.
 abbrev pub AtMost : Option ℕ → ℕ → Type 0
-AtMost s m = (n : ℕ) × (s ≡ some n) × (n ≤ m)
+AtMost s m = (n : ℕ) × (s ≡ Some n) × (n ≤ m)
 
 -- The same of each size and extent.
 abbrev Under : List (Option ℕ) → List Extent → Type 0
@@ -46,7 +46,7 @@ Under (s ∷ ss) (x ∷ xs) = AtMost s x.bytes × Under ss xs
 
 -- ---- Sums, the largest, and what one child has.
 
-sum-under : (e : ℕ) (ss : List (Option ℕ)) (xs : List Extent) → Aligned xs → Under ss xs → (n : ℕ) × (sum ss ≡ some n) × (e + n ≤ fields_end e xs)
+sum-under : (e : ℕ) (ss : List (Option ℕ)) (xs : List Extent) → Aligned xs → Under ss xs → (n : ℕ) × (sum ss ≡ Some n) × (e + n ≤ fields_end e xs)
 unfolding sum plus fields_end
 sum-under e [] [] a u = (0, refl, omega arith)
 sum-under e [] (x ∷ xs) a u = absurd u
@@ -70,14 +70,14 @@ largest-under s x (r ∷ ss) (y ∷ xs) h u =
     (max h.0 p.0, ap₂ larger h.1 p.1, max-le (omega (arith, h.2, le-max_left x.bytes m)) (omega (arith, p.2, le-max_right x.bytes m)))
 
 -- A primitive's size.
-known : (s : Option ℕ) → is_none s ≡ false → AtMost s (get_or s 0)
+known : (s : Option ℕ) → is_none s ≡ false → AtMost s (unwrap_or s 0)
 unfolding is_none
-known none e = absurd (true≢false e)
-known (some n) e = (n, refl, omega arith)
+known None e = absurd (true≢false e)
+known (Some n) e = (n, refl, omega arith)
 
 -- What is shown has the size of its fields.
-when-shown : (b : Bool) (x : Option ℕ) {n : ℕ} → b ≡ true → x ≡ some n → cond b x none ≡ some n
-when-shown b x h e = ap (λ c. cond c x none) h ∙ e
+when-shown : (b : Bool) (x : Option ℕ) {n : ℕ} → b ≡ true → x ≡ Some n → cond b x None ≡ Some n
+when-shown b x h e = ap (λ c. cond c x None) h ∙ e
 
 module _ (w : Widths) (p : Positive w) where
   only_under : (v : NestingLevel) (cs : Trees) → is_one cs ≡ true → Under (sizes w v cs) (extents w cs) → AtMost (only (sizes w v cs)) (only_extent (extents w cs)).bytes
@@ -117,7 +117,7 @@ module _ (w : Widths) (p : Positive w) where
       (d.0, when-shown (shows_fields v) (largest (sizes w Within cs)) h d.1, omega (arith, at_or_after (alignments (extents w cs)) (members_end (extents w cs)) (alignments-positive (extents w cs))))
   node-under T.none v cs z b c u = absurd (true≢false z)
 
-  trees-under : (v : NestingLevel) (i : ℕ) (ts : Trees) → any_sizeless w (laid_out v i ts) ≡ false → first_bit_field (laid_out v i ts) ≡ none → valid ts ≡ true
+  trees-under : (v : NestingLevel) (i : ℕ) (ts : Trees) → any_sizeless w (laid_out v i ts) ≡ false → first_bit_field (laid_out v i ts) ≡ None → valid ts ≡ true
       → Under (sizes w v ts) (extents w ts)
   unfolding sizes extents valid
   trees-under v i end a o g = tt
@@ -130,7 +130,7 @@ module _ (w : Widths) (p : Positive w) where
         trees-under v (i + 1 + count cs) ts s.after b.after y.1,
       )
 
-  pub size_below : (t : Trees) → is_one t ≡ true → valid t ≡ true → first_bit_field (laid_out Top 0 t) ≡ none → any_sizeless w (laid_out Top 0 t) ≡ false → AtMost (size w t) (extent w t).bytes
+  pub size_below : (t : Trees) → is_one t ≡ true → valid t ≡ true → first_bit_field (laid_out Top 0 t) ≡ None → any_sizeless w (laid_out Top 0 t) ≡ false → AtMost (size w t) (extent w t).bytes
   unfolding size extent
   size_below t one g o a = only_under Top t one (trees-under Top 0 t a o g)
 

@@ -3,8 +3,7 @@ use Prim.Native.Nat.{ℕ, zero, suc, ◌*◌}
 use native.Mathlib.Nat.{mul_assoc}
 use native.Mathlib.Omega.{arith}
 use mathlib.Core.List.{List, [], ◌∷◌, map}
-use mathlib.Core.Option
-use mathlib.Core.Option.{none}
+use Rattle.std.specs.Prelude.{None, unwrap_or}
 use mathlib.Core.Path.{◌≡◌, refl, sym, ap, ◌∙◌}
 use lib.ListN.{get_or}
 use Rattle.kinds.specs.Primitive.{Widths, width, primitives, primitive_size}
@@ -34,7 +33,7 @@ times-whole : (n b a : ℕ) → Multiple b a → Multiple (n * b) a
 times-whole n b a m = (n * m.0, ap (λ x. n * x) m.1 ∙ sym (mul_assoc n m.0 a))
 
 module _ (w : Widths) where
-  primitive-whole : (q : Primitive) → Multiple (Option.get_or (width w q) 0) (Option.get_or (width w (part q)) 1)
+  primitive-whole : (q : Primitive) → Multiple (unwrap_or (width w q) 0) (unwrap_or (width w (part q)) 1)
   primitive-whole P.Char = once 1
   primitive-whole P.Short = once 2
   primitive-whole P.Int = once 4
@@ -60,7 +59,7 @@ module _ (w : Widths) where
   primitive-whole P.Sel = once w.pointer
   primitive-whole P.Unknown = (0, refl)
 
-  primitives-whole : (qs : List Primitive) (i : ℕ) → Multiple (Option.get_or (get_or (map (width w) qs) i none) 0) (Option.get_or (get_or (map (λ q. width w (part q)) qs) i none) 1)
+  primitives-whole : (qs : List Primitive) (i : ℕ) → Multiple (unwrap_or (get_or (map (width w) qs) i None) 0) (unwrap_or (get_or (map (λ q. width w (part q)) qs) i None) 1)
   primitives-whole [] i = (0, refl)
   primitives-whole (q ∷ qs) zero = primitive-whole q
   primitives-whole (q ∷ qs) (suc i) = primitives-whole qs i

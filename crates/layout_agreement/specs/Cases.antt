@@ -1,6 +1,6 @@
 -- Texts and the layouts of the trees that they are read as, in rows, as one table: what 02 (N7) says by words, computed, and more where one rule meets another.
 use Rattle.std.specs.Prelude.{ℕ, List, [], ◌∷◌, ◌++◌, ◌≡◌, length, replicate}
-use Rattle.std.proofs.Math.Option.{Option, some, none}
+use Rattle.std.specs.Prelude.{Option, Some, None}
 use Rattle.kinds.specs.Byte.{bytes}
 use Rattle.kinds.specs.Parse.{Whole, tree, refusal, from_str}
 use Rattle.kinds.specs.Refusal.{number, place}
@@ -17,17 +17,17 @@ pub data Told : Type 0 where
   refused : ℕ → Option ℕ → Told
 
 abbrev pub too_short : Told
-too_short = refused 2 none
+too_short = refused 2 None
 
 abbrev pub too_large : Told
-too_large = refused 6 none
+too_large = refused 6 None
 
 abbrev pub no_row : Told
-no_row = refused 20 none
+no_row = refused 20 None
 
 -- The number of the first bitfield.
 abbrev pub bits : ℕ → Told
-bits i = refused 21 (some i)
+bits i = refused 21 (Some i)
 
 abbrev pub told : LaidOut → List ℕ → Told
 told (A.Refused r) after = refused (number r) (place r)

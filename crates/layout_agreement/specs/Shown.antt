@@ -1,6 +1,6 @@
 -- What two trees with equal shown parts (01's term) have in common of their layouts: the numbers of the shown nodes.
 use Rattle.std.specs.Prelude.{ℕ, zero, suc, ◌+◌, cond, List, [], ◌∷◌, ◌++◌, get_or, take, drop}
-use Rattle.std.proofs.Math.Option.{Option, some, none}
+use Rattle.std.specs.Prelude.{Option, Some, None}
 use Rattle.kinds.specs.Tree.{Trees, end, node, count, inside, shows}
 use Rattle.kinds.specs.declared.NestingLevel.{NestingLevel}
 use Rattle.kinds.specs.declared.NestingLevel.TheVariants.{Top}
@@ -21,5 +21,5 @@ shown_numbers t = shown_only Top t (up_from 0 (count t))
 
 -- The number that stands at a place, if there is one.
 abbrev pub number_in : List ℕ → Option ℕ → Option ℕ
-number_in ns none = none
-number_in ns (some k) = some (get_or ns k 0)
+number_in ns None = None
+number_in ns (Some k) = Some (get_or ns k 0)

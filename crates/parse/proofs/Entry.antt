@@ -3,7 +3,7 @@ use Prim.Native.Nat.{ℕ, zero, suc, ◌+◌, ◌*◌, ◌-◌, ◌≤◌, ◌<�
 use mathlib.Core.Path.{◌≡◌, refl, sym, ap, ap₂, ◌∙◌, subst, subst₂}
 use mathlib.Core.List.{List, [], ◌∷◌, ◌++◌, append_assoc, append-nil}
 use mathlib.Core.Bool.{Bool, true, false, ◌||◌, and-false, false≢true}
-use mathlib.Core.Option.{some, none}
+use Rattle.std.specs.Prelude.{Some, None}
 use native.Mathlib.Nat.{sub-zero, zero-add}
 use native.Mathlib.Omega.{arith}
 use lib.ListN.{length, take, drop, get_or, set, replicate, length-drop, length-append, length-replicate, take-append-drop}
@@ -150,20 +150,20 @@ beyond n w v h =
 -- ---- Refusals 1 and 2.
 
 module _ (text w ns : List ℕ) where
-  pub too_long : max_text < length text → turned_away text w ns ≡ some TextTooLong
+  pub too_long : max_text < length text → turned_away text w ns ≡ Some TextTooLong
   unfolding turned_away
   too_long h = rw (lt-ltb max_text (length text) h)
 
   module _ (short : length text ≤ max_text) where
-    pub not-away : used (length text) ≤ length w → length text ≤ length ns → turned_away text w ns ≡ none
+    pub not-away : used (length text) ≤ length w → length text ≤ length ns → turned_away text w ns ≡ None
     unfolding turned_away has_room
     not-away hw hn = rw (le-ltb max_text (length text) short, le-leb (used (length text)) (length w) hw, le-leb (length text) (length ns) hn)
 
-    pub few_words : length w < used (length text) → turned_away text w ns ≡ some ListTooShort
+    pub few_words : length w < used (length text) → turned_away text w ns ≡ Some ListTooShort
     unfolding turned_away has_room
     few_words h = rw (le-ltb max_text (length text) short, lt-leb (used (length text)) (length w) h)
 
-    pub few-names : length ns < length text → turned_away text w ns ≡ some ListTooShort
+    pub few-names : length ns < length text → turned_away text w ns ≡ Some ListTooShort
     unfolding turned_away has_room
     few-names h = rw (le-ltb max_text (length text) short, lt-leb (length text) (length ns) h, and-false (leb (used (length text)) (length w)))
 

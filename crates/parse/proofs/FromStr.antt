@@ -3,7 +3,7 @@ use Prim.Native.Nat.{ℕ, ◌-◌, ◌≤◌, ◌<◌}
 use mathlib.Core.Path.{◌≡◌, refl, sym, ap, ◌∙◌}
 use mathlib.Core.List.{List, [], ◌∷◌}
 use mathlib.Core.Bool.{Bool, true, false}
-use mathlib.Core.Option.{Option, some, none}
+use Rattle.std.specs.Prelude.{Option, Some, None}
 use native.Mathlib.Nat.{sub_self}
 use native.Mathlib.Omega.{arith}
 use denote.Ref.{Bor}
@@ -34,19 +34,19 @@ use Rattle.kinds.proofs.ListLaws.{unread, unread-end}
 -- ---- The lists.
 
 module _ (text w ns : List ℕ) where
-  pub words-kept : (why : Refusal) (t : Option Trees) → turned_away text w ns ≡ some why → w ≡ words_after text w ns t
+  pub words-kept : (why : Refusal) (t : Option Trees) → turned_away text w ns ≡ Some why → w ≡ words_after text w ns t
   unfolding words_after unless_away
   words-kept why t e = sym (ap (λ (o : Option Refusal). unless_away o w (filled (used (length text)) (sheet_words t) w)) e)
 
-  pub names-kept : (why : Refusal) (t : Option Trees) → turned_away text w ns ≡ some why → ns ≡ names_after text w ns t
+  pub names-kept : (why : Refusal) (t : Option Trees) → turned_away text w ns ≡ Some why → ns ≡ names_after text w ns t
   unfolding names_after unless_away
   names-kept why t e = sym (ap (λ (o : Option Refusal). unless_away o ns (filled (length text) (sheet_names t) ns)) e)
 
-  pub words-read : (t : Option Trees) → turned_away text w ns ≡ none → filled (used (length text)) (sheet_words t) w ≡ words_after text w ns t
+  pub words-read : (t : Option Trees) → turned_away text w ns ≡ None → filled (used (length text)) (sheet_words t) w ≡ words_after text w ns t
   unfolding words_after unless_away
   words-read t e = sym (ap (λ (o : Option Refusal). unless_away o w (filled (used (length text)) (sheet_words t) w)) e)
 
-  pub names-read : (t : Option Trees) → turned_away text w ns ≡ none → filled (length text) (sheet_names t) ns ≡ names_after text w ns t
+  pub names-read : (t : Option Trees) → turned_away text w ns ≡ None → filled (length text) (sheet_names t) ns ≡ names_after text w ns t
   unfolding names_after unless_away
   names-read t e = sym (ap (λ (o : Option Refusal). unless_away o ns (filled (length text) (sheet_names t) ns)) e)
 
@@ -59,7 +59,7 @@ place text to h = omega (arith, length-drop to text)
 abbrev pub Whole : (strict : Bool) (text w ns : List ℕ) (r : Reading) (w' ns' : List ℕ) → Type 0
 Whole strict text w ns r w' ns' = (r ≡ whole_answer strict text w ns) × ((w' ≡ whole_words strict text w ns) × (ns' ≡ whole_names strict text w ns))
 
-pub whole-away : (strict : Bool) (text w ns w' ns' : List ℕ) (why : Refusal) → turned_away text w ns ≡ some why → w' ≡ w → ns' ≡ ns
+pub whole-away : (strict : Bool) (text w ns w' ns' : List ℕ) (why : Refusal) → turned_away text w ns ≡ Some why → w' ≡ w → ns' ≡ ns
     → Whole strict text w ns (Refused why) w' ns'
 unfolding answer_or
 whole-away strict text w ns w' ns' why e x y = (
@@ -68,7 +68,7 @@ whole-away strict text w ns w' ns' why e x y = (
 )
 
 -- What the definition gives, where refusals 1 and 2 do not turn the text away.
-whole-read : (strict : Bool) (text w ns w' ns' : List ℕ) (q : P.Whole) → turned_away text w ns ≡ none → whole_by strict text ≡ q
+whole-read : (strict : Bool) (text w ns w' ns' : List ℕ) (q : P.Whole) → turned_away text w ns ≡ None → whole_by strict text ≡ q
     → w' ≡ filled (used (length text)) (sheet_words (whole_tree q)) w → ns' ≡ filled (length text) (sheet_names (whole_tree q)) ns
     → Whole strict text w ns (whole_reading q) w' ns'
 unfolding answer_or
@@ -142,7 +142,7 @@ Start text w ns rest answer w' ns' =
     (rest ≡ from_start_rest text w ns) × ((answer ≡ answer_words (from_start_answer text w ns)) ×
     ((w' ≡ from_start_words text w ns) × (ns' ≡ from_start_names text w ns)))
 
-pub start-away : (text w ns answer w' ns' : List ℕ) (why : Refusal) → turned_away text w ns ≡ some why → w' ≡ w → ns' ≡ ns → answer ≡ answer_words (Refused why)
+pub start-away : (text w ns answer w' ns' : List ℕ) (why : Refusal) → turned_away text w ns ≡ Some why → w' ≡ w → ns' ≡ ns → answer ≡ answer_words (Refused why)
     → Start text w ns text answer w' ns'
 unfolding from_start_rest from_start_answer from_start_words from_start_names answer_or unless_away
 start-away text w ns answer w' ns' why e x y z = (
@@ -154,7 +154,7 @@ start-away text w ns answer w' ns' why e x y z = (
 )
 
 -- What the definition gives, where refusals 1 and 2 do not turn the text away.
-start-read : (text w ns answer w' ns' : List ℕ) (q : P.FromStart) → turned_away text w ns ≡ none → from_start_of_str text ≡ q → answer
+start-read : (text w ns answer w' ns' : List ℕ) (q : P.FromStart) → turned_away text w ns ≡ None → from_start_of_str text ≡ q → answer
     ≡ answer_words (start_reading q)
     → w' ≡ filled (used (length text)) (sheet_words (start_tree q)) w → ns' ≡ filled (length text) (sheet_names (start_tree q)) ns
     → Start text w ns (start_rest text q) answer w' ns'
@@ -214,6 +214,6 @@ unfolding from_start_answer from_start_rest answer_or unless_away start_reading 
 refused-rest text w ns why = go (turned_away text w ns) (from_start_of_str text)
   where
     go : (o : Option Refusal) (q : P.FromStart) → answer_or o (start_reading q) ≡ Refused why → unless_away o text (start_rest text q) ≡ text
-    go (some r) q e = refl
-    go none (P.tree_then l cs t) e = cc
-    go none (P.FromStart.refusal x at) e = refl
+    go (Some r) q e = refl
+    go None (P.tree_then l cs t) e = cc
+    go None (P.FromStart.refusal x at) e = refl

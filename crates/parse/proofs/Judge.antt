@@ -3,7 +3,7 @@ use Prim.Native.Nat.{ℕ, zero, suc, ◌+◌, ◌≤◌, ◌<◌}
 use mathlib.Core.Path.{◌≡◌, refl, sym, ap, ◌∙◌, subst}
 use mathlib.Core.List.{List, [], ◌∷◌}
 use mathlib.Core.Bool.{Bool, true, false, cond, ◌&&◌, false≢true}
-use mathlib.Core.Option.{Option, some, none}
+use Rattle.std.specs.Prelude.{Option, Some, None}
 use native.Mathlib.Omega.{arith}
 use lib.Dec.{leb}
 use lib.ListN.{length, drop, get_or, length-drop}
@@ -13,7 +13,7 @@ use Rattle.kinds.specs.Byte.{is_digit}
 use Rattle.kinds.specs.Parse as R
 use Rattle.kinds.specs.Parse.{max_u64, max_u8, value, no_number, parse_number, integral, start, begin, encoding, refused, parse_bits, parse_bit_field, untyped, typed, leaf, single_kind}
 use Rattle.kinds.specs.Strict.{digit_count, surplus_zero, typed_number, bits_numbers, numbers_of, first_surplus}
-use Rattle.kinds.specs.Tree.{Label, Trees, primitive, bit_field, typed_bit_field, pointer, atomic, array, struct, union, none as noneLabel}
+use Rattle.kinds.specs.Tree.{Label, Trees, primitive, bit_field, typed_bit_field, pointer, atomic, array, struct, union, None as noneLabel}
 use Rattle.kinds.specs.declared.ContainerKind.{ContainerKind}
 use Rattle.kinds.specs.declared.ErrorKind.TheVariants.{SurplusZero, IntegerTooLarge}
 use Rattle.numbers.specs.Answer.{digits_of, digits_in, number_at}
@@ -139,14 +139,14 @@ module _ (n : Number) (at : ℕ) (d : Digits) (e : d ≡ digits_in n) where
 
 -- The number `o`, if there is one, begins at `p`; there is none where `p` is 0.
 pub record PlaceIs (text : List ℕ) (p : ℕ) (o : Option (List ℕ)) : Type 0 where
-  pub none-there : p ≡ 0 → o ≡ none
-  pub begins-there : 0 < p → o ≡ some (drop p text)
+  pub none-there : p ≡ 0 → o ≡ None
+  pub begins-there : 0 < p → o ≡ Some (drop p text)
   pub within : p ≤ length text
 
 module _ (text : List ℕ) (at : ℕ) (h : at < length text) (u : List ℕ) (p : ℕ) (e : u ≡ drop p text) (o : 0 < p) (l : p ≤ length text) where
-  first_of : (y z : Bool) → PlaceIs text (cond y (at + 1) (cond z p 0)) (cond y (some (drop (at + 1) text)) (cond z (some u) none))
+  first_of : (y z : Bool) → PlaceIs text (cond y (at + 1) (cond z p 0)) (cond y (Some (drop (at + 1) text)) (cond z (Some u) None))
   first_of true z = record { none-there = λ x. absurd (omega arith); begins-there = λ _. refl; within = omega arith }
-  first_of false true = record { none-there = λ x. absurd (omega arith); begins-there = λ _. ap some e; within = l }
+  first_of false true = record { none-there = λ x. absurd (omega arith); begins-there = λ _. ap Some e; within = l }
   first_of false false = record { none-there = λ _. refl; begins-there = λ x. absurd (omega arith); within = omega arith }
 
 module _ (text : List ℕ) (at : ℕ) (h : at < length text) where
@@ -253,11 +253,11 @@ module _ (text : List ℕ) (at : ℕ) (h : at < length text) where
   abbrev TokenPlace : Token → R.Start → Type 0
   TokenPlace t S = PlaceIs text (token_surplus at t) (first_surplus (numbers_of S (drop (at + 1) text))) × TokenFits at t (length text)
 
-  none-place : (q : R.Parsed) → PlaceIs text (token_surplus at (token_of text (C.digits_in []) q)) none × TokenFits at (token_of text (C.digits_in []) q)
+  none-place : (q : R.Parsed) → PlaceIs text (token_surplus at (token_of text (C.digits_in []) q)) None × TokenFits at (token_of text (C.digits_in []) q)
       (length text)
   none-place q =
       let x = token-none text at (length text) q in (
-        subst (λ (p : ℕ). PlaceIs text p none) (sym x.0) (record { none-there = λ _. refl; begins-there = λ l. absurd (omega arith); within = omega arith }),
+        subst (λ (p : ℕ). PlaceIs text p None) (sym x.0) (record { none-there = λ _. refl; begins-there = λ l. absurd (omega arith); within = omega arith }),
         x.1,
       )
 

@@ -3,7 +3,7 @@ use Prim.Native.Nat.{ℕ, zero, suc, ◌+◌}
 use mathlib.Core.Path.{◌≡◌, refl, sym, ap, ◌∙◌}
 use mathlib.Core.Bool.{Bool, true, false, cond}
 use mathlib.Core.List.{List, [], ◌∷◌, ◌++◌}
-use mathlib.Core.Option.{Option, some, none}
+use Rattle.std.specs.Prelude.{Option, Some, None}
 use lib.ListN.{length}
 use Rattle.kinds.specs.Parse.{max_u64, Number, value, no_number, parse_number, Parsed, empty, encoding, container_end, array_end, refused, Items, items_refused, Start, single, complex, object, bits}
 use Rattle.kinds.specs.Parse.{indirection, open_array, close_array, open_container, close_container, nothing, start, Named, named, unnamed, parse_name, held, item, contained, add_item, begin, next_item}
@@ -37,47 +37,47 @@ mutual
 
 -- Of the items of a container.
 unfoldable pub or_surplus_items : Option (List ℕ) → Items → Items
-or_surplus_items (some t) q = items_refused SurplusZero t
-or_surplus_items none q = q
+or_surplus_items (Some t) q = items_refused SurplusZero t
+or_surplus_items None q = q
 
 -- The numbers `xs` are met before `ys`: where `or` lets a surplus zero decide alone, the first of all is the first of `xs` or else of `ys`.
-surplus-append : {A : Type 0} (or : Option (List ℕ) → A → A) → ((q : A) → or none q ≡ q) → ((t : List ℕ) (q r : A) → or (some t) q ≡ or (some t) r)
+surplus-append : {A : Type 0} (or : Option (List ℕ) → A → A) → ((q : A) → or None q ≡ q) → ((t : List ℕ) (q r : A) → or (Some t) q ≡ or (Some t) r)
     → (xs ys : List (List ℕ)) (q : A) → or (first_surplus (xs ++ ys)) q ≡ or (first_surplus xs) (or (first_surplus ys) q)
 unfolding first_surplus
 surplus-append or n s [] ys q = sym (n (or (first_surplus ys) q))
 surplus-append {A} or n s (x ∷ xs) ys q = go (surplus_zero x) (surplus-append or n s xs ys q)
   where
     go : (y : Bool) → or (first_surplus (xs ++ ys)) q ≡ or (first_surplus xs) (or (first_surplus ys) q)
-        → or (cond y (some x) (first_surplus (xs ++ ys))) q ≡ or (cond y (some x) (first_surplus xs)) (or (first_surplus ys) q)
+        → or (cond y (Some x) (first_surplus (xs ++ ys))) q ≡ or (cond y (Some x) (first_surplus xs)) (or (first_surplus ys) q)
     go true e = s x q (or (first_surplus ys) q)
     go false e = e
 
 -- A surplus zero inside is refused by what holds it too.
 held-surplus : (l : Label) (s : List ℕ) (o : Option (List ℕ)) (q : Parsed) → held l s (or_surplus o q) ≡ or_surplus o (held l s q)
 unfolding held or_surplus
-held-surplus l s (some t) q = refl
-held-surplus l s none q = refl
+held-surplus l s (Some t) q = refl
+held-surplus l s None q = refl
 
 item-surplus : (n : ℕ) (o : Option (List ℕ)) (q : Parsed) → item n (or_surplus o q) ≡ or_surplus o (item n q)
 unfolding item or_surplus
-item-surplus n (some t) q = refl
-item-surplus n none q = refl
+item-surplus n (Some t) q = refl
+item-surplus n None q = refl
 
 contained-surplus : (k : ContainerKind) (m : List ℕ) (o : Option (List ℕ)) (q : Items) → contained k m (or_surplus_items o q) ≡ or_surplus o (contained k m q)
 unfolding contained or_surplus or_surplus_items
-contained-surplus k m (some t) q = refl
-contained-surplus k m none q = refl
+contained-surplus k m (Some t) q = refl
+contained-surplus k m None q = refl
 
 next-surplus : (k : ContainerKind) (more : List ℕ → Items) (o : Option (List ℕ)) (q : Parsed) → next_item k (or_surplus o q) more
     ≡ or_surplus_items o (next_item k q more)
 unfolding next_item or_surplus or_surplus_items
-next-surplus k more (some t) q = refl
-next-surplus k more none q = refl
+next-surplus k more (Some t) q = refl
+next-surplus k more None q = refl
 
 add-surplus : (m : Label) (ds : Trees) (o : Option (List ℕ)) (q : Items) → add_item m ds (or_surplus_items o q) ≡ or_surplus_items o (add_item m ds q)
 unfolding add_item or_surplus_items
-add-surplus m ds (some t) q = refl
-add-surplus m ds none q = refl
+add-surplus m ds (Some t) q = refl
+add-surplus m ds None q = refl
 
 -- `strict` and `parts` read as `inner` and `fields` do, but for a surplus zero among the numbers that `inside` and `among` name.
 module _ (s : List ℕ) (strict inner : List ℕ → Parsed) (parts fields : ContainerKind → List ℕ → Items) (inside : List ℕ → List (List ℕ))
@@ -160,8 +160,8 @@ ordinary-whole s = ap (whole (length s)) (ordinary-encoded s)
 
 whole-surplus : (n : ℕ) (o : Option (List ℕ)) (q : Parsed) → whole n (encoding_or_none (or_surplus o q)) ≡ unless_surplus n o (whole n (encoding_or_none q))
 unfolding whole encoding_or_none or_surplus unless_surplus
-whole-surplus n (some t) q = refl
-whole-surplus n none q = refl
+whole-surplus n (Some t) q = refl
+whole-surplus n None q = refl
 
 pub strict-whole : (s : List ℕ)
     → whole (length s) (encoding_or_none (parse_inner_by true (length (strip_leading_qualifiers s) + length (strip_leading_qualifiers s)) (strip_leading_qualifiers s)))

@@ -1,7 +1,7 @@
 -- What the private functions of reading ask and promise, against the definitions.
 use Rattle.std.specs.Prelude.{ℕ, suc, ◌+◌, ◌*◌, ◌-◌, ◌≤◌, ◌<◌, ◌≡◌, List, [], length, drop, get_or, Bool, false}
 use Rattle.std.proofs.lemmas.List.Edits.{sets}
-use Rattle.std.proofs.Math.Option.{some, none}
+use Rattle.std.specs.Prelude.{Some, None}
 use Rattle.kinds.specs.Parse as R
 use Rattle.kinds.specs.Parse.{empty, encoding, container_end, array_end, refused, items, items_refused, start}
 use Rattle.kinds.specs.Sheet.{nodes, names_of, sheet_of}
@@ -182,7 +182,7 @@ pub record ContainerReady (text : List ℕ) (at : ℕ) (kind : ContainerKind) (n
 
 -- A tree at the start of the text, its sheet written and zeros up to what reading uses.
 pub record TreeAt (strict : Bool) (text : List ℕ) (before after : Lists) (to : ℕ) : Type 0 where
-  pub away : turned_away text before.words before.names ≡ none
+  pub away : turned_away text before.words before.names ≡ None
   pub label : Label
   pub children : Trees
   pub is : encoded_by strict text ≡ R.encoded label children (drop to text)
@@ -196,7 +196,7 @@ pub record TreeAt (strict : Bool) (text : List ℕ) (before after : Lists) (to :
 
 -- No tree, and zeros in what reading uses.
 pub record NoTree (strict : Bool) (text : List ℕ) (before after : Lists) (why : ErrorKind) (to : ℕ) : Type 0 where
-  pub away : turned_away text before.words before.names ≡ none
+  pub away : turned_away text before.words before.names ≡ None
   pub is : encoded_by strict text ≡ R.not_encoded why (drop to text)
   pub words-room : used (length text) ≤ length before.words
   pub names-room : length text ≤ length before.names
@@ -206,5 +206,5 @@ pub record NoTree (strict : Bool) (text : List ℕ) (before after : Lists) (why 
 
 abbrev pub EncodedIs : Bool → List ℕ → Lists → Lists → Encoded → Type 0
 EncodedIs strict text b a (E.Tree to) = TreeAt strict text b a to
-EncodedIs strict text b a (E.Away why) = (turned_away text b.words b.names ≡ some why) × Kept b a
+EncodedIs strict text b a (E.Away why) = (turned_away text b.words b.names ≡ Some why) × Kept b a
 EncodedIs strict text b a (E.Refused why to) = NoTree strict text b a why to

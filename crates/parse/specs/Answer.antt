@@ -1,6 +1,6 @@
 -- The readings (encoding_box.rs; strict reading, 02, N3): what they answer, and what the lent lists hold after (01, "The sheet" and "Why an input is turned away").
 use Rattle.std.specs.Prelude.{ℕ, ◌+◌, ◌-◌, ◌≡◌, Bool, cond, ◌&&◌, List, [], ◌∷◌, ◌++◌, leb, ltb, length, drop, replicate}
-use Rattle.std.proofs.Math.Option.{Option, some, none}
+use Rattle.std.specs.Prelude.{Option, Some, None}
 use Rattle.std.specs.Borrow.{Bor}
 use Rattle.kinds.specs.Parse.{Whole, tree, refusal, FromStart, tree_then, from_str, from_start_of_str}
 use Rattle.kinds.specs.Strict.{from_str_strict}
@@ -24,7 +24,7 @@ unfoldable pub has_room : List ℕ → List ℕ → List ℕ → Bool
 has_room text words names = leb (used (length text)) (length words) && leb (length text) (length names)
 
 unfoldable pub turned_away : List ℕ → List ℕ → List ℕ → Option Refusal
-turned_away text words names = cond (ltb max_text (length text)) (some TextTooLong) (cond (has_room text words names) none (some ListTooShort))
+turned_away text words names = cond (ltb max_text (length text)) (Some TextTooLong) (cond (has_room text words names) None (Some ListTooShort))
 
 -- ---- The lists after reading.
 
@@ -37,17 +37,17 @@ unfoldable pub filled : ℕ → List ℕ → List ℕ → List ℕ
 filled n xs list = padded n xs ++ drop n list
 
 unfoldable pub sheet_words : Option Trees → List ℕ
-sheet_words (some t) = sheet_of t
-sheet_words none = []
+sheet_words (Some t) = sheet_of t
+sheet_words None = []
 
 unfoldable pub sheet_names : Option Trees → List ℕ
-sheet_names (some t) = names_of t
-sheet_names none = []
+sheet_names (Some t) = names_of t
+sheet_names None = []
 
 -- A list after an input that refusals 1 and 2 turn away, and else.
 unfoldable pub unless_away : Option Refusal → List ℕ → List ℕ → List ℕ
-unless_away (some r) before after = before
-unless_away none before after = after
+unless_away (Some r) before after = before
+unless_away None before after = after
 
 -- The words after reading a tree or none from the text.
 unfoldable pub words_after : List ℕ → List ℕ → List ℕ → Option Trees → List ℕ
@@ -60,16 +60,16 @@ names_after text words names t = unless_away (turned_away text words names) name
 -- ---- Whole-text reading.
 
 unfoldable pub whole_tree : Whole → Option Trees
-whole_tree (tree l cs) = some (node l cs end)
-whole_tree (refusal e place) = none
+whole_tree (tree l cs) = Some (node l cs end)
+whole_tree (refusal e place) = None
 
 unfoldable pub whole_reading : Whole → Reading
 whole_reading (tree l cs) = Tree
 whole_reading (refusal e place) = Refused (Parse e place)
 
 unfoldable pub answer_or : Option Refusal → Reading → Reading
-answer_or (some r) a = Refused r
-answer_or none a = a
+answer_or (Some r) a = Refused r
+answer_or None a = a
 
 -- The answer of `from_str`.
 unfoldable pub from_str_answer : List ℕ → List ℕ → List ℕ → Reading
@@ -100,8 +100,8 @@ from_str_strict_names text words names = names_after text words names (whole_tre
 -- ---- Reading from the start.
 
 unfoldable pub start_tree : FromStart → Option Trees
-start_tree (tree_then l cs t) = some (node l cs end)
-start_tree (refusal e place) = none
+start_tree (tree_then l cs t) = Some (node l cs end)
+start_tree (refusal e place) = None
 
 unfoldable pub start_reading : FromStart → Reading
 start_reading (tree_then l cs t) = Tree
@@ -138,7 +138,7 @@ pub record EndOf (text part : Bor (List ℕ)) : Type 0 where
 
 -- The kind word of a container.
 abbrev pub kind_word : ContainerKind → ℕ
-kind_word k = R.container_word (some k)
+kind_word k = R.container_word (Some k)
 
 -- 0 for a tree, else the refusal's number; its place; its byte; the kind word of its container; 0 for what it does not carry.
 abbrev pub answer_words : Reading → List ℕ

@@ -1,6 +1,6 @@
 -- What the cycle that reads text gives, strict or not: a strict reading refuses a number with a surplus zero where it meets it.
 use Rattle.std.specs.Prelude.{ℕ, zero, suc, ◌+◌, ◌≤◌, ◌≡◌, Bool, true, false, cond, List, [], ◌∷◌, length}
-use Rattle.std.proofs.Math.Option.{Option, some, none}
+use Rattle.std.specs.Prelude.{Option, Some, None}
 use Rattle.kinds.specs.Parse.{Start, start, begin, next_item, Parsed, empty, refused, Items, items_refused, Encoded, encoding_or_none, strip_leading_qualifiers, Whole, from_str}
 use Rattle.kinds.specs.Strict.{numbers_of, first_surplus, from_str_strict}
 use Rattle.kinds.specs.declared.ContainerKind.{ContainerKind}
@@ -15,8 +15,8 @@ use Rattle.parse.specs.Answer.{turned_away, answer_or, words_after, names_after,
 use Rattle.parse.specs.declared.Reading.{Reading}
 
 unfoldable pub or_surplus : Option (List ℕ) → Parsed → Parsed
-or_surplus (some t) q = refused SurplusZero t
-or_surplus none q = q
+or_surplus (Some t) q = refused SurplusZero t
+or_surplus None q = q
 
 -- The numbers of a bitfield or an array itself are judged before what it gives.
 unfoldable pub judged : Bool → Start → List ℕ → Parsed → Parsed

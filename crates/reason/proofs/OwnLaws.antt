@@ -3,7 +3,7 @@ use Prim.Native.Nat.{ℕ, ◌-◌, ◌≤◌, ◌<◌}
 use native.Mathlib.Omega.{arith}
 use mathlib.Core.Path.{◌≡◌, refl, ap, sym, ◌∙◌}
 use mathlib.Core.List.{List}
-use mathlib.Core.Option.{some, none}
+use Rattle.std.specs.Prelude.{Some, None}
 use mathlib.Core.Bool.{Bool, true, false, ◌||◌, false≢true}
 use borrow.Author.Tests.{ne_eqb, eq-eqb, eqb-true, eqb-false}
 use lib.Dec.{eqb}
@@ -29,7 +29,7 @@ module _ (s t : List ℕ) (k a b c d : ℕ) where
   unfolding own_difference equivalent T.kind bits offset_of length_of T.name label same_bytes or_else unless
   own_bits p = rw p (go (eqb b d))
     where
-      go : (x : Bool) → or_else (unless x (size b d)) none ≡ unless x (size b d)
+      go : (x : Bool) → or_else (unless x (size b d)) None ≡ unless x (size b d)
       go true = refl
       go false = refl
 
@@ -37,7 +37,7 @@ module _ (s t : List ℕ) (k a b c d : ℕ) where
   unfolding own_difference equivalent T.kind bits offset_of length_of T.name label same_bytes or_else unless
   own-typed p = rw p (go (eqb b d) (eqb a c))
     where
-      go : (x y : Bool) → or_else (unless x (size b d)) (or_else (unless y (offset a c)) none) ≡ or_else (unless x (size b d)) (unless y (offset a c))
+      go : (x y : Bool) → or_else (unless x (size b d)) (or_else (unless y (offset a c)) None) ≡ or_else (unless x (size b d)) (unless y (offset a c))
       go true true = refl
       go true false = refl
       go false y = refl
@@ -46,14 +46,14 @@ module _ (s t : List ℕ) (k a b c d : ℕ) where
   unfolding own_difference equivalent T.kind bits offset_of length_of T.name label same_bytes or_else unless
   own-array p = rw p (go (eqb a c))
     where
-      go : (x : Bool) → or_else (unless x (len a c)) none ≡ unless x (len a c)
+      go : (x : Bool) → or_else (unless x (len a c)) None ≡ unless x (len a c)
       go true = refl
       go false = refl
 
-  own-plain : 24 ≤ k → k ≤ 31 → is_container_kind k ≡ false → (k ≡ 24 → ⊥) → (k ≡ 25 → ⊥) → (k ≡ 28 → ⊥) → own_difference (label s k a b) (label t k c d) ≡ none
+  own-plain : 24 ≤ k → k ≤ 31 → is_container_kind k ≡ false → (k ≡ 24 → ⊥) → (k ≡ 25 → ⊥) → (k ≡ 28 → ⊥) → own_difference (label s k a b) (label t k c d) ≡ None
   unfolding own_difference equivalent T.kind bits offset_of length_of T.name label same_bytes or_else unless
   own-plain lo hi p q r u =
-      by_kind (λ (j : ℕ). is_container_kind j ≡ false → (j ≡ 24 → ⊥) → (j ≡ 25 → ⊥) → (j ≡ 28 → ⊥) → own_difference (label s j a b) (label t j c d) ≡ none)
+      by_kind (λ (j : ℕ). is_container_kind j ≡ false → (j ≡ 24 → ⊥) → (j ≡ 25 → ⊥) → (j ≡ 28 → ⊥) → own_difference (label s j a b) (label t j c d) ≡ None)
       (λ x y z n. absurd (y refl)) (λ x y z n. absurd (z refl)) (λ x y z n. refl) (λ x y z n. refl) (λ x y z n. absurd (n refl)) (λ x y z n. absurd (false≢true (sym x)))
       (λ x y z n. absurd (false≢true (sym x))) (λ x y z n. refl) k lo hi p q r u
 
@@ -66,12 +66,12 @@ module _ (an a bn b : List ℕ) (at bt : ℕ) (ha : NodeAt a at) (hb : NodeAt b 
   abbrev pub OwnIs : Found → Type 0
   OwnIs r = Finds an a at 1 bn b bt 1 (spotted at (own_difference (label_at an a at) (label_at bn b bt))) r
 
-  found : (aspect : Aspect) → Named aspect a at → Named aspect b bt → own_difference (label_at an a at) (label_at bn b bt) ≡ some (difference_at aspect an a at bn b bt)
+  found : (aspect : Aspect) → Named aspect a at → Named aspect b bt → own_difference (label_at an a at) (label_at bn b bt) ≡ Some (difference_at aspect an a at bn b bt)
       → OwnIs (F.At at bt aspect (number_at aspect a at) (number_at aspect b bt))
   unfolding spotted
   found aspect x y e = (ap (spotted at) e, (this-value aspect a at ha x, this-value aspect b bt hb y), (refl, refl))
 
-  same : own_difference (label_at an a at) (label_at bn b bt) ≡ none → OwnIs F.Same
+  same : own_difference (label_at an a at) (label_at bn b bt) ≡ None → OwnIs F.Same
   unfolding spotted
   same e = ap (spotted at) e
 
@@ -139,7 +139,7 @@ module _ (an a bn b : List ℕ) (at bt : ℕ) (ha : NodeAt a at) (hb : NodeAt b 
     unfolding or_else unless difference_at number_at
     own-size lo hi h = found A.Size tt tt (go (eqb (kind_at a at) 24) refl)
       where
-        go : (t : Bool) → eqb (kind_at a at) 24 ≡ t → own_difference (label_at an a at) (label_at bn b bt) ≡ some (difference_at A.Size an a at bn b bt)
+        go : (t : Bool) → eqb (kind_at a at) 24 ≡ t → own_difference (label_at an a at) (label_at bn b bt) ≡ Some (difference_at A.Size an a at bn b bt)
         go true e = bits_are (eqb-true (kind_at a at) 24 e) ∙ rw (ne_eqb (second_at a at) (second_at b bt) h)
         go false e = typed-is (either lo hi (eqb-false (kind_at a at) 24 e)) ∙ rw (ne_eqb (second_at a at) (second_at b bt) h)
 

@@ -3,7 +3,7 @@ use Prim.Native.Nat.{ℕ, zero, suc, ◌+◌, ◌-◌, ◌*◌, ◌≤◌, ◌<�
 use native.Mathlib.Omega.{arith}
 use mathlib.Core.Path.{◌≡◌, refl, ap, ap₂, sym, ◌∙◌, subst}
 use mathlib.Core.List.{List, [], ◌∷◌, ◌++◌}
-use mathlib.Core.Option.{Option, some, none}
+use Rattle.std.specs.Prelude.{Option, Some, None}
 use mathlib.Core.Bool.{Bool, true, false, cond}
 use borrow.Author.Tests.{le-leb, lt-leb, lt-ltb, le-ltb, ne_eqb, eq-eqb}
 use lib.ListN.{length, take, drop, length-append}
@@ -46,7 +46,7 @@ use Rattle.reason.proofs.ValueLaws.{short-name, reason-length}
 
 -- ---- The answers, by the first difference; `n` is the length that the code has counted.
 
-module _ {d : Option Reason} (e : d ≡ none) where
+module _ {d : Option Reason} (e : d ≡ None) where
   pub yes-measured : Yes ≡ measured d
   unfolding measured
   yes-measured = sym (ap measured e)
@@ -59,7 +59,7 @@ module _ {d : Option Reason} (e : d ≡ none) where
   unfolding placed_reason
   yes-placed out = sym (ap (placed_reason out) e)
 
-module _ {d : Option Reason} (r : Reason) (e : d ≡ some r) {n : ℕ} (l : n ≡ length (reason_text r)) where
+module _ {d : Option Reason} (r : Reason) (e : d ≡ Some r) {n : ℕ} (l : n ≡ length (reason_text r)) where
   pub bytes-measured : Bytes n ≡ measured d
   unfolding measured
   bytes-measured = ap Bytes l ∙ sym (ap measured e)
@@ -95,15 +95,15 @@ module _ (all : Bool) (k j : ℕ) where
   unfolding codes_difference first_difference node_difference own_difference or_else unless here bits offset_of length_of same_bytes items_compared count_difference items items_difference T.kind T.name is_container
   codes-are = go (equivalent k j)
     where
-      go : (t : Bool) → or_else (here (or_else (unless t (kind k j)) none)) none ≡ here (unless t (kind k j))
+      go : (t : Bool) → or_else (here (or_else (unless t (kind k j)) None)) None ≡ here (unless t (kind k j))
       go true = refl
       go false = refl
 
-  pub codes_same : {t : Bool} → t ≡ equivalent k j → t ≡ true → codes_difference all k j ≡ none
+  pub codes_same : {t : Bool} → t ≡ equivalent k j → t ≡ true → codes_difference all k j ≡ None
   unfolding unless here
   codes_same e q = codes-are ∙ ap (λ t. here (unless t (kind k j))) (sym e ∙ q)
 
-  pub codes-differ : {t : Bool} → t ≡ equivalent k j → t ≡ false → codes_difference all k j ≡ some (record { path = []; differs = kind k j })
+  pub codes-differ : {t : Bool} → t ≡ equivalent k j → t ≡ false → codes_difference all k j ≡ Some (record { path = []; differs = kind k j })
   unfolding unless here
   codes-differ e q = codes-are ∙ ap (λ t. here (unless t (kind k j))) (sym e ∙ q)
 
@@ -126,42 +126,42 @@ module _ (k j : ℕ) where
 
 -- A spot as a reason, with the path to its place.
 unfoldable with_path : (ℕ → List ℕ) → Option Spot → Option Reason
-with_path f none = none
-with_path f (some s) = some (record { path = f s.place; differs = s.differs })
+with_path f None = None
+with_path f (Some s) = Some (record { path = f s.place; differs = s.differs })
 
 -- A spot, if there is one, stands among the `n` nodes from `at` on.
 abbrev Within : ℕ → ℕ → Option Spot → Type 0
-Within at n none = Unit {0}
-Within at n (some s) = NodeOf at n s.place
+Within at n None = Unit {0}
+Within at n (Some s) = NodeOf at n s.place
 
 with-else : (f : ℕ → List ℕ) (s t : Option Spot) → with_path f (or_else s t) ≡ or_else (with_path f s) (with_path f t)
 unfolding with_path or_else
-with-else f none t = refl
-with-else f (some s) t = refl
+with-else f None t = refl
+with-else f (Some s) t = refl
 
 with-same : (f g : ℕ → List ℕ) (at n : ℕ) (s : Option Spot) → Within at n s → ((x : ℕ) → NodeOf at n x → f x ≡ g x) → with_path f s ≡ with_path g s
 unfolding with_path
-with-same f g at n none h e = refl
-with-same f g at n (some s) h e = ap (λ p. some (record { path = p; differs = s.differs })) (e s.place h)
+with-same f g at n None h e = refl
+with-same f g at n (Some s) h e = ap (λ p. Some (record { path = p; differs = s.differs })) (e s.place h)
 
 within-else : (at n : ℕ) (s t : Option Spot) → Within at n s → Within at n t → Within at n (or_else s t)
 unfolding or_else
-within-else at n none t h k = k
-within-else at n (some s) t h k = h
+within-else at n None t h k = k
+within-else at n (Some s) t h k = h
 
 within_wider : (at n bt m : ℕ) (s : Option Spot) → ((x : ℕ) → NodeOf bt m x → NodeOf at n x) → Within bt m s → Within at n s
-within_wider at n bt m none f h = h
-within_wider at n bt m (some s) f h = f s.place h
+within_wider at n bt m None f h = h
+within_wider at n bt m (Some s) f h = f s.place h
 
 within-here : (at n : ℕ) (d : Option Difference) → 0 < n → Within at n (spotted at d)
 unfolding spotted
-within-here at n none p = tt
-within-here at n (some d) p = record { number = 0; is = omega arith; few = p }
+within-here at n None p = tt
+within-here at n (Some d) p = record { number = 0; is = omega arith; few = p }
 
-pub else-none : (s : Option Spot) → or_else s none ≡ s
+pub else-none : (s : Option Spot) → or_else s None ≡ s
 unfolding or_else
-else-none none = refl
-else-none (some s) = refl
+else-none None = refl
+else-none (Some s) = refl
 
 -- The path from a node at `at` that holds `cs`.
 unfoldable down : Trees → ℕ → ℕ → List ℕ
@@ -169,8 +169,8 @@ down cs at x = cond (eqb x at) [] (path_to cs (at + 4) 0 x)
 
 down-here : (cs : Trees) (at : ℕ) (d : Option Difference) → here d ≡ with_path (down cs at) (spotted at d)
 unfolding here spotted with_path down
-down-here cs at none = refl
-down-here cs at (some d) = rw (eq-eqb at at refl)
+down-here cs at None = refl
+down-here cs at (Some d) = rw (eq-eqb at at refl)
 
 module _ (l m : Label) (v : NestingLevel) (cs ds : Trees) (at : ℕ) (s : Option Spot) (h : Within (at + 4) (T.count cs) s) where
   down-items : with_path (path_to cs (at + 4) 0) s ≡ with_path (down cs at) s
@@ -181,9 +181,9 @@ module _ (l m : Label) (v : NestingLevel) (cs ds : Trees) (at : ℕ) (s : Option
   unfolding node_difference node_spot with_path
   node-spot =
       ap₂ or_else (down-here cs at (own_difference l m)) (go (items_compared l v cs ds))
-      ∙ sym (with-else (down cs at) (spotted at (own_difference l m)) (cond (items_compared l v cs ds) (or_else (spotted at (count_difference cs ds)) s) none))
+      ∙ sym (with-else (down cs at) (spotted at (own_difference l m)) (cond (items_compared l v cs ds) (or_else (spotted at (count_difference cs ds)) s) None))
     where
-      go : (t : Bool) → cond t (or_else (here (count_difference cs ds)) (with_path (path_to cs (at + 4) 0) s)) none ≡ with_path (down cs at) (cond t (or_else (spotted at (count_difference cs ds)) s) none)
+      go : (t : Bool) → cond t (or_else (here (count_difference cs ds)) (with_path (path_to cs (at + 4) 0) s)) None ≡ with_path (down cs at) (cond t (or_else (spotted at (count_difference cs ds)) s) None)
       go true = ap₂ or_else (down-here cs at (count_difference cs ds)) down-items ∙ sym (with-else (down cs at) (spotted at (count_difference cs ds)) s)
       go false = refl
 
@@ -191,7 +191,7 @@ module _ (l m : Label) (v : NestingLevel) (cs ds : Trees) (at : ℕ) (s : Option
   unfolding node_spot
   node-within = within-else at (suc (T.count cs)) (spotted at (own_difference l m)) _ (within-here at (suc (T.count cs)) (own_difference l m) (omega arith)) (go (items_compared l v cs ds))
     where
-      go : (t : Bool) → Within at (suc (T.count cs)) (cond t (or_else (spotted at (count_difference cs ds)) s) none)
+      go : (t : Bool) → Within at (suc (T.count cs)) (cond t (or_else (spotted at (count_difference cs ds)) s) None)
       go true = within-else at (suc (T.count cs)) (spotted at (count_difference cs ds)) s (within-here at (suc (T.count cs)) (count_difference cs ds) (omega arith))
           (within_wider at (suc (T.count cs)) (at + 4) (T.count cs) s (λ x k. let e = k.is in let f = k.few in record { number = suc k.number; is = omega arith; few = omega arith }) h)
       go false = tt
@@ -213,8 +213,8 @@ items-within all v at (node l cs ts) (node m ds us) =
 module _ (l : Label) (cs ts : Trees) (at i : ℕ) where
   under-node : (s : Option Spot) → Within at (suc (T.count cs)) s → under i (with_path (down cs at) s) ≡ with_path (path_to (node l cs ts) at i) s
   unfolding under with_path down path_to
-  under-node none h = refl
-  under-node (some s) h = ap (λ p. some (record { path = p; differs = s.differs })) (go (eqb s.place at) refl)
+  under-node None h = refl
+  under-node (Some s) h = ap (λ p. Some (record { path = p; differs = s.differs })) (go (eqb s.place at) refl)
     where
       go : (t : Bool) → eqb s.place at ≡ t → i ∷ down cs at s.place ≡ path_to (node l cs ts) at i s.place
       go true e = rw e
@@ -332,7 +332,7 @@ module _ {names w : List ℕ} {n : ℕ} (g : Rooted names w n) {aspect : Aspect}
 
 -- The trees differ first in an aspect of the nodes at `x` and `y`, with the numbers `k` and `j`, which can be counted and written.
 pub record Differs (all : Bool) (an a : List ℕ) (n : ℕ) (bn b : List ℕ) (m x y : ℕ) (aspect : Aspect) (k j : ℕ) : Type 0 where
-  pub reason : first_difference all Top (trees an a n 0) (trees bn b m 0) ≡ some (reason_at aspect an a x bn b y)
+  pub reason : first_difference all Top (trees an a n 0) (trees bn b m 0) ≡ Some (reason_at aspect an a x bn b y)
   pub places : Inside a x × NodeAt a x × NodeAt b y
   pub short : NameWithin aspect max_names a x × NameWithin aspect max_names b y
   pub lent : NameWithin aspect (length an) a x × NameWithin aspect (length bn) b y
@@ -340,7 +340,7 @@ pub record Differs (all : Bool) (an a : List ℕ) (n : ℕ) (bn b : List ℕ) (m
 
 module _ (all : Bool) (v : NestingLevel) (top : v ≡ Top) (an a : List ℕ) (n : ℕ) (bn b : List ℕ) (m : ℕ) (g : Rooted an a n) (h : Rooted bn b m) {r : Found}
     (f : Finds an a 0 n bn b 0 m (items_spot all v 0 (trees an a n 0) (trees bn b m 0)) r) where
-  pub found-same : r ≡ F.Same → first_difference all Top (trees an a n 0) (trees bn b m 0) ≡ none
+  pub found-same : r ≡ F.Same → first_difference all Top (trees an a n 0) (trees bn b m 0) ≡ None
   unfolding with_path
   found-same e = top-spot all v an a n bn b m g h top ∙ ap (with_path (path_from a 0)) (subst (Finds an a 0 n bn b 0 m (items_spot all v 0 (trees an a n 0) (trees bn b m 0))) e f)
 
@@ -375,7 +375,7 @@ pub checks-give : (aw an bw bn : List ℕ) {x y : Checked} {r : CheckedBoth} →
 checks-give aw an bw bn e p q = (both-gives aw an bw bn e (p ∙ ap₂ checked (whole aw) (whole an)) (q ∙ ap₂ checked (whole bw) (whole bn))).1.0
 
 pub rooted : {words names w : List ℕ} {n : ℕ} → NodesAre words names w n → Rooted names w n
-rooted h = record { some = h.some; few = h.few; count = h.count; root = h.root; whole = h.whole; lent-names = h.lent-names; short-names = h.short-names }
+rooted h = record { Some = h.some; few = h.few; count = h.count; root = h.root; whole = h.whole; lent-names = h.lent-names; short-names = h.short-names }
 
 module _ (all : Bool) (aw an bw bn : List ℕ) where
   pub len-refused : {r : Refusal} → held_both aw an bw bn ≡ refused_both r → Refused r ≡ reason_len all aw an bw bn

@@ -3,7 +3,7 @@ use Prim.Native.Nat.{ℕ, zero, suc, ◌+◌, ◌-◌, ◌*◌, ◌≤◌, ◌<�
 use native.Mathlib.Omega.{arith}
 use mathlib.Core.Path.{◌≡◌, refl, ap, ap₂, sym, ◌∙◌}
 use mathlib.Core.List.{List, []}
-use mathlib.Core.Option.{Option, some, none}
+use Rattle.std.specs.Prelude.{Option, Some, None}
 use mathlib.Core.Bool.{Bool, true, false, cond, false≢true}
 use borrow.Author.Tests.{leb-true, leb-false}
 use lib.Dec.{leb, eqb}
@@ -39,28 +39,28 @@ module _ (s w : List ℕ) where
 
 -- ---- The walk over items.
 
-some≢none : {A : Type 0} {x : A} → ◌≡◌ {A = Option A} (some x) none → ⊥
-some≢none {A} {x} e = false≢true (ap is_none e)
+Some≢None : {A : Type 0} {x : A} → ◌≡◌ {A = Option A} (Some x) None → ⊥
+Some≢None {A} {x} e = false≢true (ap is_none e)
   where
     is_none : Option A → Bool
-    is_none none = true
-    is_none (some y) = false
+    is_none None = true
+    is_none (Some y) = false
 
-spotted-none : (at : ℕ) (d : Option Difference) → spotted at d ≡ none → d ≡ none
+spotted-none : (at : ℕ) (d : Option Difference) → spotted at d ≡ None → d ≡ None
 unfolding spotted
-spotted-none at none e = refl
-spotted-none at (some d) e = absurd (some≢none e)
+spotted-none at None e = refl
+spotted-none at (Some d) e = absurd (Some≢None e)
 
 -- nodes that do not differ by themselves have kinds that match
-own-kinds : (l m : Label) → own_difference l m ≡ none → equivalent (kind l) (kind m) ≡ true
+own-kinds : (l m : Label) → own_difference l m ≡ None → equivalent (kind l) (kind m) ≡ true
 unfolding own_difference or_else unless
 own-kinds l m e = go (equivalent (kind l) (kind m)) refl
   where
     go : (t : Bool) → equivalent (kind l) (kind m) ≡ t → equivalent (kind l) (kind m) ≡ true
     go true q = q
-    go false q = absurd (some≢none (rw q at e))
+    go false q = absurd (Some≢None (rw q at e))
 
-pub spotted-kinds : (an a bn b : List ℕ) (at bt : ℕ) → kind_at a at ≤ 31 → kind_at b bt ≤ 31 → spotted at (own_difference (label_at an a at) (label_at bn b bt)) ≡ none
+pub spotted-kinds : (an a bn b : List ℕ) (at bt : ℕ) → kind_at a at ≤ 31 → kind_at b bt ≤ 31 → spotted at (own_difference (label_at an a at) (label_at bn b bt)) ≡ None
     → equivalent (kind_at a at) (kind_at b bt) ≡ true
 spotted-kinds an a bn b at bt ka kb e =
     sym (ap₂ equivalent (kind-label an (first_at a at) (second_at a at) (kind_at a at) ka) (kind-label bn (first_at b bt) (second_at b bt) (kind_at b bt) kb))
@@ -68,8 +68,8 @@ spotted-kinds an a bn b at bt ka kb e =
 
 -- What is left to find at the level `v`, of whose first items the walk has come down to the level `here`.
 unfoldable pub resume : Bool → NestingLevel → NestingLevel → ℕ → Trees → Trees → Option Spot
-resume all here v at end us = none
-resume all here v at (node l cs ts) end = none
+resume all here v at end us = None
+resume all here v at (node l cs ts) end = None
 resume all here v at (node l cs ts) (node m ds us) =
     or_else (node_spot l m (level_for all here) cs ds at (items_spot all (inside l (level_for all here)) (at + 4) cs ds))
     (items_spot all v (at + 4 * suc (T.count cs)) ts us)
@@ -84,15 +84,15 @@ module _ (all : Bool) (here v : NestingLevel) (an a bn b : List ℕ) (n m at bt 
   abbrev pub now : Option Spot
   now = resume all here v at (trees an a n at) (trees bn b m bt)
 
-  pub resume-end : n ≤ 0 → resume all here v at (trees an a n at) (trees bn b m bt) ≡ none
+  pub resume-end : n ≤ 0 → resume all here v at (trees an a n at) (trees bn b m bt) ≡ None
   unfolding resume
   resume-end p = rw (no-trees an a n at p)
 
-  pub resume-short : m ≤ 0 → resume all here v at (trees an a n at) (trees bn b m bt) ≡ none
+  pub resume-short : m ≤ 0 → resume all here v at (trees an a n at) (trees bn b m bt) ≡ None
   unfolding resume
   resume-short p = rw (no-trees bn b m bt p) (go (trees an a n at))
     where
-      go : (t : Trees) → resume all here v at t end ≡ none
+      go : (t : Trees) → resume all here v at t end ≡ None
       go end = refl
       go (node l cs ts) = refl
 
@@ -104,7 +104,7 @@ module _ (all : Bool) (here v : NestingLevel) (an a bn b : List ℕ) (n m at bt 
     later = items_spot all v (at + 4 * count_at a at) (trees an a (n - count_at a at) (at + 4 * count_at a at)) (trees bn b (m - count_at b bt) (bt + 4 * count_at b bt))
 
     abbrev pub children : Option Spot
-    children = cond (items_compared (label_at an a at) (level_for all here) (below an a at) (below bn b bt)) (or_else (spotted at (count_difference (below an a at) (below bn b bt))) inner) none
+    children = cond (items_compared (label_at an a at) (level_for all here) (below an a at) (below bn b bt)) (or_else (spotted at (count_difference (below an a at) (below bn b bt))) inner) None
 
     resume-step : now ≡ or_else (or_else (spotted at (own_difference (label_at an a at) (label_at bn b bt))) children) later
     unfolding resume node_spot
@@ -116,11 +116,11 @@ module _ (all : Bool) (here v : NestingLevel) (an a bn b : List ℕ) (n m at bt 
         ∙ ap (λ (k : ℕ). or_else (or_else (spotted at (own_difference (label_at an a at) (label_at bn b bt))) children)
         (items_spot all v (at + 4 * k) (trees an a (n - count_at a at) (at + 4 * count_at a at)) (trees bn b (m - count_at b bt) (bt + 4 * count_at b bt)))) e
 
-    pub resume-own : {x : Spot} → spotted at (own_difference (label_at an a at) (label_at bn b bt)) ≡ some x → resume all here v at (trees an a n at) (trees bn b m bt) ≡ some x
+    pub resume-own : {x : Spot} → spotted at (own_difference (label_at an a at) (label_at bn b bt)) ≡ Some x → resume all here v at (trees an a n at) (trees bn b m bt) ≡ Some x
     unfolding or_else
     resume-own e = resume-step ∙ ap (λ z. or_else (or_else z children) later) e
 
-    module _ (e : spotted at (own_difference (label_at an a at) (label_at bn b bt)) ≡ none) where
+    module _ (e : spotted at (own_difference (label_at an a at) (label_at bn b bt)) ≡ None) where
       past : now ≡ or_else children later
       unfolding or_else
       past = resume-step ∙ ap (λ z. or_else (or_else z children) later) e
@@ -128,22 +128,22 @@ module _ (all : Bool) (here v : NestingLevel) (an a bn b : List ℕ) (n m at bt 
       -- fields that are not compared
       pub resume-over : items_compared (label_at an a at) (level_for all here) (below an a at) (below bn b bt) ≡ false → resume all here v at (trees an a n at) (trees bn b m bt) ≡ later
       unfolding or_else
-      resume-over f = past ∙ ap (λ z. or_else (cond z (or_else (spotted at (count_difference (below an a at) (below bn b bt))) inner) none) later) f
+      resume-over f = past ∙ ap (λ z. or_else (cond z (or_else (spotted at (count_difference (below an a at) (below bn b bt))) inner) None) later) f
 
       module _ (f : items_compared (label_at an a at) (level_for all here) (below an a at) (below bn b bt) ≡ true) where
         pub resume-count : eqb (items (below an a at)) (items (below bn b bt)) ≡ false → resume all here v at (trees an a n at) (trees bn b m bt)
-            ≡ some (record { place = at; differs = count (items_at a at) (items_at b bt) })
+            ≡ Some (record { place = at; differs = count (items_at a at) (items_at b bt) })
         unfolding or_else count_difference unless spotted items_at
         resume-count k =
-            past ∙ ap (λ z. or_else (cond z (or_else (spotted at (count_difference (below an a at) (below bn b bt))) inner) none) later) f
+            past ∙ ap (λ z. or_else (cond z (or_else (spotted at (count_difference (below an a at) (below bn b bt))) inner) None) later) f
             ∙ ap (λ z. or_else (or_else (spotted at (unless z (count (items (below an a at)) (items (below bn b bt))))) inner) later) k
-            ∙ ap₂ (λ x y. some (record { place = at; differs = count x y })) (items-names an a [] (count_at a at - 1) (at + 4)) (items-names bn b [] (count_at b bt - 1) (bt + 4))
+            ∙ ap₂ (λ x y. Some (record { place = at; differs = count x y })) (items-names an a [] (count_at a at - 1) (at + 4)) (items-names bn b [] (count_at b bt - 1) (bt + 4))
 
         -- as many on both sides: the items, then what comes after
         pub resume-items : eqb (items (below an a at)) (items (below bn b bt)) ≡ true → resume all here v at (trees an a n at) (trees bn b m bt) ≡ or_else inner later
         unfolding or_else count_difference unless spotted
         resume-items k =
-            past ∙ ap (λ z. or_else (cond z (or_else (spotted at (count_difference (below an a at) (below bn b bt))) inner) none) later) f
+            past ∙ ap (λ z. or_else (cond z (or_else (spotted at (count_difference (below an a at) (below bn b bt))) inner) None) later) f
             ∙ ap (λ z. or_else (or_else (spotted at (unless z (count (items (below an a at)) (items (below bn b bt))))) inner) later) k
 
       module _ (ka : kind_at a at ≤ 31) (kb : kind_at b bt ≤ 31) where
@@ -191,7 +191,7 @@ module _ (all : Bool) (here v : NestingLevel) (an a bn b : List ℕ) (n m at bt 
             item = node_spot (label_at an a (at + 4)) (label_at bn b (bt + 4)) (level_for all level) (below an a (at + 4)) (below bn b (bt + 4)) (at + 4)
                 (items_spot all (inside (label_at an a (at + 4)) (level_for all level)) (at + 4 + 4) (below an a (at + 4)) (below bn b (bt + 4)))
 
-            one-item : inner ≡ or_else item none
+            one-item : inner ≡ or_else item None
             unfolding items_spot
             one-item = ap₂ (items_spot all level (at + 4)) held held'
 
@@ -202,10 +202,10 @@ module _ (all : Bool) (here v : NestingLevel) (an a bn b : List ℕ) (n m at bt 
                 let z = (node-child a at (first-node a at n g p) lo hi).some-node in
                 omega arith
 
-            else-else : (x : Option Spot) (y : Option Spot) → or_else (or_else x none) y ≡ or_else x y
+            else-else : (x : Option Spot) (y : Option Spot) → or_else (or_else x None) y ≡ or_else x y
             unfolding or_else
-            else-else none y = refl
-            else-else (some x) y = refl
+            else-else None y = refl
+            else-else (Some x) y = refl
 
             holder : now ≡ resume all level v (at + 4) (trees an a (n - 1) (at + 4)) (trees bn b (m - 1) (bt + 4))
             unfolding items resume

@@ -3,7 +3,7 @@ use Prim.Native.Nat.{ℕ, ◌+◌, ◌-◌, ◌*◌, ◌≤◌, ◌<◌}
 use native.Mathlib.Omega.{arith}
 use mathlib.Core.Path.{◌≡◌, refl, ap, sym, ◌∙◌, subst}
 use mathlib.Core.List.{List}
-use mathlib.Core.Option.{Option, some, none}
+use Rattle.std.specs.Prelude.{Option, None}
 use mathlib.Core.Bool.{Bool, true, false}
 use lib.ListN.{length}
 use Rattle.kinds.specs.Compare.{level_for}
@@ -83,10 +83,10 @@ module _ {all : Bool} {v : NestingLevel} {an a bn b : List ℕ} {at n bt m : ℕ
       (subst (λ (y : NestingLevel). Left all v an a bn b (at + 4 * i₀) (n - i₀) (bt + 4 * j₀) (m - j₀) y at₀ n₀ bt₀ m₀ s) (sym ex) k))
 
   -- one side is at its end
-  pub left_end : n ≤ 0 → s ≡ none
+  pub left_end : n ≤ 0 → s ≡ None
   left_end p = sym l.rest ∙ resume-end all here v an a bn b n m at bt p
 
-  pub left-short : m ≤ 0 → s ≡ none
+  pub left-short : m ≤ 0 → s ≡ None
   left-short p = sym l.rest ∙ resume-short all here v an a bn b n m at bt p
 
   module _ (p : 0 < n) (q : 0 < m) where
@@ -127,7 +127,7 @@ module _ {all : Bool} {v : NestingLevel} {an a bn b : List ℕ} {at n bt m : ℕ
       f.2,
     )
 
-    module _ (e : spotted at (own_difference (label_at an a at) (label_at bn b bt)) ≡ none) where
+    module _ (e : spotted at (own_difference (label_at an a at) (label_at bn b bt)) ≡ None) where
       ka : kind_at a at ≤ 31
       ka = (walk_here a (length an) at n l.first_walk p).kind
 
@@ -221,7 +221,7 @@ module _ {all : Bool} {v : NestingLevel} {an a bn b : List ℕ} {at n bt m : ℕ
             g.2,
           )
 
-          pub left_after : items_spot all Within (at + 4) (below an a at) (below bn b bt) ≡ none
+          pub left_after : items_spot all Within (at + 4) (below an a at) (below bn b bt) ≡ None
               → {i j : ℕ} → i ≡ count_at a at → j ≡ count_at b bt → {x : NestingLevel} → x ≡ level_after all (kind_at a at) v here
               → Left all v an a bn b (at + 4 * i) (n - i) (bt + 4 * j) (m - j) x at₀ n₀ bt₀ m₀ s
           unfolding or_else

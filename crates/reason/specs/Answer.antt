@@ -1,6 +1,6 @@
 -- What the calls answer and leave in the lent output (02, N4; refusals 3, 4 and 5 in this order; a refusal and a yes write nothing).
 use Rattle.std.specs.Prelude.{ℕ, Bool, cond, List, leb, length}
-use Rattle.std.proofs.Math.Option.{Option, some, none}
+use Rattle.std.specs.Prelude.{Option, Some, None}
 use Rattle.kinds.specs.declared.NestingLevel.TheVariants.{Top}
 use Rattle.kinds.specs.declared.Refusal.TheVariants as R
 use Rattle.sheet.specs.Answer.{of_sheets}
@@ -11,18 +11,18 @@ use Rattle.reason.specs.declared.Reasoned.TheVariants.{Refused, Yes, Bytes}
 
 -- A yes has no reason; a no has as many bytes as its reason.
 unfoldable pub measured : Option Reason → Reasoned
-measured none = Yes
-measured (some r) = Bytes (length (reason_text r))
+measured None = Yes
+measured (Some r) = Bytes (length (reason_text r))
 
 -- The same, where the bytes are to be written into `room` bytes.
 unfoldable pub fitted_reason : ℕ → Option Reason → Reasoned
-fitted_reason room none = Yes
-fitted_reason room (some r) = cond (leb (length (reason_text r)) room) (Bytes (length (reason_text r))) (Refused R.OutputTooShort)
+fitted_reason room None = Yes
+fitted_reason room (Some r) = cond (leb (length (reason_text r)) room) (Bytes (length (reason_text r))) (Refused R.OutputTooShort)
 
 -- The output after it.
 unfoldable pub placed_reason : List ℕ → Option Reason → List ℕ
-placed_reason out none = out
-placed_reason out (some r) = placed (reason_text r) out
+placed_reason out None = out
+placed_reason out (Some r) = placed (reason_text r) out
 
 -- `reason_len`, by levels or with `all` fields.
 unfoldable pub reason_len : Bool → List ℕ → List ℕ → List ℕ → List ℕ → Reasoned

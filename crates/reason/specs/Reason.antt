@@ -1,6 +1,6 @@
 -- The reason for a no (02, N4): the first difference of two trees, in the order of helper.rs, `compare_encodings`, and its words.
 use Rattle.std.specs.Prelude.{ℕ, suc, ◌≤◌, Bool, true, false, cond, not, ◌&&◌, List, [], ◌∷◌, ◌++◌, ◌≡◌, eqb}
-use Rattle.std.proofs.Math.Option.{Option, some, none}
+use Rattle.std.specs.Prelude.{Option, Some, None}
 use Rattle.std.proofs.Math.ListN as N
 use Rattle.kinds.specs.Byte.{byte, bytes, same_bytes}
 use Rattle.kinds.specs.Compare.{bits, level_for}
@@ -38,13 +38,13 @@ GoodValues (count a b) = Unit {0}
 
 -- The first of two, or else the second.
 unfoldable pub or_else : {A : Type 0} → Option A → Option A → Option A
-or_else (some x) y = some x
-or_else none y = y
+or_else (Some x) y = Some x
+or_else None y = y
 
 -- `d`, unless both sides are the same.
 unfoldable pub unless : Bool → Difference → Option Difference
-unless true d = none
-unless false d = some d
+unless true d = None
+unless false d = Some d
 
 -- A typed bitfield's offset.
 unfoldable pub offset_of : Label → ℕ
@@ -94,31 +94,31 @@ count_difference cs ds = unless (eqb (items cs) (items ds)) (count (items cs) (i
 
 -- At the node itself.
 unfoldable pub here : Option Difference → Option Reason
-here none = none
-here (some d) = some (record { path = []; differs = d })
+here None = None
+here (Some d) = Some (record { path = []; differs = d })
 
 -- In the item with the number `i`.
 unfoldable pub under : ℕ → Option Reason → Option Reason
-under i none = none
-under i (some r) = some (record { path = i ∷ r.path; differs = r.differs })
+under i None = None
+under i (Some r) = Some (record { path = i ∷ r.path; differs = r.differs })
 
 -- Of two nodes at the level `v` with the items `cs` and `ds`: their own; then, where their items are compared, the count; then the first in the items.
 unfoldable pub node_difference : Label → Label → NestingLevel → Trees → Trees → Option Reason → Option Reason
 node_difference l m v cs ds in_items =
-    or_else (here (own_difference l m)) (cond (items_compared l v cs ds) (or_else (here (count_difference cs ds)) in_items) none)
+    or_else (here (own_difference l m)) (cond (items_compared l v cs ds) (or_else (here (count_difference cs ds)) in_items) None)
 
 -- Of items, in order; the first has the number `i`.
 unfoldable pub items_difference : Bool → NestingLevel → ℕ → Trees → Trees → Option Reason
-items_difference all v i end us = none
-items_difference all v i (node l cs ts) end = none
+items_difference all v i end us = None
+items_difference all v i (node l cs ts) end = None
 items_difference all v i (node l cs ts) (node m ds us) =
     or_else (under i (node_difference l m (level_for all v) cs ds (items_difference all (inside l (level_for all v)) 0 cs ds)))
     (items_difference all v (suc i) ts us)
 
 -- Of two trees; with `all` fields every node counts as top.
 unfoldable pub first_difference : Bool → NestingLevel → Trees → Trees → Option Reason
-first_difference all v end u = none
-first_difference all v (node l cs ts) end = none
+first_difference all v end u = None
+first_difference all v (node l cs ts) end = None
 first_difference all v (node l cs ts) (node m ds us) =
     node_difference l m (level_for all v) cs ds (items_difference all (inside l (level_for all v)) 0 cs ds)
 

@@ -1,6 +1,6 @@
 -- What the walk finds: the places of the first nodes that differ, in the words of each sheet from its first node on, and their numbers; and the path to them.
 use Rattle.std.specs.Prelude.{ℕ, suc, ◌+◌, ◌-◌, ◌*◌, ◌≤◌, ◌<◌, Bool, true, false, cond, List, [], ◌∷◌, ◌≡◌, ltb, eqb}
-use Rattle.std.proofs.Math.Option.{Option, some, none}
+use Rattle.std.specs.Prelude.{Option, Some, None}
 use Rattle.std.proofs.Math.ListN as N
 use Rattle.kinds.specs.Byte.{byte, bytes}
 use Rattle.kinds.specs.Compare.{level_for}
@@ -27,18 +27,18 @@ pub record Spot : Type 0 where
   pub differs : Difference
 
 unfoldable pub spotted : ℕ → Option Difference → Option Spot
-spotted at none = none
-spotted at (some d) = some (record { place = at; differs = d })
+spotted at None = None
+spotted at (Some d) = Some (record { place = at; differs = d })
 
 -- `node_difference`, of the nodes of which the first stands at `at`.
 unfoldable pub node_spot : Label → Label → NestingLevel → Trees → Trees → ℕ → Option Spot → Option Spot
 node_spot l m v cs ds at in_items =
-    or_else (spotted at (own_difference l m)) (cond (items_compared l v cs ds) (or_else (spotted at (count_difference cs ds)) in_items) none)
+    or_else (spotted at (own_difference l m)) (cond (items_compared l v cs ds) (or_else (spotted at (count_difference cs ds)) in_items) None)
 
 -- `items_difference`, of items of which the first stands at `at`.
 unfoldable pub items_spot : Bool → NestingLevel → ℕ → Trees → Trees → Option Spot
-items_spot all v at end us = none
-items_spot all v at (node l cs ts) end = none
+items_spot all v at end us = None
+items_spot all v at (node l cs ts) end = None
 items_spot all v at (node l cs ts) (node m ds us) =
     or_else (node_spot l m (level_for all v) cs ds at (items_spot all (inside l (level_for all v)) (at + 4) cs ds))
     (items_spot all v (at + 4 * suc (T.count cs)) ts us)
@@ -146,9 +146,9 @@ pub record ValueAt (aspect : Aspect) (w : List ℕ) (at n x : ℕ) : Type 0 wher
 
 -- What a walk over the `n` nodes from `at` on and the `m` nodes from `bt` on hands out for the spot that there is to find.
 abbrev pub Finds : List ℕ → List ℕ → ℕ → ℕ → List ℕ → List ℕ → ℕ → ℕ → Option Spot → Found → Type 0
-Finds an a at n bn b bt m s F.Same = s ≡ none
+Finds an a at n bn b bt m s F.Same = s ≡ None
 Finds an a at n bn b bt m s (F.At x y aspect k j) =
-    (s ≡ some (record { place = x; differs = difference_at aspect an a x bn b y })) × (ValueAt aspect a at n x × ValueAt aspect b bt m y)
+    (s ≡ Some (record { place = x; differs = difference_at aspect an a x bn b y })) × (ValueAt aspect a at n x × ValueAt aspect b bt m y)
     × ((k ≡ number_at aspect a x) × (j ≡ number_at aspect b y))
 
 -- What `compare_counts` finds of the containers at `at` and `bt`.
@@ -203,7 +203,7 @@ reason_at aspect an a at bn b bt = record { path = path_from a 0 at; differs = d
 
 -- What the walk from the root relies on: a tree of `n` nodes, whose names lie within the name bytes lent and within a sheet's.
 pub record Rooted (names w : List ℕ) (n : ℕ) : Type 0 where
-  pub some : 1 ≤ n
+  pub Some : 1 ≤ n
   pub few : n ≤ max_nodes
   pub count : count_at w 0 ≡ n
   pub root : NodeAt w 0

@@ -5,7 +5,7 @@ use mathlib.Core.Path.{◌≡◌, refl, sym, ap, ◌∙◌}
 use mathlib.Core.Bool.{Bool, true, false, cond, ◌&&◌, ◌||◌, false≢true, true≢false}
 use mathlib.Core.List.{List, [], ◌∷◌}
 use mathlib.Core.Logic.{◌⊎◌, inl, inr}
-use mathlib.Core.Option.{Option, some, none}
+use Rattle.std.specs.Prelude.{Option, Some, None}
 use lib.Dec.{eqb, ltb}
 use borrow.Author.Tests.{ltb-true, eqb-true}
 use Rattle.kinds.specs.Compare.{level_for}
@@ -36,98 +36,98 @@ abbrev pub reason : List ℕ → Difference → Reason
 reason p d = record { path = p; differs = d }
 
 -- One of two is found, or none.
-pub else-some : {A : Type 0} (x y : Option A) {z : A} → or_else x y ≡ some z → (x ≡ some z) ⊎ ((x ≡ none) × (y ≡ some z))
+pub else-some : {A : Type 0} (x y : Option A) {z : A} → or_else x y ≡ Some z → (x ≡ Some z) ⊎ ((x ≡ None) × (y ≡ Some z))
 unfolding or_else
-else-some none y h = inr (refl, h)
-else-some (some x) y h = inl h
+else-some None y h = inr (refl, h)
+else-some (Some x) y h = inl h
 
-pub else-none : {A : Type 0} (x y : Option A) → or_else x y ≡ none → (x ≡ none) × (y ≡ none)
+pub else-none : {A : Type 0} (x y : Option A) → or_else x y ≡ None → (x ≡ None) × (y ≡ None)
 unfolding or_else
-else-none none y h = (refl, h)
-else-none (some x) y h = let z : true ≡ false = cc in absurd (true≢false z)
+else-none None y h = (refl, h)
+else-none (Some x) y h = let z : true ≡ false = cc in absurd (true≢false z)
 
-here-some : (x : Option Difference) {r : Reason} → here x ≡ some r → (r.path ≡ []) × (x ≡ some r.differs)
+here-some : (x : Option Difference) {r : Reason} → here x ≡ Some r → (r.path ≡ []) × (x ≡ Some r.differs)
 unfolding here
-here-some none h = let z : true ≡ false = cc in absurd (true≢false z)
-here-some (some d) {r} h = let e : reason [] d ≡ r = cc in (sym (ap (λ (x : Reason). x.path) e), ap (λ (x : Reason). some x.differs) e)
+here-some None h = let z : true ≡ false = cc in absurd (true≢false z)
+here-some (Some d) {r} h = let e : reason [] d ≡ r = cc in (sym (ap (λ (x : Reason). x.path) e), ap (λ (x : Reason). Some x.differs) e)
 
-here-none : (x : Option Difference) → here x ≡ none → x ≡ none
+here-none : (x : Option Difference) → here x ≡ None → x ≡ None
 unfolding here
-here-none none h = refl
-here-none (some d) h = let z : true ≡ false = cc in absurd (true≢false z)
+here-none None h = refl
+here-none (Some d) h = let z : true ≡ false = cc in absurd (true≢false z)
 
-under_none : (i : ℕ) (x : Option Reason) → under i x ≡ none → x ≡ none
+under_none : (i : ℕ) (x : Option Reason) → under i x ≡ None → x ≡ None
 unfolding under
-under_none i none h = refl
-under_none i (some d) h = let z : true ≡ false = cc in absurd (true≢false z)
+under_none i None h = refl
+under_none i (Some d) h = let z : true ≡ false = cc in absurd (true≢false z)
 
 record Under (i : ℕ) (x : Option Reason) (r : Reason) : Type 0 where
   rest : List ℕ
   path : r.path ≡ i ∷ rest
-  found : x ≡ some (reason rest r.differs)
+  found : x ≡ Some (reason rest r.differs)
 
-under_some : (i : ℕ) (x : Option Reason) {r : Reason} → under i x ≡ some r → Under i x r
+under_some : (i : ℕ) (x : Option Reason) {r : Reason} → under i x ≡ Some r → Under i x r
 unfolding under
-under_some i none h = let z : true ≡ false = cc in absurd (true≢false z)
-under_some i (some q) {r} h =
+under_some i None h = let z : true ≡ false = cc in absurd (true≢false z)
+under_some i (Some q) {r} h =
     let e : reason (i ∷ q.path) q.differs ≡ r = cc in
-    record { rest = q.path; path = sym (ap (λ (x : Reason). x.path) e); found = ap (λ (x : Reason). some (reason q.path x.differs)) e }
+    record { rest = q.path; path = sym (ap (λ (x : Reason). x.path) e); found = ap (λ (x : Reason). Some (reason q.path x.differs)) e }
 
 -- ---- At a node.
 
 -- What differs of two nodes themselves.
 abbrev pub nodes_own : Label → Label → NestingLevel → Trees → Trees → Option Difference
-nodes_own l m v cs ds = or_else (own_difference l m) (cond (items_compared l v cs ds) (count_difference cs ds) none)
+nodes_own l m v cs ds = or_else (own_difference l m) (cond (items_compared l v cs ds) (count_difference cs ds) None)
 
 pub record AtNode (own : Option Difference) (r : Reason) : Type 0 where
   pub path : r.path ≡ []
-  pub found : own ≡ some r.differs
+  pub found : own ≡ Some r.differs
 
 pub record Below (own : Option Difference) (compared : Bool) (in_items : Option Reason) (r : Reason) : Type 0 where
-  pub none-own : own ≡ none
+  pub none-own : own ≡ None
   pub items-compared : compared ≡ true
-  pub found : in_items ≡ some r
+  pub found : in_items ≡ Some r
 
-node-some : (l m : Label) (v : NestingLevel) (cs ds : Trees) (x : Option Reason) {r : Reason} → node_difference l m v cs ds x ≡ some r
+node-some : (l m : Label) (v : NestingLevel) (cs ds : Trees) (x : Option Reason) {r : Reason} → node_difference l m v cs ds x ≡ Some r
     → AtNode (nodes_own l m v cs ds) r ⊎ Below (nodes_own l m v cs ds) (items_compared l v cs ds) x r
 unfolding node_difference or_else
 node-some l m v cs ds x {r} h = own (else-some (here (own_difference l m)) _ h)
   where
-    counted : own_difference l m ≡ none → (here (count_difference cs ds) ≡ some r) ⊎ ((here (count_difference cs ds) ≡ none) × (x ≡ some r)) → items_compared l v cs ds ≡ true
+    counted : own_difference l m ≡ None → (here (count_difference cs ds) ≡ Some r) ⊎ ((here (count_difference cs ds) ≡ None) × (x ≡ Some r)) → items_compared l v cs ds ≡ true
         → AtNode (nodes_own l m v cs ds) r ⊎ Below (nodes_own l m v cs ds) (items_compared l v cs ds) x r
     counted e (inl q) f = let s = here-some (count_difference cs ds) q in inl (record { path = s.0; found = rw (e, f) s.1 })
     counted e (inr q) f = inr (record { none-own = rw (e, f) (here-none (count_difference cs ds) q.0); items-compared = f; found = q.1 })
 
-    later : own_difference l m ≡ none → (y : Bool) → items_compared l v cs ds ≡ y → cond y (or_else (here (count_difference cs ds)) x) none ≡ some r
+    later : own_difference l m ≡ None → (y : Bool) → items_compared l v cs ds ≡ y → cond y (or_else (here (count_difference cs ds)) x) None ≡ Some r
         → AtNode (nodes_own l m v cs ds) r ⊎ Below (nodes_own l m v cs ds) (items_compared l v cs ds) x r
     later e true f q = counted e (else-some (here (count_difference cs ds)) x q) f
     later e false f q = let z : true ≡ false = cc in absurd (true≢false z)
 
-    own : (here (own_difference l m) ≡ some r) ⊎ ((here (own_difference l m) ≡ none) × (cond (items_compared l v cs ds) (or_else (here (count_difference cs ds)) x) none ≡ some r))
+    own : (here (own_difference l m) ≡ Some r) ⊎ ((here (own_difference l m) ≡ None) × (cond (items_compared l v cs ds) (or_else (here (count_difference cs ds)) x) None ≡ Some r))
         → AtNode (nodes_own l m v cs ds) r ⊎ Below (nodes_own l m v cs ds) (items_compared l v cs ds) x r
     own (inl q) = let s = here-some (own_difference l m) q in inl (record { path = s.0; found = rw s.1 })
     own (inr q) = later (here-none (own_difference l m) q.0) (items_compared l v cs ds) refl q.1
 
-node-none : (l m : Label) (v : NestingLevel) (cs ds : Trees) (x : Option Reason) → node_difference l m v cs ds x ≡ none
-    → (nodes_own l m v cs ds ≡ none) × (items_compared l v cs ds ≡ true → x ≡ none)
+node-none : (l m : Label) (v : NestingLevel) (cs ds : Trees) (x : Option Reason) → node_difference l m v cs ds x ≡ None
+    → (nodes_own l m v cs ds ≡ None) × (items_compared l v cs ds ≡ true → x ≡ None)
 unfolding node_difference or_else
 node-none l m v cs ds x h =
     let a = else-none (here (own_difference l m)) _ h in
     go (here-none (own_difference l m) a.0) (items_compared l v cs ds) refl a.1
   where
-    go : own_difference l m ≡ none → (y : Bool) → items_compared l v cs ds ≡ y → cond y (or_else (here (count_difference cs ds)) x) none ≡ none
-        → (nodes_own l m v cs ds ≡ none) × (items_compared l v cs ds ≡ true → x ≡ none)
+    go : own_difference l m ≡ None → (y : Bool) → items_compared l v cs ds ≡ y → cond y (or_else (here (count_difference cs ds)) x) None ≡ None
+        → (nodes_own l m v cs ds ≡ None) × (items_compared l v cs ds ≡ true → x ≡ None)
     go e true f q = let s = else-none (here (count_difference cs ds)) x q in (rw (e, f) (here-none (count_difference cs ds) s.0), λ g. s.1)
     go e false f q = (rw (e, f), λ g. absurd (true≢false (sym g ∙ f)))
 
 -- ---- In the items.
 
-first-end : (all : Bool) (v : NestingLevel) (t : Trees) → first_difference all v t end ≡ none
+first-end : (all : Bool) (v : NestingLevel) (t : Trees) → first_difference all v t end ≡ None
 unfolding first_difference
 first-end all v end = refl
 first-end all v (node l cs ts) = refl
 
-items-none : (all : Bool) (v : NestingLevel) (i : ℕ) (t u : Trees) → items_difference all v i t u ≡ none → (j : ℕ) → first_difference all v (item_at j t) (item_at j u) ≡ none
+items-none : (all : Bool) (v : NestingLevel) (i : ℕ) (t u : Trees) → items_difference all v i t u ≡ None → (j : ℕ) → first_difference all v (item_at j t) (item_at j u) ≡ None
 unfolding items_difference first_difference item_at
 items-none all v i end u h j = refl
 items-none all v i (node l cs ts) end h j = first-end all v (item_at j (node l cs ts))
@@ -139,10 +139,10 @@ record ItemFound (all : Bool) (v : NestingLevel) (i : ℕ) (t u : Trees) (r : Re
   number : ℕ
   rest : List ℕ
   path : r.path ≡ (i + number) ∷ rest
-  found : first_difference all v (item_at number t) (item_at number u) ≡ some (reason rest r.differs)
-  earlier : (k : ℕ) → k < number → first_difference all v (item_at k t) (item_at k u) ≡ none
+  found : first_difference all v (item_at number t) (item_at number u) ≡ Some (reason rest r.differs)
+  earlier : (k : ℕ) → k < number → first_difference all v (item_at k t) (item_at k u) ≡ None
 
-items-some : (all : Bool) (v : NestingLevel) (i : ℕ) (t u : Trees) {r : Reason} → items_difference all v i t u ≡ some r → ItemFound all v i t u r
+items-some : (all : Bool) (v : NestingLevel) (i : ℕ) (t u : Trees) {r : Reason} → items_difference all v i t u ≡ Some r → ItemFound all v i t u r
 unfolding items_difference first_difference item_at
 items-some all v i end u h = let z : true ≡ false = cc in absurd (true≢false z)
 items-some all v i (node l cs ts) end h = let z : true ≡ false = cc in absurd (true≢false z)
@@ -151,13 +151,13 @@ items-some all v i (node l cs ts) (node m ds us) {r} h = go (else-some (under i 
     this : Option Reason
     this = node_difference l m (level_for all v) cs ds (items_difference all (inside l (level_for all v)) 0 cs ds)
 
-    before-next : under i this ≡ none → (n : ℕ) → ((k : ℕ) → k < n → first_difference all v (item_at k ts) (item_at k us) ≡ none)
-        → (k : ℕ) → k < suc n → first_difference all v (item_at k (node l cs ts)) (item_at k (node m ds us)) ≡ none
+    before-next : under i this ≡ None → (n : ℕ) → ((k : ℕ) → k < n → first_difference all v (item_at k ts) (item_at k us) ≡ None)
+        → (k : ℕ) → k < suc n → first_difference all v (item_at k (node l cs ts)) (item_at k (node m ds us)) ≡ None
     before-next e n f zero p = under_none i this e
     before-next e n f (suc k) p = f k (omega arith)
 
-    go : (under i this ≡ some r) ⊎ ((under i this ≡ none) × (items_difference all v (suc i) ts us ≡ some r))
-        → (items_difference all v (suc i) ts us ≡ some r → ItemFound all v (suc i) ts us r) → ItemFound all v i (node l cs ts) (node m ds us) r
+    go : (under i this ≡ Some r) ⊎ ((under i this ≡ None) × (items_difference all v (suc i) ts us ≡ Some r))
+        → (items_difference all v (suc i) ts us ≡ Some r → ItemFound all v (suc i) ts us r) → ItemFound all v i (node l cs ts) (node m ds us) r
     go (inl q) rec =
         let s = under_some i this q in
         record { number = 0; rest = s.rest; path = s.path ∙ ap (λ x. x ∷ s.rest) (omega arith); found = s.found; earlier = λ k p. absurd (omega arith) }
@@ -173,7 +173,7 @@ items-some all v i (node l cs ts) (node m ds us) {r} h = go (else-some (under i 
 
 -- ---- Along paths.
 
-pub none-along : (all : Bool) (v : NestingLevel) (q : List ℕ) (t u : Trees) → first_difference all v t u ≡ none → difference_along all v q t u ≡ none
+pub none-along : (all : Bool) (v : NestingLevel) (q : List ℕ) (t u : Trees) → first_difference all v t u ≡ None → difference_along all v q t u ≡ None
 unfolding difference_along first_difference
 none-along all v [] end u h = refl
 none-along all v [] (node l cs ts) end h = refl
@@ -186,14 +186,14 @@ none-along all v (j ∷ q) (node l cs ts) (node m ds us) h =
     w : NestingLevel
     w = level_for all v
 
-    go : (y : Bool) → items_compared l w cs ds ≡ y → (items_compared l w cs ds ≡ true → difference_along all (inside l w) q (item_at j cs) (item_at j ds) ≡ none)
-        → cond y (difference_along all (inside l w) q (item_at j cs) (item_at j ds)) none ≡ none
+    go : (y : Bool) → items_compared l w cs ds ≡ y → (items_compared l w cs ds ≡ true → difference_along all (inside l w) q (item_at j cs) (item_at j ds) ≡ None)
+        → cond y (difference_along all (inside l w) q (item_at j cs) (item_at j ds)) None ≡ None
     go true e f = f e
     go false e f = refl
 
 -- What a reason at the root and one below it say.
 pub at-root : (all : Bool) (v : NestingLevel) (d : Difference) (l : Label) (cs ts : Trees) (m : Label) (ds us : Trees)
-    → first_difference all v (node l cs ts) (node m ds us) ≡ some (reason [] d) → nodes_own l m (level_for all v) cs ds ≡ some d
+    → first_difference all v (node l cs ts) (node m ds us) ≡ Some (reason [] d) → nodes_own l m (level_for all v) cs ds ≡ Some d
 unfolding first_difference
 at-root all v d l cs ts m ds us h = go (node-some l m w cs ds x h)
   where
@@ -203,18 +203,18 @@ at-root all v d l cs ts m ds us h = go (node-some l m w cs ds x h)
     x : Option Reason
     x = items_difference all (inside l w) 0 cs ds
 
-    go : AtNode (nodes_own l m w cs ds) (reason [] d) ⊎ Below (nodes_own l m w cs ds) (items_compared l w cs ds) x (reason [] d) → nodes_own l m w cs ds ≡ some d
+    go : AtNode (nodes_own l m w cs ds) (reason [] d) ⊎ Below (nodes_own l m w cs ds) (items_compared l w cs ds) x (reason [] d) → nodes_own l m w cs ds ≡ Some d
     go (inl a) = a.found
     go (inr b) = let s = items-some all (inside l w) 0 cs ds b.found in let p = s.path in let z : true ≡ false = cc in absurd (true≢false z)
 
 pub record BelowRoot (all : Bool) (v : NestingLevel) (i : ℕ) (p : List ℕ) (d : Difference) (l : Label) (cs : Trees) (m : Label) (ds : Trees) : Type 0 where
-  pub none-own : nodes_own l m (level_for all v) cs ds ≡ none
+  pub none-own : nodes_own l m (level_for all v) cs ds ≡ None
   pub items-compared : items_compared l (level_for all v) cs ds ≡ true
-  pub found : first_difference all (inside l (level_for all v)) (item_at i cs) (item_at i ds) ≡ some (reason p d)
-  pub earlier : (k : ℕ) → k < i → first_difference all (inside l (level_for all v)) (item_at k cs) (item_at k ds) ≡ none
+  pub found : first_difference all (inside l (level_for all v)) (item_at i cs) (item_at i ds) ≡ Some (reason p d)
+  pub earlier : (k : ℕ) → k < i → first_difference all (inside l (level_for all v)) (item_at k cs) (item_at k ds) ≡ None
 
 pub below_root : (all : Bool) (v : NestingLevel) (i : ℕ) (p : List ℕ) (d : Difference) (l : Label) (cs ts : Trees) (m : Label) (ds us : Trees)
-    → first_difference all v (node l cs ts) (node m ds us) ≡ some (reason (i ∷ p) d) → BelowRoot all v i p d l cs m ds
+    → first_difference all v (node l cs ts) (node m ds us) ≡ Some (reason (i ∷ p) d) → BelowRoot all v i p d l cs m ds
 unfolding first_difference
 below_root all v i p d l cs ts m ds us h = go (node-some l m w cs ds x h)
   where
@@ -240,7 +240,7 @@ below_root all v i p d l cs ts m ds us h = go (node-some l m w cs ds x h)
         }
 
 module _ (all : Bool) where
-  pub found-along : (v : NestingLevel) (p : List ℕ) (d : Difference) (t u : Trees) → first_difference all v t u ≡ some (reason p d) → difference_along all v p t u ≡ some d
+  pub found-along : (v : NestingLevel) (p : List ℕ) (d : Difference) (t u : Trees) → first_difference all v t u ≡ Some (reason p d) → difference_along all v p t u ≡ Some d
   unfolding first_difference difference_along
   found-along v [] d end u h = let z : true ≡ false = cc in absurd (true≢false z)
   found-along v [] d (node l cs ts) end h = let z : true ≡ false = cc in absurd (true≢false z)
@@ -251,8 +251,8 @@ module _ (all : Bool) where
       let b = below_root all v i p d l cs ts m ds us h in
       rw b.items-compared (found-along (inside l (level_for all v)) p d (item_at i cs) (item_at i ds) b.found)
 
-  pub found_first : (v : NestingLevel) (p : List ℕ) (d : Difference) (t u : Trees) → first_difference all v t u ≡ some (reason p d)
-      → (q : List ℕ) → before q p ≡ true → difference_along all v q t u ≡ none
+  pub found_first : (v : NestingLevel) (p : List ℕ) (d : Difference) (t u : Trees) → first_difference all v t u ≡ Some (reason p d)
+      → (q : List ℕ) → before q p ≡ true → difference_along all v q t u ≡ None
   unfolding first_difference difference_along before
   found_first v [] d t u h [] b = absurd (false≢true b)
   found_first v [] d t u h (j ∷ q) b = absurd (false≢true b)
@@ -266,8 +266,8 @@ module _ (all : Bool) where
       w = level_for all v
 
       go : (y : Bool) → ltb j i ≡ y → (y || (eqb j i && before q p)) ≡ true → BelowRoot all v i p d l cs m ds
-          → ((x y : Trees) → first_difference all (inside l w) x y ≡ some (reason p d) → before q p ≡ true → difference_along all (inside l w) q x y ≡ none)
-          → cond (items_compared l w cs ds) (difference_along all (inside l w) q (item_at j cs) (item_at j ds)) none ≡ none
+          → ((x y : Trees) → first_difference all (inside l w) x y ≡ Some (reason p d) → before q p ≡ true → difference_along all (inside l w) q x y ≡ None)
+          → cond (items_compared l w cs ds) (difference_along all (inside l w) q (item_at j cs) (item_at j ds)) None ≡ None
       go true e f r ih = rw r.items-compared (none-along all (inside l w) q (item_at j cs) (item_at j ds) (r.earlier j (ltb-true j i e)))
       go false e f r ih =
           let s = both (eqb j i) (before q p) f in

@@ -5,7 +5,7 @@ use mathlib.Core.Path.{◌≡◌, refl, sym, ap, ◌∙◌}
 use mathlib.Core.Bool.{Bool, true, false, cond, true≢false}
 use mathlib.Core.List.{List, [], ◌∷◌, ◌++◌}
 use mathlib.Core.Logic.{◌⊎◌, inl, inr}
-use mathlib.Core.Option.{Option, some, none}
+use Rattle.std.specs.Prelude.{Option, Some, None}
 use lib.Dec.{leb}
 use lib.ListN as N
 use lib.ListN.{length-append}
@@ -203,7 +203,7 @@ led w s t h p l cs ts e =
       short = path-length p 3999 (omega arith);
     }
 
-pub tree-bound : (all : Bool) (v : NestingLevel) (aw an bw bn : List ℕ) (t u : Trees) → Holds aw an t → Holds bw bn u → (r : Reason) → first_difference all v t u ≡ some r
+pub tree-bound : (all : Bool) (v : NestingLevel) (aw an bw bn : List ℕ) (t u : Trees) → Holds aw an t → Holds bw bn u → (r : Reason) → first_difference all v t u ≡ Some r
     → N.length (reason_text r) ≤ max_reason
 unfolding reason_text
 tree-bound all v aw an bw bn t u a b r h =
@@ -248,8 +248,8 @@ length-never all aw an bw bn = go (held aw an) refl (held bw bn) refl
     either x y false h = other-refusal y h
 
     answer : (o : Option Reason) → measured o ≡ Refused R.OutputTooShort → ⊥
-    answer none h = let z : true ≡ false = cc in true≢false z
-    answer (some r) h = let z : true ≡ false = cc in true≢false z
+    answer None h = let z : true ≡ false = cc in true≢false z
+    answer (Some r) h = let z : true ≡ false = cc in true≢false z
 
     go : (h : Held) → held aw an ≡ h → (k : Held) → held bw bn ≡ k
         → of_held_both Refused (λ t u. measured (first_difference all Top t u)) (paired h k) ≡ Refused R.OutputTooShort → ⊥

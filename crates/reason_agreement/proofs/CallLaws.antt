@@ -4,7 +4,7 @@ use native.Mathlib.Omega.{arith}
 use mathlib.Core.Path.{◌≡◌, refl, ap, ◌∙◌}
 use mathlib.Core.Bool.{Bool, true, false, true≢false}
 use mathlib.Core.List.{List}
-use mathlib.Core.Option.{Option, some, none}
+use Rattle.std.specs.Prelude.{Option, Some, None}
 use lib.ListN.{length}
 use borrow.Author.Tests.{le-leb, lt-leb}
 use Rattle.kinds.specs.Compare.{compare_encodings}
@@ -32,8 +32,8 @@ held-good words names t e = let h = held-says words names e in rw h.tree at h.go
 
 decided : (o : Option Reason) → C.Decided (is_none o) ≡ decided_by (measured o)
 unfolding is_none measured
-decided none = refl
-decided (some r) = refl
+decided None = refl
+decided (Some r) = refl
 
 module _ (all : Bool) (aw an bw bn : List ℕ) where
   pub compared : compare_answer all aw an bw bn ≡ decided_by (reason_len all aw an bw bn)
@@ -71,7 +71,7 @@ module _ (all : Bool) (aw an bw bn : List ℕ) where
     pub both : held_both aw an bw bn ≡ holding_both first second
     pub first-held : held aw an ≡ holding first
     pub second-held : held bw bn ≡ holding second
-    pub found : first_difference all Top first second ≡ some reason
+    pub found : first_difference all Top first second ≡ Some reason
     pub long : length (reason_text reason) ≡ n
 
   pub length-says : {n : ℕ} → reason_len all aw an bw bn ≡ Bytes n → Measured n
@@ -79,8 +79,8 @@ module _ (all : Bool) (aw an bw bn : List ℕ) where
   length-says {n} h = go (held_both aw an bw bn) refl h
     where
       of-trees : (t u : Trees) → held_both aw an bw bn ≡ holding_both t u → (o : Option Reason) → first_difference all Top t u ≡ o → measured o ≡ Bytes n → Measured n
-      of-trees t u e none f k = let z : true ≡ false = cc in absurd (true≢false z)
-      of-trees t u e (some r) f k =
+      of-trees t u e None f k = let z : true ≡ false = cc in absurd (true≢false z)
+      of-trees t u e (Some r) f k =
           let b = both-held e in
           let m : length (reason_text r) ≡ n = cc in
           record { first = t; second = u; reason = r; both = e; first-held = b.first; second-held = b.second; found = f; long = m }
@@ -129,8 +129,8 @@ module _ (all : Bool) (aw an bw bn : List ℕ) where
     nothing h = go (held_both aw an bw bn) refl h
       where
         of-trees : (o : Option Reason) → ((n : ℕ) → measured o ≡ Bytes n → ⊥) → (fitted_reason (length out) o ≡ measured o) × (placed_reason out o ≡ out)
-        of-trees none k = (refl, refl)
-        of-trees (some r) k = absurd (k (length (reason_text r)) refl)
+        of-trees None k = (refl, refl)
+        of-trees (Some r) k = absurd (k (length (reason_text r)) refl)
 
         go : (b : HeldBoth) → held_both aw an bw bn ≡ b → ((n : ℕ) → of_held_both Refused (λ t u. measured (first_difference all Top t u)) b ≡ Bytes n → ⊥)
             → (of_held_both Refused (λ t u. fitted_reason (length out) (first_difference all Top t u)) b ≡ of_held_both Refused (λ t u. measured (first_difference all Top t u)) b)

@@ -4,7 +4,7 @@ use native.Mathlib.Omega.{arith}
 use mathlib.Core.Path.{◌≡◌, refl, ap, ◌∙◌}
 use mathlib.Core.Bool.{Bool, true, false, false≢true}
 use mathlib.Core.List.{[], ◌∷◌, ◌++◌, append-nil}
-use mathlib.Core.Option.{Option, some, none}
+use Rattle.std.specs.Prelude.{Option, Some, None}
 use lib.ListN as N
 use lib.ListN.{replicate, length-append, length-replicate}
 use Rattle.kinds.specs.Byte.{byte, bytes, among, is_digit, same_bytes}
@@ -81,9 +81,9 @@ one-item all v (node l cs ts) end a b = absurd (false≢true b)
 one-item all v (node l cs (node k es xs)) (node m ds us) a b = absurd (false≢true a)
 one-item all v (node l cs end) (node m ds us) a b = else-none (under 0 (first_difference all v (node l cs end) (node m ds us)))
   where
-    else-none : (z : Option Reason) → or_else z none ≡ z
-    else-none none = refl
-    else-none (some r) = refl
+    else-none : (z : Option Reason) → or_else z None ≡ z
+    else-none None = refl
+    else-none (Some r) = refl
 
 -- A pointer on each side.
 pointer-difference : (all : Bool) (v : NestingLevel) (x y : Trees) → is_one x ≡ true → is_one y ≡ true
@@ -92,7 +92,7 @@ unfolding first_difference node_difference own_difference equivalent is_object a
 pointer-difference all v x y a b = rw (one-items x a, one-items y b) (one-item all (inside pointer (level_for all v)) x y a b)
 
 far-difference : (all : Bool) (v : NestingLevel) (n : ℕ) (t u : Trees) (d : Difference) → is_one t ≡ true → is_one u ≡ true
-    → ((w : NestingLevel) → first_difference all w t u ≡ some (reason [] d)) → first_difference all v (pointers_to n t) (pointers_to n u) ≡ some (reason (replicate n 0) d)
+    → ((w : NestingLevel) → first_difference all w t u ≡ Some (reason [] d)) → first_difference all v (pointers_to n t) (pointers_to n u) ≡ Some (reason (replicate n 0) d)
 unfolding pointers_to under
 far-difference all v zero t u d a b h = h v
 far-difference all v (suc n) t u d a b h =
@@ -100,7 +100,7 @@ far-difference all v (suc n) t u d a b h =
     ∙ ap (under 0) (far-difference all (inside pointer (level_for all v)) n t u d a b h)
 
 core-difference : (all : Bool) (v : NestingLevel) (m b c : ℕ) → same_bytes (replicate m b) (replicate m c) ≡ false
-    → first_difference all v (core m b) (core m c) ≡ some (reason [] (name (replicate m b) (replicate m c)))
+    → first_difference all v (core m b) (core m c) ≡ Some (reason [] (name (replicate m b) (replicate m c)))
 unfolding first_difference node_difference own_difference equivalent is_object among T.kind bits offset_of length_of T.name unless or_else here
 core-difference all v m b c h = rw h
 
@@ -152,7 +152,7 @@ unfolding decimal digits
 four_digits = refl
 
 far-found : (all : Bool) (n m : ℕ) → first_difference all Top (far_struct n (suc m) (byte "R")) (far_struct n (suc m) (byte "S"))
-    ≡ some (reason (replicate n 0) (name (replicate (suc m) (byte "R")) (replicate (suc m) (byte "S"))))
+    ≡ Some (reason (replicate n 0) (name (replicate (suc m) (byte "R")) (replicate (suc m) (byte "S"))))
 unfolding far_struct is_one is_end
 far-found all n m =
     far-difference all Top n (core (suc m) (byte "R")) (core (suc m) (byte "S")) (name (replicate (suc m) (byte "R")) (replicate (suc m) (byte "S"))) refl refl

@@ -4,7 +4,7 @@ use native.Mathlib.Omega.{arith}
 use mathlib.Core.Path.{◌≡◌, refl, subst}
 use mathlib.Core.Bool.{Bool, true, false≢true}
 use mathlib.Core.List.{List}
-use mathlib.Core.Option.{some}
+use Rattle.std.specs.Prelude.{Some}
 use borrow.Author.Tests.{ltb-true}
 use Rattle.kinds.specs.Name.{verify_name}
 use Rattle.kinds.specs.Sound.{valid_label, valid, good_name, good_names}
@@ -82,7 +82,7 @@ led p t a g l cs ts e = record {
 }
 
 pub found-good : (all : Bool) (v : NestingLevel) (t u : Trees) → valid t ≡ true → valid u ≡ true → good_names t ≡ true → good_names u ≡ true
-    → (r : Reason) → first_difference all v t u ≡ some r → GoodValues r.differs
+    → (r : Reason) → first_difference all v t u ≡ Some r → GoodValues r.differs
 found-good all v t u a b f g r h = go (follow r.path t) refl (follow r.path u) refl (found_right all v r.path r.differs t u a b h)
   where
     go : (x : Trees) → follow r.path t ≡ x → (y : Trees) → follow r.path u ≡ y → Differ r.differs x y → GoodValues r.differs

@@ -4,7 +4,7 @@ use Prim.Native.Nat.{ℕ, ◌≤◌, ◌<◌}
 use mathlib.Core.Path.{◌≡◌}
 use mathlib.Core.Bool.{Bool, true, false}
 use mathlib.Core.List.{List}
-use mathlib.Core.Option.{some, none}
+use Rattle.std.specs.Prelude.{Some, None}
 use lib.ListN.{length}
 use Rattle.kinds.specs.Compare.{compare_encodings}
 use Rattle.kinds.specs.Sound.{valid, good_names}
@@ -36,23 +36,23 @@ module _ (all : Bool) (v : NestingLevel) (t u : Trees) where
   yes-or-reason = yes-exactly all v t u
 
   -- The comparison, followed along the path of the reason, comes to the difference that it gives.
-  pub reason-along : {r : Reason} → first_difference all v t u ≡ some r → difference_along all v r.path t u ≡ some r.differs
+  pub reason-along : {r : Reason} → first_difference all v t u ≡ Some r → difference_along all v r.path t u ≡ Some r.differs
   reason-along {r} = found-along all v r.path r.differs t u
 
   -- And along every path that stands earlier in its order to none.
-  pub reason-first : {r : Reason} → first_difference all v t u ≡ some r → (q : List ℕ) → before q r.path ≡ true → difference_along all v q t u ≡ none
+  pub reason-first : {r : Reason} → first_difference all v t u ≡ Some r → (q : List ℕ) → before q r.path ≡ true → difference_along all v q t u ≡ None
   reason-first {r} = found_first all v r.path r.differs t u
 
   -- Where there is no reason, there is no difference along any path.
-  pub yes-nowhere : first_difference all v t u ≡ none → (q : List ℕ) → difference_along all v q t u ≡ none
+  pub yes-nowhere : first_difference all v t u ≡ None → (q : List ℕ) → difference_along all v q t u ≡ None
   yes-nowhere h q = none-along all v q t u h
 
   -- The values are those of the two nodes to which the path leads in each tree by itself, and they differ.
-  pub reason-right : valid t ≡ true → valid u ≡ true → {r : Reason} → first_difference all v t u ≡ some r → Differ r.differs (follow r.path t) (follow r.path u)
+  pub reason-right : valid t ≡ true → valid u ≡ true → {r : Reason} → first_difference all v t u ≡ Some r → Differ r.differs (follow r.path t) (follow r.path u)
   reason-right a b {r} = found_right all v r.path r.differs t u a b
 
   -- Kinds are the sheet's, and names are good where both trees' names are.
-  pub reason-good : valid t ≡ true → valid u ≡ true → good_names t ≡ true → good_names u ≡ true → {r : Reason} → first_difference all v t u ≡ some r → GoodValues r.differs
+  pub reason-good : valid t ≡ true → valid u ≡ true → good_names t ≡ true → good_names u ≡ true → {r : Reason} → first_difference all v t u ≡ Some r → GoodValues r.differs
   reason-good a b f g {r} = found-good all v t u a b f g r
 
   -- With the sides exchanged the reason has its two values exchanged, and nothing else.

@@ -4,7 +4,7 @@ use mathlib.Core.Path.{◌≡◌, refl, sym, ap, subst, ◌∙◌}
 use mathlib.Core.Bool.{Bool, true, false, cond, not, ◌&&◌, false≢true, true≢false}
 use mathlib.Core.List.{List, [], ◌∷◌}
 use mathlib.Core.Logic.{◌⊎◌, inl, inr}
-use mathlib.Core.Option.{some, none}
+use Rattle.std.specs.Prelude.{Some, None}
 use lib.Dec.{eqb}
 use borrow.Author.Tests.{eqb-true, eqb-false, not-true}
 use Rattle.kinds.specs.Byte.{among, same_bytes}
@@ -20,12 +20,12 @@ use Rattle.reason_agreement.specs.Along.{item_at, follow, NodesDiffer, Differ}
 use Rattle.reason_agreement.proofs.AlongLaws.{item-keeps, follow-keeps, reason, else-some, else-none, nodes_own, at-root, below_root}
 use Rattle.reason_agreement.proofs.KindLaws.{kind-alone, equivalent-turned, with-offset, with-length, with-bits, with-name, labels-alike, ValidParts, valid-parts, same-items}
 
-unless-some : (b : Bool) (d : Difference) {e : Difference} → unless b d ≡ some e → (b ≡ false) × (d ≡ e)
+unless-some : (b : Bool) (d : Difference) {e : Difference} → unless b d ≡ Some e → (b ≡ false) × (d ≡ e)
 unfolding unless
 unless-some true d h = let z : true ≡ false = cc in absurd (true≢false z)
 unless-some false d {e} h = let z : d ≡ e = cc in (refl, z)
 
-unless-none : (b : Bool) (d : Difference) → unless b d ≡ none → b ≡ true
+unless-none : (b : Bool) (d : Difference) → unless b d ≡ None → b ≡ true
 unfolding unless
 unless-none true d h = refl
 unless-none false d h = let z : true ≡ false = cc in absurd (true≢false z)
@@ -39,7 +39,7 @@ pub record OwnSame (l m : Label) : Type 0 where
   pub lengths : length_of l ≡ length_of m
   pub names : T.name l ≡ T.name m
 
-pub own_same : (l m : Label) → own_difference l m ≡ none → OwnSame l m
+pub own_same : (l m : Label) → own_difference l m ≡ None → OwnSame l m
 unfolding own_difference
 own_same l m h =
     let a = else-none (unless (equivalent (T.kind l) (T.kind m)) (kind (T.kind l) (T.kind m))) _ h in
@@ -143,11 +143,11 @@ module _ (l m : Label) (cs ds : Trees) (a : valid_label l ≡ true) (b : valid_l
   to : {d e : Difference} → d ≡ e → NodesDiffer d l cs m ds → NodesDiffer e l cs m ds
   to p = subst (λ x. NodesDiffer x l cs m ds) p
 
-  own-right : {d : Difference} → own_difference l m ≡ some d → NodesDiffer d l cs m ds
+  own-right : {d : Difference} → own_difference l m ≡ Some d → NodesDiffer d l cs m ds
   unfolding own_difference
   own-right {d} h = kinds (else-some (unless (equivalent (T.kind l) (T.kind m)) (kind (T.kind l) (T.kind m))) _ h)
     where
-      names : equivalent (T.kind l) (T.kind m) ≡ true → unless (same_bytes (T.name l) (T.name m)) (name (T.name l) (T.name m)) ≡ some d → NodesDiffer d l cs m ds
+      names : equivalent (T.kind l) (T.kind m) ≡ true → unless (same_bytes (T.name l) (T.name m)) (name (T.name l) (T.name m)) ≡ Some d → NodesDiffer d l cs m ds
       names k q =
           let s = unless-some _ _ q in
           let n = bytes-differ (T.name l) (T.name m) s.0 in
@@ -155,8 +155,8 @@ module _ (l m : Label) (cs ds : Trees) (a : valid_label l ≡ true) (b : valid_l
           to s.1 (c.first, c.second, c.kinds, refl, refl, n)
 
       lengths : equivalent (T.kind l) (T.kind m) ≡ true
-          → (unless (eqb (length_of l) (length_of m)) (length (length_of l) (length_of m)) ≡ some d)
-          ⊎ ((unless (eqb (length_of l) (length_of m)) (length (length_of l) (length_of m)) ≡ none) × (unless (same_bytes (T.name l) (T.name m)) (name (T.name l) (T.name m)) ≡ some d))
+          → (unless (eqb (length_of l) (length_of m)) (length (length_of l) (length_of m)) ≡ Some d)
+          ⊎ ((unless (eqb (length_of l) (length_of m)) (length (length_of l) (length_of m)) ≡ None) × (unless (same_bytes (T.name l) (T.name m)) (name (T.name l) (T.name m)) ≡ Some d))
           → NodesDiffer d l cs m ds
       lengths k (inl q) =
           let s = unless-some _ _ q in
@@ -166,9 +166,9 @@ module _ (l m : Label) (cs ds : Trees) (a : valid_label l ≡ true) (b : valid_l
       lengths k (inr q) = names k q.1
 
       offsets : equivalent (T.kind l) (T.kind m) ≡ true → bits l ≡ bits m
-          → (unless (eqb (offset_of l) (offset_of m)) (offset (offset_of l) (offset_of m)) ≡ some d)
-          ⊎ ((unless (eqb (offset_of l) (offset_of m)) (offset (offset_of l) (offset_of m)) ≡ none)
-          × (or_else (unless (eqb (length_of l) (length_of m)) (length (length_of l) (length_of m))) (unless (same_bytes (T.name l) (T.name m)) (name (T.name l) (T.name m))) ≡ some d))
+          → (unless (eqb (offset_of l) (offset_of m)) (offset (offset_of l) (offset_of m)) ≡ Some d)
+          ⊎ ((unless (eqb (offset_of l) (offset_of m)) (offset (offset_of l) (offset_of m)) ≡ None)
+          × (or_else (unless (eqb (length_of l) (length_of m)) (length (length_of l) (length_of m))) (unless (same_bytes (T.name l) (T.name m)) (name (T.name l) (T.name m))) ≡ Some d))
           → NodesDiffer d l cs m ds
       offsets k e (inl q) =
           let s = unless-some _ _ q in
@@ -178,10 +178,10 @@ module _ (l m : Label) (cs ds : Trees) (a : valid_label l ≡ true) (b : valid_l
       offsets k e (inr q) = lengths k (else-some _ _ q.1)
 
       sizes : equivalent (T.kind l) (T.kind m) ≡ true
-          → (unless (eqb (bits l) (bits m)) (size (bits l) (bits m)) ≡ some d)
-          ⊎ ((unless (eqb (bits l) (bits m)) (size (bits l) (bits m)) ≡ none)
+          → (unless (eqb (bits l) (bits m)) (size (bits l) (bits m)) ≡ Some d)
+          ⊎ ((unless (eqb (bits l) (bits m)) (size (bits l) (bits m)) ≡ None)
           × (or_else (unless (eqb (offset_of l) (offset_of m)) (offset (offset_of l) (offset_of m)))
-          (or_else (unless (eqb (length_of l) (length_of m)) (length (length_of l) (length_of m))) (unless (same_bytes (T.name l) (T.name m)) (name (T.name l) (T.name m)))) ≡ some d))
+          (or_else (unless (eqb (length_of l) (length_of m)) (length (length_of l) (length_of m))) (unless (same_bytes (T.name l) (T.name m)) (name (T.name l) (T.name m)))) ≡ Some d))
           → NodesDiffer d l cs m ds
       sizes k (inl q) =
           let s = unless-some _ _ q in
@@ -190,17 +190,17 @@ module _ (l m : Label) (cs ds : Trees) (a : valid_label l ≡ true) (b : valid_l
           to s.1 (c.0, c.1, refl, refl, n)
       sizes k (inr q) = offsets k (eqb-true (bits l) (bits m) (unless-none _ _ q.0)) (else-some _ _ q.1)
 
-      kinds : (unless (equivalent (T.kind l) (T.kind m)) (kind (T.kind l) (T.kind m)) ≡ some d)
-          ⊎ ((unless (equivalent (T.kind l) (T.kind m)) (kind (T.kind l) (T.kind m)) ≡ none)
+      kinds : (unless (equivalent (T.kind l) (T.kind m)) (kind (T.kind l) (T.kind m)) ≡ Some d)
+          ⊎ ((unless (equivalent (T.kind l) (T.kind m)) (kind (T.kind l) (T.kind m)) ≡ None)
           × (or_else (unless (eqb (bits l) (bits m)) (size (bits l) (bits m)))
           (or_else (unless (eqb (offset_of l) (offset_of m)) (offset (offset_of l) (offset_of m)))
-          (or_else (unless (eqb (length_of l) (length_of m)) (length (length_of l) (length_of m))) (unless (same_bytes (T.name l) (T.name m)) (name (T.name l) (T.name m))))) ≡ some d))
+          (or_else (unless (eqb (length_of l) (length_of m)) (length (length_of l) (length_of m))) (unless (same_bytes (T.name l) (T.name m)) (name (T.name l) (T.name m))))) ≡ Some d))
           → NodesDiffer d l cs m ds
       kinds (inl q) = let s = unless-some _ _ q in to s.1 (refl, refl, s.0)
       kinds (inr q) = sizes (unless-none _ _ q.0) (else-some _ _ q.1)
 
   count-right : (v : NestingLevel) → valid_count l cs ≡ true → valid_count m ds ≡ true → OwnSame l m → {d : Difference}
-      → cond (items_compared l v cs ds) (count_difference cs ds) none ≡ some d → NodesDiffer d l cs m ds
+      → cond (items_compared l v cs ds) (count_difference cs ds) None ≡ Some d → NodesDiffer d l cs m ds
   unfolding items_compared count_difference
   count-right v p q o {d} h = compared (items_compared l v cs ds) refl h
     where
@@ -212,7 +212,7 @@ module _ (l m : Label) (cs ds : Trees) (a : valid_label l ≡ true) (b : valid_l
           to e (r.first, r.second, r.kinds, o.names, not-true (is_end cs) both_some.0, not-true (is_end ds) both_some.1, refl, refl, n)
       known false c k n e = absurd (n (same-items l m cs ds a b p q o.kinds c))
 
-      compared : (y : Bool) → items_compared l v cs ds ≡ y → cond y (count_difference cs ds) none ≡ some d → NodesDiffer d l cs m ds
+      compared : (y : Bool) → items_compared l v cs ds ≡ y → cond y (count_difference cs ds) None ≡ Some d → NodesDiffer d l cs m ds
       compared true e k = let s = unless-some _ _ k in known (is_container l) refl e (eqb-false (items cs) (items ds) s.0) s.1
       compared false e k = let z : true ≡ false = cc in absurd (true≢false z)
 
@@ -225,16 +225,16 @@ pub follow-valid : (p : List ℕ) (t : Trees) → valid t ≡ true → valid (fo
 follow-valid = follow-keeps (λ t. valid t ≡ true) (λ l cs ts h. (valid-parts l cs ts h).children) (λ l cs ts h. (valid-parts l cs ts h).others)
 
 root-right : (v : NestingLevel) (l m : Label) (cs ts ds us : Trees) {d : Difference} → valid (node l cs ts) ≡ true → valid (node m ds us) ≡ true
-    → nodes_own l m v cs ds ≡ some d → NodesDiffer d l cs m ds
+    → nodes_own l m v cs ds ≡ Some d → NodesDiffer d l cs m ds
 root-right v l m cs ts ds us {d} a b h = go (valid-parts l cs ts a) (valid-parts m ds us b) (else-some (own_difference l m) _ h)
   where
-    go : ValidParts l cs ts → ValidParts m ds us → (own_difference l m ≡ some d) ⊎ ((own_difference l m ≡ none) × (cond (items_compared l v cs ds) (count_difference cs ds) none ≡ some d))
+    go : ValidParts l cs ts → ValidParts m ds us → (own_difference l m ≡ Some d) ⊎ ((own_difference l m ≡ None) × (cond (items_compared l v cs ds) (count_difference cs ds) None ≡ Some d))
         → NodesDiffer d l cs m ds
     go p q (inl e) = own-right l m cs ds p.label q.label e
     go p q (inr e) = count-right l m cs ds p.label q.label v p.number q.number (own_same l m e.0) e.1
 
 pub found_right : (all : Bool) (v : NestingLevel) (p : List ℕ) (d : Difference) (t u : Trees) → valid t ≡ true → valid u ≡ true
-    → first_difference all v t u ≡ some (reason p d) → Differ d (follow p t) (follow p u)
+    → first_difference all v t u ≡ Some (reason p d) → Differ d (follow p t) (follow p u)
 unfolding first_difference follow
 found_right all v [] d end u a b h = let z : true ≡ false = cc in absurd (true≢false z)
 found_right all v [] d (node l cs ts) end a b h = let z : true ≡ false = cc in absurd (true≢false z)

@@ -2,7 +2,7 @@
 use Prim.Native.Nat.{ℕ, suc}
 use mathlib.Core.Path.{◌≡◌, refl, sym, ap, ap₂, ◌∙◌}
 use mathlib.Core.Bool.{Bool, true, false, cond, true≢false}
-use mathlib.Core.Option.{Option, some, none}
+use Rattle.std.specs.Prelude.{Option, Some, None}
 use Rattle.kinds.specs.Sound.{valid_label, valid}
 use Rattle.kinds.specs.Tree as T
 use Rattle.kinds.specs.Tree.{Label, Trees, end, node, primitive, bit_field, typed_bit_field, pointer, atomic, array, struct, union, is_end, is_container, inside, shows, keep, shown}
@@ -32,7 +32,7 @@ hides T.none v h = absurd (true≢false h)
 
 -- What is made of the items of two nodes that have the levels of `l`.
 in_items : Label → NestingLevel → Trees → Trees → Option Reason
-in_items l v cs ds = cond (items_compared l v cs ds) (or_else (here (count_difference cs ds)) (items_difference false (inside l v) 0 cs ds)) none
+in_items l v cs ds = cond (items_compared l v cs ds) (or_else (here (count_difference cs ds)) (items_difference false (inside l v) 0 cs ds)) None
 
 kept-items : (l : Label) (v : NestingLevel) (cs ds : Trees) → items_difference false (inside l v) 0 (shown (inside l v) cs) (shown (inside l v) ds) ≡ items_difference false (inside l v) 0 cs ds
     → in_items l v (keep (shows l v) (shown (inside l v) cs)) (keep (shows l v) (shown (inside l v) ds)) ≡ in_items l v cs ds
@@ -51,8 +51,8 @@ node-shown l m v cs ds a b e = go (own_difference l m) refl
   where
     go : (o : Option Difference) → own_difference l m ≡ o
         → or_else (here o) (in_items l v (keep (shows l v) (shown (inside l v) cs)) (keep (shows m v) (shown (inside m v) ds))) ≡ or_else (here o) (in_items l v cs ds)
-    go (some d) p = refl
-    go none p =
+    go (Some d) p = refl
+    go None p =
         let h = labels-alike l m a b (own_same l m p).kinds in
         ap₂ (λ x y. in_items l v (keep (shows l v) (shown (inside l v) cs)) (keep x (shown y ds))) (sym (h.shown v)) (sym (h.level v)) ∙ kept-items l v cs ds e
 

@@ -3,7 +3,7 @@ use Prim.Native.Nat.{ℕ, suc}
 use mathlib.Core.Path.{◌≡◌, refl, sym, ap, ap₂, ◌∙◌}
 use mathlib.Core.Bool.{Bool, true, false, cond, not, ◌&&◌}
 use mathlib.Core.List.{List, [], ◌∷◌}
-use mathlib.Core.Option.{Option, some, none}
+use Rattle.std.specs.Prelude.{Option, Some, None}
 use lib.Dec.{eqb}
 use borrow.Author.Tests.{eqb-true, eqb-false, eq-eqb, ne_eqb}
 use Rattle.kinds.specs.Byte.{same_bytes}
@@ -21,31 +21,31 @@ use Rattle.reason_agreement.proofs.RightLaws.{own_same}
 -- ---- The parts of the definition.
 
 unfoldable turned_if : Option Difference → Option Difference
-turned_if none = none
-turned_if (some d) = some (turned d)
+turned_if None = None
+turned_if (Some d) = Some (turned d)
 
 swap-here : (x : Option Difference) → here (turned_if x) ≡ swapped (here x)
 unfolding turned_if here swapped
-swap-here none = refl
-swap-here (some d) = refl
+swap-here None = refl
+swap-here (Some d) = refl
 
 swap-under : (i : ℕ) (x : Option Reason) → under i (swapped x) ≡ swapped (under i x)
 unfolding under swapped
-swap-under i none = refl
-swap-under i (some r) = refl
+swap-under i None = refl
+swap-under i (Some r) = refl
 
 swap-else : (x y : Option Reason) → or_else (swapped x) (swapped y) ≡ swapped (or_else x y)
 unfolding or_else swapped
-swap-else none y = refl
-swap-else (some r) y = refl
+swap-else None y = refl
+swap-else (Some r) y = refl
 
 turn-else : (x y : Option Difference) {x' y' : Option Difference} → x' ≡ turned_if x → y' ≡ turned_if y → or_else x' y' ≡ turned_if (or_else x y)
 unfolding or_else turned_if
 turn-else x y e f = ap₂ (λ a b. or_else a b) e f ∙ go x
   where
     go : (z : Option Difference) → or_else (turned_if z) (turned_if y) ≡ turned_if (or_else z y)
-    go none = refl
-    go (some d) = refl
+    go None = refl
+    go (Some d) = refl
 
 turn-unless : {b c : Bool} (d : Difference) → c ≡ b → unless c (turned d) ≡ turned_if (unless b d)
 unfolding unless turned_if
@@ -93,19 +93,19 @@ node-turned : (l m : Label) (v : NestingLevel) (cs ds : Trees) (x x' : Option Re
 unfolding node_difference turned_if here or_else swapped
 node-turned l m v cs ds x x' a b f = go (own_difference l m) refl
   where
-    inner : Alike l m → (y : Bool) → cond y (or_else (here (count_difference ds cs)) x') none ≡ swapped (cond y (or_else (here (count_difference cs ds)) x) none)
+    inner : Alike l m → (y : Bool) → cond y (or_else (here (count_difference ds cs)) x') None ≡ swapped (cond y (or_else (here (count_difference cs ds)) x) None)
     inner h true = ap₂ (λ p q. or_else p q) (ap here (count-turned cs ds) ∙ swap-here (count_difference cs ds)) (f h) ∙ swap-else (here (count_difference cs ds)) x
     inner h false = refl
 
     go : (o : Option Difference) → own_difference l m ≡ o → node_difference m l v ds cs x' ≡ swapped (node_difference l m v cs ds x)
-    go (some d) e = rw (own-turned l m, e)
-    go none e =
+    go (Some d) e = rw (own-turned l m, e)
+    go None e =
         let h = labels-alike l m a b (own_same l m e).kinds in
         rw (own-turned l m, e, compared-turned l m h v cs ds) (inner h (items_compared l v cs ds))
 
 -- ---- Trees.
 
-no_items : (all : Bool) (v : NestingLevel) (i : ℕ) (u : Trees) → items_difference all v i u end ≡ none
+no_items : (all : Bool) (v : NestingLevel) (i : ℕ) (u : Trees) → items_difference all v i u end ≡ None
 unfolding items_difference
 no_items all v i end = refl
 no_items all v i (node m ds us) = refl

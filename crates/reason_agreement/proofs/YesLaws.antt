@@ -4,7 +4,7 @@ use native.Mathlib.Omega.{arith}
 use mathlib.Core.Path.{◌≡◌, refl, sym, ap, ap₂, ◌∙◌}
 use mathlib.Core.Bool.{Bool, true, false, cond, not, ◌&&◌, ◌||◌, false≢true}
 use mathlib.Core.Logic.{◌⊎◌, inl, inr}
-use mathlib.Core.Option.{Option, some, none}
+use Rattle.std.specs.Prelude.{Option, Some, None}
 use lib.Dec.{eqb, eqb-zero-suc, eqb-suc-zero, eqb-suc-suc}
 use borrow.Author.Tests.{eq-eqb}
 use Rattle.kinds.specs.Byte.{among, same_bytes}
@@ -21,18 +21,18 @@ use Rattle.reason_agreement.proofs.KindLaws.{kind-alone, equivalent-turned, both
 
 none-else : {A : Type 0} (x y : Option A) → is_none (or_else x y) ≡ (is_none x && is_none y)
 unfolding is_none or_else
-none-else none y = refl
-none-else (some x) y = refl
+none-else None y = refl
+none-else (Some x) y = refl
 
 none_here : (x : Option Difference) → is_none (here x) ≡ is_none x
 unfolding is_none here
-none_here none = refl
-none_here (some d) = refl
+none_here None = refl
+none_here (Some d) = refl
 
 none-under : (i : ℕ) (x : Option Reason) → is_none (under i x) ≡ is_none x
 unfolding is_none under
-none-under i none = refl
-none-under i (some r) = refl
+none-under i None = refl
+none-under i (Some r) = refl
 
 none-unless : (b : Bool) (d : Difference) → is_none (unless b d) ≡ b
 unfolding is_none unless
@@ -112,7 +112,7 @@ unfolding node_difference count_difference is_none
 none-node l m v cs ds x =
     none-else (here (own_difference l m)) _ ∙ ap₂ (λ p q. p && q) (none_here (own_difference l m) ∙ none-own l m) (go (items_compared l v cs ds))
   where
-    go : (y : Bool) → is_none (cond y (or_else (here (count_difference cs ds)) x) none) ≡ cond y (eqb (items cs) (items ds) && is_none x) true
+    go : (y : Bool) → is_none (cond y (or_else (here (count_difference cs ds)) x) None) ≡ cond y (eqb (items cs) (items ds) && is_none x) true
     go true = simp (none-else, none_here, none-unless)
     go false = refl
 
@@ -158,4 +158,4 @@ yes-exactly all v (node l cs (node m ds us)) (node o es xs) a b = absurd (false�
 yes-exactly all v (node l cs end) (node o es (node m ds us)) a b = absurd (false≢true b)
 yes-exactly all v (node l cs end) (node m ds end) a b =
     let x = node_difference l m (level_for all v) cs ds (items_difference all (inside l (level_for all v)) 0 cs ds) in
-    items-yes all v 0 (node l cs end) (node m ds end) ∙ none-else (under 0 x) none ∙ ap (λ y. y && is_none {A = Reason} none) (none-under 0 x) ∙ and-true (is_none x)
+    items-yes all v 0 (node l cs end) (node m ds end) ∙ none-else (under 0 x) None ∙ ap (λ y. y && is_none {A = Reason} None) (none-under 0 x) ∙ and-true (is_none x)

@@ -1,6 +1,6 @@
 -- The comparison of two trees followed along a path, whatever stands before it in the order; and what a difference says of the two nodes.
 use Rattle.std.specs.Prelude.{ℕ, zero, suc, Bool, true, false, cond, ◌&&◌, ◌||◌, List, [], ◌∷◌, ◌≡◌, ltb, eqb}
-use Rattle.std.proofs.Math.Option.{Option, some, none}
+use Rattle.std.specs.Prelude.{Option, Some, None}
 use Rattle.kinds.specs.Byte.{among}
 use Rattle.kinds.specs.Compare.{bits, level_for}
 use Rattle.kinds.specs.Primitive.{equivalent}
@@ -32,13 +32,13 @@ before (i ∷ p) (j ∷ q) = ltb i j || (eqb i j && before p q)
 
 -- What differs of the two nodes at a path, their items' own differences aside, where the comparison comes to both.
 unfoldable pub difference_along : Bool → NestingLevel → List ℕ → Trees → Trees → Option Difference
-difference_along all v [] end u = none
-difference_along all v [] (node l cs ts) end = none
-difference_along all v [] (node l cs ts) (node m ds us) = or_else (own_difference l m) (cond (items_compared l (level_for all v) cs ds) (count_difference cs ds) none)
-difference_along all v (i ∷ p) end u = none
-difference_along all v (i ∷ p) (node l cs ts) end = none
+difference_along all v [] end u = None
+difference_along all v [] (node l cs ts) end = None
+difference_along all v [] (node l cs ts) (node m ds us) = or_else (own_difference l m) (cond (items_compared l (level_for all v) cs ds) (count_difference cs ds) None)
+difference_along all v (i ∷ p) end u = None
+difference_along all v (i ∷ p) (node l cs ts) end = None
 difference_along all v (i ∷ p) (node l cs ts) (node m ds us) =
-    cond (items_compared l (level_for all v) cs ds) (difference_along all (inside l (level_for all v)) p (item_at i cs) (item_at i ds)) none
+    cond (items_compared l (level_for all v) cs ds) (difference_along all (inside l (level_for all v)) p (item_at i cs) (item_at i ds)) None
 
 -- ---- What a difference says.
 
@@ -71,10 +71,10 @@ turned (count a b) = count b a
 
 -- The same reason with its two values exchanged.
 unfoldable pub swapped : Option Reason → Option Reason
-swapped none = none
-swapped (some r) = some (record { path = r.path; differs = turned r.differs })
+swapped None = None
+swapped (Some r) = Some (record { path = r.path; differs = turned r.differs })
 
 -- There is no reason.
 unfoldable pub is_none : {A : Type 0} → Option A → Bool
-is_none none = true
-is_none (some x) = false
+is_none None = true
+is_none (Some x) = false

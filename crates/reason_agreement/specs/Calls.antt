@@ -1,6 +1,6 @@
 -- What the calls answer, held against each other.
 use Rattle.std.specs.Prelude.{ℕ, Bool, true, false, List, ◌++◌, ◌≡◌, length, drop}
-use Rattle.std.proofs.Math.Option.{some}
+use Rattle.std.specs.Prelude.{Some}
 use Rattle.kinds.specs.Sound.{valid}
 use Rattle.kinds.specs.Tree.{Trees}
 use Rattle.kinds.specs.declared.Compared.{Compared}
@@ -28,7 +28,7 @@ pub record Written (all : Bool) (aw an bw bn out : List ℕ) (n : ℕ) : Type 0 
   pub second-held : held bw bn ≡ holding second
   pub first-valid : valid first ≡ true
   pub second-valid : valid second ≡ true
-  pub found : first_difference all Top first second ≡ some reason
+  pub found : first_difference all Top first second ≡ Some reason
   pub right : Differ reason.differs (follow reason.path first) (follow reason.path second)
   pub good : GoodValues reason.differs
   pub long : length (reason_text reason) ≡ n

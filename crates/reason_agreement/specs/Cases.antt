@@ -1,6 +1,6 @@
 -- Two texts and the reason of the trees that they are read as, as one table: the header's examples and more where one rule meets another.
 use Rattle.std.specs.Prelude.{ℕ, ◌≡◌, Bool, true, false, List, [], ◌∷◌, ◌++◌}
-use Rattle.std.proofs.Math.Option.{Option, some, none}
+use Rattle.std.specs.Prelude.{Option, Some, None}
 use Rattle.kinds.specs.Byte.{bytes}
 use Rattle.kinds.specs.Parse.{Whole, tree, refusal, from_str}
 use Rattle.kinds.specs.Tree.{end, node}
@@ -14,8 +14,8 @@ pub data Told : Type 0 where
   no : List ℕ → Told
 
 unfoldable pub told : Option Reason → Told
-told none = yes
-told (some r) = no (reason_text r)
+told None = yes
+told (Some r) = no (reason_text r)
 
 -- By levels, or with `all` fields.
 unfoldable pub told_of : Bool → Whole → Whole → Told

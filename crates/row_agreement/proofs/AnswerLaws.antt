@@ -4,7 +4,7 @@ use native.Mathlib.Omega.{arith}
 use mathlib.Core.Bool.{Bool, true, false, cond}
 use mathlib.Core.List.{List}
 use mathlib.Core.Logic.{◌↔◌}
-use mathlib.Core.Option.{Option, some, none}
+use Rattle.std.specs.Prelude.{Option, Some, None}
 use mathlib.Core.Path.{◌≡◌, refl, sym, ap, ◌∙◌}
 use borrow.Author.Tests.{le-leb, lt-leb, leb-true, leb-false}
 use lib.Dec.{leb}
@@ -28,37 +28,37 @@ use Rattle.row_agreement.proofs.NoneLaws.{size_none, struct-none, zero-items, no
 -- ---- What is answered in a row.
 
 module _ (limit : ℕ) where
-  sized-nothing : (x : Option ℕ) → sized limit x ≡ S.Nothing → x ≡ none
+  sized-nothing : (x : Option ℕ) → sized limit x ≡ S.Nothing → x ≡ None
   unfolding sized
-  sized-nothing none e = refl
-  sized-nothing (some n) e = go (leb n limit) e
+  sized-nothing None e = refl
+  sized-nothing (Some n) e = go (leb n limit) e
     where
-      go : (b : Bool) → cond b (S.Bytes n) (S.Refused R.SizeTooLarge) ≡ S.Nothing → some n ≡ none
+      go : (b : Bool) → cond b (S.Bytes n) (S.Refused R.SizeTooLarge) ≡ S.Nothing → Some n ≡ None
       go true e = cc
       go false e = cc
 
-  sized-bytes : (x : Option ℕ) (n : ℕ) → sized limit x ≡ S.Bytes n → (x ≡ some n) × (n ≤ limit)
+  sized-bytes : (x : Option ℕ) (n : ℕ) → sized limit x ≡ S.Bytes n → (x ≡ Some n) × (n ≤ limit)
   unfolding sized
-  sized-bytes none n e = let z : ◌≡◌ {A = ℕ} 0 1 = cc in absurd (omega arith)
-  sized-bytes (some m) n e = go (leb m limit) refl e
+  sized-bytes None n e = let z : ◌≡◌ {A = ℕ} 0 1 = cc in absurd (omega arith)
+  sized-bytes (Some m) n e = go (leb m limit) refl e
     where
-      go : (b : Bool) → leb m limit ≡ b → cond b (S.Bytes m) (S.Refused R.SizeTooLarge) ≡ S.Bytes n → (some m ≡ some n) × (n ≤ limit)
-      go true d e = let q : m ≡ n = cc in (ap some q, omega (arith, leb-true m limit d))
+      go : (b : Bool) → leb m limit ≡ b → cond b (S.Bytes m) (S.Refused R.SizeTooLarge) ≡ S.Bytes n → (Some m ≡ Some n) × (n ≤ limit)
+      go true d e = let q : m ≡ n = cc in (ap Some q, omega (arith, leb-true m limit d))
       go false d e = let z : ◌≡◌ {A = ℕ} 0 1 = cc in absurd (omega arith)
 
-  sized-large : (x : Option ℕ) → sized limit x ≡ S.Refused R.SizeTooLarge → (n : ℕ) × (x ≡ some n) × (limit < n)
+  sized-large : (x : Option ℕ) → sized limit x ≡ S.Refused R.SizeTooLarge → (n : ℕ) × (x ≡ Some n) × (limit < n)
   unfolding sized
-  sized-large none e = let z : ◌≡◌ {A = ℕ} 0 1 = cc in absurd (omega arith)
-  sized-large (some m) e = go (leb m limit) refl e
+  sized-large None e = let z : ◌≡◌ {A = ℕ} 0 1 = cc in absurd (omega arith)
+  sized-large (Some m) e = go (leb m limit) refl e
     where
-      go : (b : Bool) → leb m limit ≡ b → cond b (S.Bytes m) (S.Refused R.SizeTooLarge) ≡ S.Refused R.SizeTooLarge → (n : ℕ) × (some m ≡ some n) × (limit < n)
+      go : (b : Bool) → leb m limit ≡ b → cond b (S.Bytes m) (S.Refused R.SizeTooLarge) ≡ S.Refused R.SizeTooLarge → (n : ℕ) × (Some m ≡ Some n) × (limit < n)
       go true d e = let z : ◌≡◌ {A = ℕ} 0 1 = cc in absurd (omega arith)
       go false d e = (m, refl, leb-false m limit d)
 
   sized-no-row : (x : Option ℕ) → sized limit x ≡ S.Refused R.NoSuchRow → ⊥
   unfolding sized
-  sized-no-row none e = let z : ◌≡◌ {A = ℕ} 0 1 = cc in omega arith
-  sized-no-row (some m) e = go (leb m limit) e
+  sized-no-row None e = let z : ◌≡◌ {A = ℕ} 0 1 = cc in omega arith
+  sized-no-row (Some m) e = go (leb m limit) e
     where
       go : (b : Bool) → cond b (S.Bytes m) (S.Refused R.SizeTooLarge) ≡ S.Refused R.NoSuchRow → ⊥
       go true e = let z : ◌≡◌ {A = ℕ} 0 1 = cc in omega arith
@@ -95,18 +95,18 @@ module _ (row : ℕ) (words names : List ℕ) where
     unfolding sized_in
     row-answer = held-answer h ∙ rw r
 
-    pub answer-nothing : (size_answer row words names ≡ S.Nothing) ↔ (size (widths row) t ≡ none)
+    pub answer-nothing : (size_answer row words names ≡ S.Nothing) ↔ (size (widths row) t ≡ None)
     unfolding sized
     answer-nothing = (λ e. sized-nothing (max_size row) (size (widths row) t) (sym row-answer ∙ e), λ e. row-answer ∙ ap (sized (max_size row)) e)
 
-    pub answer-bytes : (n : ℕ) → (size_answer row words names ≡ S.Bytes n) ↔ ((size (widths row) t ≡ some n) × (n ≤ max_size row))
+    pub answer-bytes : (n : ℕ) → (size_answer row words names ≡ S.Bytes n) ↔ ((size (widths row) t ≡ Some n) × (n ≤ max_size row))
     unfolding sized
     answer-bytes n = (
       λ e. sized-bytes (max_size row) (size (widths row) t) n (sym row-answer ∙ e),
       λ e. row-answer ∙ ap (sized (max_size row)) e.0 ∙ rw (le-leb n (max_size row) e.1),
     )
 
-    pub answer-large : (size_answer row words names ≡ S.Refused R.SizeTooLarge) ↔ ((n : ℕ) × (size (widths row) t ≡ some n) × (max_size row < n))
+    pub answer-large : (size_answer row words names ≡ S.Refused R.SizeTooLarge) ↔ ((n : ℕ) × (size (widths row) t ≡ Some n) × (max_size row < n))
     unfolding sized
     answer-large = (
       λ e. sized-large (max_size row) (size (widths row) t) (sym row-answer ∙ e),

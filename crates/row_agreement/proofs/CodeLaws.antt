@@ -2,7 +2,7 @@
 use Prim.Native.Nat.{ℕ, ◌*◌, ◌≤◌}
 use mathlib.Core.Bool.{Bool, true, false, cond, not, ◌&&◌, true≢false}
 use mathlib.Core.List.{List, ◌∷◌, map}
-use mathlib.Core.Option.{Option, some, none}
+use Rattle.std.specs.Prelude.{Option, Some, None}
 use mathlib.Core.Path.{◌≡◌, refl, sym, ap, ap₂, ◌∙◌}
 use borrow.Author.Tests.{leb-true, leb-false, not-true, eqb-true}
 use lib.Dec.{leb}
@@ -21,7 +21,7 @@ use Rattle.row_agreement.specs.Lacking.{is_code, lacks, is_long_double, is_long,
 -- Other kinds have no size on any machine.
 beyond : (w u : Widths) (p : ℕ) → 24 ≤ p → primitive_size w p ≡ primitive_size u p
 unfolding primitive_size
-beyond w u p h = get_or-eq_default (map (width w) primitives) none h ∙ sym (get_or-eq_default (map (width u) primitives) none h)
+beyond w u p h = get_or-eq_default (map (width w) primitives) None h ∙ sym (get_or-eq_default (map (width u) primitives) None h)
 
 -- What holds of the 24 codes and of all beyond them holds of all.
 every : (P : ℕ → Type 0) → Below P 24 → ((p : ℕ) → 24 ≤ p → P p) → (p : ℕ) → P p
@@ -39,7 +39,7 @@ module _ (f : ℕ → Bool) (w u : Widths) (a : (p : ℕ) → f p ≡ false → 
   node_alike (primitive p) v xs h = a p h
   node_alike (bit_field n) v xs h = refl
   node_alike (typed_bit_field o n) v xs h = refl
-  node_alike pointer v xs h = ap some b
+  node_alike pointer v xs h = ap Some b
   node_alike atomic v xs h = refl
   node_alike (array n) v xs h = refl
   node_alike (struct s) v xs h = refl
@@ -63,10 +63,10 @@ module _ (w u : Widths) where
     long-double-codes : (p : ℕ) → is_long_double p ≡ false → primitive_size w p ≡ primitive_size u p
     unfolding is_long_double among primitive_size
     long-double-codes = every (λ p. is_long_double p ≡ false → primitive_size w p ≡ primitive_size u p)
-        (tt next (λ h. refl) next (λ h. refl) next (λ h. refl) next (λ h. ap some a) next (λ h. refl)
-        next (λ h. refl) next (λ h. refl) next (λ h. refl) next (λ h. ap some b) next (λ h. refl)
+        (tt next (λ h. refl) next (λ h. refl) next (λ h. refl) next (λ h. ap Some a) next (λ h. refl)
+        next (λ h. refl) next (λ h. refl) next (λ h. refl) next (λ h. ap Some b) next (λ h. refl)
         next (λ h. refl) next (λ h. refl) next (λ h. absurd (true≢false h)) next (λ h. refl) next (λ h. refl) next (λ h. absurd (true≢false h))
-        next (λ h. refl) next (λ h. refl) next (λ h. ap some c) next (λ h. ap some c) next (λ h. ap some c) next (λ h. ap some c) next (λ h. ap some c) next (λ h. refl))
+        next (λ h. refl) next (λ h. refl) next (λ h. ap Some c) next (λ h. ap Some c) next (λ h. ap Some c) next (λ h. ap Some c) next (λ h. ap Some c) next (λ h. refl))
         (λ p g h. beyond w u p g)
 
     pub without-long-double : (t : Trees) → no_long_double t ≡ true → size w t ≡ size u t
@@ -74,16 +74,16 @@ module _ (w u : Widths) where
 
   module _ (a : w.unsigned-long ≡ u.unsigned-long) (b : w.pointer ≡ u.pointer) (c : w.long-double ≡ u.long-double) where
     -- the complex number of two
-    two : some (2 * w.long-double) ≡ some (2 * u.long-double)
-    two = ap (λ x. some (2 * x)) c
+    two : Some (2 * w.long-double) ≡ Some (2 * u.long-double)
+    two = ap (λ x. Some (2 * x)) c
 
     long-codes : (p : ℕ) → is_long p ≡ false → primitive_size w p ≡ primitive_size u p
     unfolding is_long primitive_size
     long-codes = every (λ p. is_long p ≡ false → primitive_size w p ≡ primitive_size u p)
         (tt next (λ h. refl) next (λ h. refl) next (λ h. refl) next (λ h. absurd (true≢false h)) next (λ h. refl)
-        next (λ h. refl) next (λ h. refl) next (λ h. refl) next (λ h. ap some a) next (λ h. refl)
-        next (λ h. refl) next (λ h. refl) next (λ h. ap some c) next (λ h. refl) next (λ h. refl) next (λ h. two)
-        next (λ h. refl) next (λ h. refl) next (λ h. ap some b) next (λ h. ap some b) next (λ h. ap some b) next (λ h. ap some b) next (λ h. ap some b) next (λ h. refl))
+        next (λ h. refl) next (λ h. refl) next (λ h. refl) next (λ h. ap Some a) next (λ h. refl)
+        next (λ h. refl) next (λ h. refl) next (λ h. ap Some c) next (λ h. refl) next (λ h. refl) next (λ h. two)
+        next (λ h. refl) next (λ h. refl) next (λ h. ap Some b) next (λ h. ap Some b) next (λ h. ap Some b) next (λ h. ap Some b) next (λ h. ap Some b) next (λ h. refl))
         (λ p g h. beyond w u p g)
 
     pub without-long : (t : Trees) → no_long t ≡ true → size w t ≡ size u t
@@ -97,7 +97,7 @@ module _ (w u : Widths) where
       int-codes p = go (is_long p) refl
         where
           go : (x : Bool) → is_long p ≡ x → primitive_size w p ≡ primitive_size u (cond x 2 p)
-          go true e = ap (primitive_size w) (eqb-true p 3 e) ∙ ap some d
+          go true e = ap (primitive_size w) (eqb-true p 3 e) ∙ ap Some d
           go false e = long-codes p e
 
       inside-int : (l : Label) (v : NestingLevel) → inside (int_for l) v ≡ inside l v
@@ -117,7 +117,7 @@ module _ (w u : Widths) where
       node-int (primitive p) v xs = int-codes p
       node-int (bit_field n) v xs = refl
       node-int (typed_bit_field o n) v xs = refl
-      node-int pointer v xs = ap some b
+      node-int pointer v xs = ap Some b
       node-int atomic v xs = refl
       node-int (array n) v xs = refl
       node-int (struct s) v xs = refl

@@ -3,7 +3,7 @@ use Prim.Native.Nat.{ℕ, zero, suc}
 use native.Mathlib.Omega.{arith}
 use mathlib.Core.Bool.{Bool, true, false, cond, ◌&&◌, ◌||◌, true≢false, false≢true}
 use mathlib.Core.List.{List, [], ◌∷◌, map}
-use mathlib.Core.Option.{Option, some, none}
+use Rattle.std.specs.Prelude.{Option, Some, None}
 use mathlib.Core.Path.{◌≡◌, refl, sym, ap, ap₂, ◌∙◌}
 use lib.ListN.{get_or}
 use Rattle.kinds.specs.Level.{shows_fields}
@@ -21,20 +21,20 @@ use Rattle.row_agreement.specs.Lacking.{size_from, one_none, all_none}
 
 plus_none : (a b : Option ℕ) → is_none (plus a b) ≡ (is_none a || is_none b)
 unfolding is_none plus
-plus_none none b = refl
-plus_none (some a) none = refl
-plus_none (some a) (some b) = refl
+plus_none None b = refl
+plus_none (Some a) None = refl
+plus_none (Some a) (Some b) = refl
 
 larger-none : (a b : Option ℕ) → is_none (larger a b) ≡ (is_none a && is_none b)
 unfolding is_none larger
-larger-none none b = refl
-larger-none (some a) none = refl
-larger-none (some a) (some b) = refl
+larger-none None b = refl
+larger-none (Some a) None = refl
+larger-none (Some a) (Some b) = refl
 
 times_none : (n : ℕ) (a : Option ℕ) → is_none (times n a) ≡ is_none a
 unfolding is_none times
-times_none n none = refl
-times_none n (some a) = refl
+times_none n None = refl
+times_none n (Some a) = refl
 
 sum-none : (xs : List (Option ℕ)) → is_none (sum xs) ≡ one_none xs
 unfolding sum one_none is_none
@@ -109,12 +109,12 @@ module _ (w u : Widths) where
   width-none P.Sel = refl
   width-none P.Unknown = refl
 
-  widths-none : (ps : List Primitive) (p : ℕ) → is_none (get_or (map (width w) ps) p none) ≡ is_none (get_or (map (width u) ps) p none)
+  widths-none : (ps : List Primitive) (p : ℕ) → is_none (get_or (map (width w) ps) p None) ≡ is_none (get_or (map (width u) ps) p None)
   widths-none [] p = refl
   widths-none (q ∷ ps) zero = width-none q
   widths-none (q ∷ ps) (suc p) = widths-none ps p
 
-  shown-none : (b : Bool) (x y : Option ℕ) → is_none x ≡ is_none y → is_none (cond b x none) ≡ is_none (cond b y none)
+  shown-none : (b : Bool) (x y : Option ℕ) → is_none x ≡ is_none y → is_none (cond b x None) ≡ is_none (cond b y None)
   shown-none true x y e = e
   shown-none false x y e = refl
 
@@ -149,16 +149,16 @@ module _ (w : Widths) (v : NestingLevel) (h : shows_fields v ≡ true) (s : List
   unfolding sizes node_size only
   union-none = rw h (largest-none (sizes w Within cs))
 
-times_zero : (x : Option ℕ) → is_none x ≡ false → times 0 x ≡ some 0
+times_zero : (x : Option ℕ) → is_none x ≡ false → times 0 x ≡ Some 0
 unfolding is_none times
-times_zero none e = absurd (true≢false e)
-times_zero (some n) e = ap some (omega arith)
+times_zero None e = absurd (true≢false e)
+times_zero (Some n) e = ap Some (omega arith)
 
-pub zero-items : (w u : Widths) (v : NestingLevel) (t ts : Trees) → is_none (size_from u v t) ≡ false → size_from w v (node (array 0) t ts) ≡ some 0
+pub zero-items : (w u : Widths) (v : NestingLevel) (t ts : Trees) → is_none (size_from u v t) ≡ false → size_from w v (node (array 0) t ts) ≡ Some 0
 unfolding sizes node_size only
 zero-items w u v t ts e = times_zero (size_from w v t) (size_none w u v t ∙ e)
 
-pub none_is : (x : Option ℕ) → is_none x ≡ true → x ≡ none
+pub none_is : (x : Option ℕ) → is_none x ≡ true → x ≡ None
 unfolding is_none
-none_is none e = refl
-none_is (some n) e = absurd (false≢true e)
+none_is None e = refl
+none_is (Some n) e = absurd (false≢true e)

@@ -4,7 +4,7 @@ use Prim.Native.Nat.{ℕ, ◌≤◌, ◌<◌}
 use mathlib.Core.Bool.{true, false}
 use mathlib.Core.List.{List}
 use mathlib.Core.Logic.{◌↔◌}
-use mathlib.Core.Option.{some, none}
+use Rattle.std.specs.Prelude.{Some, None}
 use mathlib.Core.Path.{◌≡◌, refl}
 use Rattle.kinds.specs.Level.{shows_fields}
 use Rattle.kinds.specs.Parse.{max_u32, max_u64}
@@ -40,7 +40,7 @@ module _ (w : Widths) (v : NestingLevel) where
   none_last = union-none w v
 
   -- 0 times any size is 0: an array of no items has 0 bytes if an item has a size on some machine, however large.
-  pub zero-times : (u : Widths) (t ts : Trees) → is_none (size_from u v t) ≡ false → size_from w v (node (array 0) t ts) ≡ some 0
+  pub zero-times : (u : Widths) (t ts : Trees) → is_none (size_from u v t) ≡ false → size_from w v (node (array 0) t ts) ≡ Some 0
   zero-times u = zero-items w u v
 
 module _ (w u : Widths) where
@@ -70,13 +70,13 @@ module _ (words names : List ℕ) where
 
     -- In a row that there is, the exact size decides: none, at most the row's largest, or refusal 6.
     module _ {t : Trees} (h : held words names ≡ holding t) (r : is_row row ≡ true) where
-      pub without-size : (size_answer row words names ≡ Nothing) ↔ (size (widths row) t ≡ none)
+      pub without-size : (size_answer row words names ≡ Nothing) ↔ (size (widths row) t ≡ None)
       without-size = answer-nothing row words names h r
 
-      pub in_bytes : (n : ℕ) → (size_answer row words names ≡ Bytes n) ↔ ((size (widths row) t ≡ some n) × (n ≤ max_size row))
+      pub in_bytes : (n : ℕ) → (size_answer row words names ≡ Bytes n) ↔ ((size (widths row) t ≡ Some n) × (n ≤ max_size row))
       in_bytes = answer-bytes row words names h r
 
-      pub too_large_lem : (size_answer row words names ≡ Refused R.SizeTooLarge) ↔ ((n : ℕ) × (size (widths row) t ≡ some n) × (max_size row < n))
+      pub too_large_lem : (size_answer row words names ≡ Refused R.SizeTooLarge) ↔ ((n : ℕ) × (size (widths row) t ≡ Some n) × (max_size row < n))
       too_large_lem = answer-large row words names h r
 
   -- No size in one row, no size in any.

@@ -1,6 +1,6 @@
 -- Sizes at a level, sizes that are none, trees without a long double or a long, and trees with ints for longs.
 use Rattle.std.specs.Prelude.{ℕ, Bool, true, false, cond, not, ◌&&◌, ◌||◌, List, [], ◌∷◌, eqb}
-use Rattle.std.proofs.Math.Option.{Option, some, none}
+use Rattle.std.specs.Prelude.{Option}
 use Rattle.kinds.specs.Byte.{among}
 use Rattle.kinds.specs.Primitive.{Widths, kind_of}
 use Rattle.kinds.specs.Size.{is_none, only, sizes}

@@ -3,7 +3,7 @@ use Prim.Native.Nat.{ℕ, ◌+◌, ◌-◌, ◌≤◌}
 use native.Mathlib.Omega.{arith}
 use mathlib.Core.Bool.{Bool, true, false, cond, false≢true}
 use mathlib.Core.List.{List, ◌++◌, append_assoc}
-use mathlib.Core.Option.{Option, some, none}
+use Rattle.std.specs.Prelude.{Option, Some, None}
 use mathlib.Core.Path.{◌≡◌, refl, sym, ap, ◌∙◌}
 use borrow.Author.Tests.{ltb-false, le-ltb, le-leb, leb-true}
 use lib.Dec.{leb, ltb}
@@ -42,26 +42,26 @@ front n k xs list e =
     let d = drop n list in
     append_assoc xs z d ∙ ap (λ (y : List ℕ). xs ++ y) (sym (drop-append_seam xs (z ++ d)) ∙ ap (drop (length xs)) (sym (append_assoc xs z d)) ∙ ap (λ (i : ℕ). drop i ((xs ++ z) ++ d)) e)
 
-short-text : (text words names : List ℕ) → turned_away text words names ≡ none → length text ≤ max_text
+short-text : (text words names : List ℕ) → turned_away text words names ≡ None → length text ≤ max_text
 unfolding turned_away
 short-text text words names = go (ltb max_text (length text)) refl
   where
-    go : (x : Bool) → ltb max_text (length text) ≡ x → cond x (some TextTooLong) (cond (has_room text words names) none (some ListTooShort)) ≡ none → length text ≤ max_text
+    go : (x : Bool) → ltb max_text (length text) ≡ x → cond x (Some TextTooLong) (cond (has_room text words names) None (Some ListTooShort)) ≡ None → length text ≤ max_text
     go true e h = let z : ◌≡◌ {A = ℕ} 0 1 = cc in absurd (omega arith)
     go false e h = ltb-false max_text (length text) e
 
 -- ---- A tree that was read stands in the lists.
 
-module _ (text words names : List ℕ) (t : Trees) (r : Readable (length text) t) (e : turned_away text words names ≡ none) where
-  words-after : words_after text words names (some t) ≡ filled (used (length text)) (sheet_of t) words
+module _ (text words names : List ℕ) (t : Trees) (r : Readable (length text) t) (e : turned_away text words names ≡ None) where
+  words-after : words_after text words names (Some t) ≡ filled (used (length text)) (sheet_of t) words
   unfolding words_after unless_away sheet_words
   words-after = rw e
 
-  names-after : names_after text words names (some t) ≡ filled (length text) (names_of t) names
+  names-after : names_after text words names (Some t) ≡ filled (length text) (names_of t) names
   unfolding names_after unless_away sheet_names
   names-after = rw e
 
-  left-holds : Holds (words_after text words names (some t)) (names_after text words names (some t)) t
+  left-holds : Holds (words_after text words names (Some t)) (names_after text words names (Some t)) t
   left-holds =
       let l = short-text text words names e in
       record {
@@ -73,41 +73,41 @@ module _ (text words names : List ℕ) (t : Trees) (r : Readable (length text) t
         names-are = rw names-after (front (length text) (length (names_of t)) (names_of t) names refl);
       }
 
-  left : SheetOf (words_after text words names (some t)) (names_after text words names (some t)) t
-  left = record { holds = holds-held (words_after text words names (some t)) (names_after text words names (some t)) t left-holds r.good-names }
+  left : SheetOf (words_after text words names (Some t)) (names_after text words names (Some t)) t
+  left = record { holds = holds-held (words_after text words names (Some t)) (names_after text words names (Some t)) t left-holds r.good-names }
 
 -- ---- Accepted readings.
 
 module _ (text words names : List ℕ) where
   -- The lists after a tree was read.
   unfoldable pub Left : Option Trees → Type 0
-  Left o = (t : Trees) × (o ≡ some t) × SheetOf (words_after text words names o) (names_after text words names o) t
+  Left o = (t : Trees) × (o ≡ Some t) × SheetOf (words_after text words names o) (names_after text words names o) t
 
   pub whole-left : (q : Whole) → ((l : Label) (cs : Trees) → q ≡ tree l cs → Readable (length text) (node l cs end)) → (a : Option Refusal)
       → turned_away text words names ≡ a → answer_or a (whole_reading q) ≡ Tree → Left (whole_tree q)
   unfolding Left answer_or whole_reading whole_tree
-  whole-left q r (some why) e h = let z : ◌≡◌ {A = ℕ} 0 1 = cc in absurd (omega arith)
-  whole-left (tree l cs) r none e h = (node l cs end, refl, left text words names (node l cs end) (r l cs refl) e)
-  whole-left (P.Whole.refusal x at) r none e h = let z : ◌≡◌ {A = ℕ} 0 1 = cc in absurd (omega arith)
+  whole-left q r (Some why) e h = let z : ◌≡◌ {A = ℕ} 0 1 = cc in absurd (omega arith)
+  whole-left (tree l cs) r None e h = (node l cs end, refl, left text words names (node l cs end) (r l cs refl) e)
+  whole-left (P.Whole.refusal x at) r None e h = let z : ◌≡◌ {A = ℕ} 0 1 = cc in absurd (omega arith)
 
-  pub whole-leaves : from_str_answer text words names ≡ Tree → (t : Trees) × (whole_tree (from_str text) ≡ some t) × SheetOf (from_str_words text words names) (from_str_names text words names) t
+  pub whole-leaves : from_str_answer text words names ≡ Tree → (t : Trees) × (whole_tree (from_str text) ≡ Some t) × SheetOf (from_str_words text words names) (from_str_names text words names) t
   unfolding from_str_answer from_str_words from_str_names Left
   whole-leaves = whole-left (from_str text) (reads-readable text) (turned_away text words names) refl
 
   start_left : (q : FromStart) → ((l : Label) (cs : Trees) (s : List ℕ) → q ≡ tree_then l cs s → Readable (length text) (node l cs end)) → (a : Option Refusal)
       → turned_away text words names ≡ a → answer_or a (start_reading q) ≡ Tree → Left (start_tree q)
   unfolding Left answer_or start_reading start_tree
-  start_left q r (some why) e h = let z : ◌≡◌ {A = ℕ} 0 1 = cc in absurd (omega arith)
-  start_left (tree_then l cs s) r none e h = (node l cs end, refl, left text words names (node l cs end) (r l cs s refl) e)
-  start_left (P.FromStart.refusal x at) r none e h = let z : ◌≡◌ {A = ℕ} 0 1 = cc in absurd (omega arith)
+  start_left q r (Some why) e h = let z : ◌≡◌ {A = ℕ} 0 1 = cc in absurd (omega arith)
+  start_left (tree_then l cs s) r None e h = (node l cs end, refl, left text words names (node l cs end) (r l cs s refl) e)
+  start_left (P.FromStart.refusal x at) r None e h = let z : ◌≡◌ {A = ℕ} 0 1 = cc in absurd (omega arith)
 
-  pub start-leaves : from_start_answer text words names ≡ Tree → (t : Trees) × (start_tree (from_start_of_str text) ≡ some t) × SheetOf (from_start_words text words names) (from_start_names text words names) t
+  pub start-leaves : from_start_answer text words names ≡ Tree → (t : Trees) × (start_tree (from_start_of_str text) ≡ Some t) × SheetOf (from_start_words text words names) (from_start_names text words names) t
   unfolding from_start_answer from_start_words from_start_names Left
   start-leaves = start_left (from_start_of_str text) (starts-readable text) (turned_away text words names) refl
 
 -- ---- A print read back.
 
-same_some : {a b : Trees} → some a ≡ some b → a ≡ b
+same_some : {a b : Trees} → Some a ≡ Some b → a ≡ b
 same_some e = cc
 
 module _ (text w n : List ℕ) (l : length text ≤ max_text) (a : used (length text) ≤ length w) (b : length text ≤ length n) where
@@ -122,12 +122,12 @@ shown-one (node l cs end) h = refl
 shown-one (node l cs (node m ds us)) h = h
 
 -- The text of a sound sheet is read as its shown part.
-text-read : (t : Trees) → sound t ≡ true → (whole_tree (from_str (print Top t)) ≡ some (shown Top t)) × (whole_reading (from_str (print Top t)) ≡ Tree)
+text-read : (t : Trees) → sound t ≡ true → (whole_tree (from_str (print Top t)) ≡ Some (shown Top t)) × (whole_reading (from_str (print Top t)) ≡ Tree)
 unfolding sound read_tree trees is_one whole_tree whole_reading
 text-read t h = go (from_str (print Top t)) (reads-back t h) (shown-one t (both (is_one t) _ h).0)
   where
-    go : (q : Whole) → trees q ≡ shown Top t → is_one (shown Top t) ≡ true → (whole_tree q ≡ some (shown Top t)) × (whole_reading q ≡ Tree)
-    go (tree l cs) e o = (ap some e, refl)
+    go : (q : Whole) → trees q ≡ shown Top t → is_one (shown Top t) ≡ true → (whole_tree q ≡ Some (shown Top t)) × (whole_reading q ≡ Tree)
+    go (tree l cs) e o = (ap Some e, refl)
     go (P.Whole.refusal x at) e o = absurd (false≢true (ap is_one e ∙ o))
 
 bytes-are : {a b : ℕ} → Bytes a ≡ Bytes b → a ≡ b
@@ -164,7 +164,7 @@ back words names out w n t k h e l a b =
     rw q (of-text (print Top t) (omega arith) (omega arith) (omega arith) (text-read t h.sound-tree))
   where
     of-text : (text : List ℕ) → length text ≤ max_text → used (length text) ≤ length w → length text ≤ length n
-        → (whole_tree (from_str text) ≡ some (shown Top t)) × (whole_reading (from_str text) ≡ Tree)
+        → (whole_tree (from_str text) ≡ Some (shown Top t)) × (whole_reading (from_str text) ≡ Tree)
         → (from_str_answer text w n ≡ Tree) × SheetOf (from_str_words text w n) (from_str_names text w n) (shown Top t)
     of-text text i j m r =
         let x = whole-leaves text w n (answered text w n i j m r.1) in

@@ -2,7 +2,7 @@
 use Prim.Native.Nat.{ℕ, ◌≤◌}
 use mathlib.Core.List.{List}
 use mathlib.Core.Logic.{◌⊎◌}
-use mathlib.Core.Option.{some}
+use Rattle.std.specs.Prelude.{Some}
 use mathlib.Core.Path.{◌≡◌}
 use lib.ListN.{length, take}
 use Rattle.kinds.specs.Parse.{from_str, from_start_of_str}
@@ -22,12 +22,12 @@ use Rattle.sheet_agreement.proofs.ReadingLaws.{whole-leaves, start-leaves, back}
 
 -- What an accepted whole-text reading leaves is a sheet without bad names that holds the tree read.
 pub reading-leaves : (text words names : List ℕ) → from_str_answer text words names ≡ Tree
-    → (t : Trees) × (whole_tree (from_str text) ≡ some t) × SheetOf (from_str_words text words names) (from_str_names text words names) t
+    → (t : Trees) × (whole_tree (from_str text) ≡ Some t) × SheetOf (from_str_words text words names) (from_str_names text words names) t
 reading-leaves = whole-leaves
 
 -- And so is what an accepted reading from the start leaves.
 pub start-reading-leaves : (text words names : List ℕ) → from_start_answer text words names ≡ Tree
-    → (t : Trees) × (start_tree (from_start_of_str text) ≡ some t) × SheetOf (from_start_words text words names) (from_start_names text words names) t
+    → (t : Trees) × (start_tree (from_start_of_str text) ≡ Some t) × SheetOf (from_start_words text words names) (from_start_names text words names) t
 start-reading-leaves = start-leaves
 
 -- A sound sheet was printed in `k` bytes, at most 2,000. Read back into lists with room, they are accepted, and what is left is a sheet that holds
@@ -46,7 +46,7 @@ strict-calls = calls
 
 -- What an accepted strict reading leaves is such a sheet too.
 pub strict-reading-leaves : (text words names : List ℕ) → from_str_strict_answer text words names ≡ Tree
-    → (t : Trees) × (whole_tree (from_str_strict text) ≡ some t) × SheetOf (from_str_strict_words text words names) (from_str_strict_names text words names) t
+    → (t : Trees) × (whole_tree (from_str_strict text) ≡ Some t) × SheetOf (from_str_strict_words text words names) (from_str_strict_names text words names) t
 strict-reading-leaves = strict-leaves
 
 -- A printed registration is never turned away: the print of a sound sheet is read strictly too, and leaves the shown part.

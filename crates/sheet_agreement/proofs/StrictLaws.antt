@@ -2,7 +2,7 @@
 use Prim.Native.Nat.{ℕ, ◌≤◌}
 use mathlib.Core.List.{List, []}
 use mathlib.Core.Logic.{◌⊎◌, inl, inr}
-use mathlib.Core.Option.{Option, some, none}
+use Rattle.std.specs.Prelude.{Option, Some, None}
 use mathlib.Core.Path.{◌≡◌, refl, sym, ap, ◌∙◌, subst, subst₂}
 use native.Mathlib.Omega.{arith}
 use lib.ListN.{length, take}
@@ -31,12 +31,12 @@ unfolding from_str_strict unless_surplus
 strict_tree text l cs = go (first_surplus (numbers_met text))
   where
     go : (o : Option (List ℕ)) → unless_surplus (length text) o (from_str text) ≡ tree l cs → from_str text ≡ tree l cs
-    go (some t) e = let z : ◌≡◌ {A = ℕ} 0 1 = cc in absurd (omega arith)
-    go none e = e
+    go (Some t) e = let z : ◌≡◌ {A = ℕ} 0 1 = cc in absurd (omega arith)
+    go None e = e
 
 module _ (text words names : List ℕ) where
   pub strict-leaves : from_str_strict_answer text words names ≡ Tree
-      → (t : Trees) × (whole_tree (from_str_strict text) ≡ some t) × SheetOf (from_str_strict_words text words names) (from_str_strict_names text words names) t
+      → (t : Trees) × (whole_tree (from_str_strict text) ≡ Some t) × SheetOf (from_str_strict_words text words names) (from_str_strict_names text words names) t
   unfolding from_str_strict_answer from_str_strict_words from_str_strict_names Left
   strict-leaves = whole-left text words names (from_str_strict text) (λ l cs e. reads-readable text l cs (strict_tree text l cs e)) (turned_away text words names) refl
 
@@ -49,11 +49,11 @@ module _ (text words names : List ℕ) where
   }
 
   -- Refusals 1 and 2 are those of both.
-  away-alike : (why : Refusal) → turned_away text words names ≡ some why → CallsAlike text words names
+  away-alike : (why : Refusal) → turned_away text words names ≡ Some why → CallsAlike text words names
   unfolding from_str_answer from_str_words from_str_names from_str_strict_answer from_str_strict_words from_str_strict_names answer_or words_after names_after unless_away
   away-alike why e = record { answers = rw e refl; fills = rw e refl; leaves = rw e refl }
 
-  refuses : turned_away text words names ≡ none → FirstMet text → CallRefuses text words names
+  refuses : turned_away text words names ≡ None → FirstMet text → CallRefuses text words names
   unfolding from_str_strict_answer from_str_strict_words from_str_strict_names answer_or words_after names_after unless_away whole_reading whole_tree sheet_words sheet_names
   refuses e f = record {
     room = e;
@@ -67,9 +67,9 @@ module _ (text words names : List ℕ) where
   calls = go (turned_away text words names) refl (strict-or-whole text)
     where
       go : (a : Option Refusal) → turned_away text words names ≡ a → NoneMet text ⊎ FirstMet text → CallsAlike text words names ⊎ CallRefuses text words names
-      go (some why) e m = inl (away-alike why e)
-      go none e (inl m) = inl (calls-alike m.alike)
-      go none e (inr m) = inr (refuses e m)
+      go (Some why) e m = inl (away-alike why e)
+      go None e (inl m) = inl (calls-alike m.alike)
+      go None e (inr m) = inr (refuses e m)
 
 -- A print is read strictly as it is read.
 pub strict-back : (words names out w n : List ℕ) (t : Trees) (k : ℕ) → SoundSheet words names t → encoding_array words names (length out) ≡ Bytes k → k ≤ max_text → used k ≤ length w → k ≤ length n

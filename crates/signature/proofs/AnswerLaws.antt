@@ -2,7 +2,7 @@
 use Prim.Native.Nat.{ℕ, zero, suc, ◌+◌, ◌*◌, ◌-◌, ◌≤◌, ◌<◌}
 use mathlib.Core.Path.{◌≡◌, refl, sym, ap, ap₂, ◌∙◌}
 use mathlib.Core.List.{List, [], ◌∷◌, ◌++◌}
-use mathlib.Core.Option.{some, none}
+use Rattle.std.specs.Prelude.{Some, None}
 use native.Mathlib.Omega.{arith}
 use lib.ListN.{length, drop, replicate, length-append, length-drop}
 use lib.Seq.{sets, length-sets}
@@ -84,26 +84,26 @@ module _ (text before now : List ℕ) (at k : ℕ) (r : ReadTo text before now a
 -- ---- What is answered, and what the list holds after.
 
 module _ (text list : List ℕ) where
-  pub too_long : max_text < length text → turned_away text list ≡ some TextTooLong
+  pub too_long : max_text < length text → turned_away text list ≡ Some TextTooLong
   unfolding turned_away
   too_long h = rw (lt-ltb max_text (length text) h)
 
-  pub too_short_lem : length text ≤ max_text → length list < used (length text) → turned_away text list ≡ some ListTooShort
+  pub too_short_lem : length text ≤ max_text → length list < used (length text) → turned_away text list ≡ Some ListTooShort
   unfolding turned_away
   too_short_lem h l = rw (le-ltb max_text (length text) h, lt-leb (used (length text)) (length list) l)
 
-  pub has_room_lem : length text ≤ max_text → used (length text) ≤ length list → turned_away text list ≡ none
+  pub has_room_lem : length text ≤ max_text → used (length text) ≤ length list → turned_away text list ≡ None
   unfolding turned_away
   has_room_lem h l = rw (le-ltb max_text (length text) h, le-leb (used (length text)) (length list) l)
 
-  pub answer-away : (r : Refusal) → turned_away text list ≡ some r → (S.Refused r ≡ signature_answer text list) × (list ≡ signature_list text list)
+  pub answer-away : (r : Refusal) → turned_away text list ≡ Some r → (S.Refused r ≡ signature_answer text list) × (list ≡ signature_list text list)
   unfolding signature_answer answer_or signature_list unless_away
   answer-away r e = (
     sym (ap (λ o. answer_or o (reading (signature text))) e),
     sym (ap (λ o. unless_away o list (filled (used (length text)) (kept (signature text)) list)) e),
   )
 
-  pub answer-read : (z : Signature) → turned_away text list ≡ none → signature text ≡ z
+  pub answer-read : (z : Signature) → turned_away text list ≡ None → signature text ≡ z
       → (reading z ≡ signature_answer text list) × (filled (used (length text)) (kept z) list ≡ signature_list text list)
   unfolding signature_answer answer_or signature_list unless_away
   answer-read z e s = (

@@ -1,6 +1,6 @@
 -- What reading a signature answers, and what the lent list holds after (02, N1).
 use Rattle.std.specs.Prelude.{ℕ, ◌*◌, ◌/◌, cond, List, [], ◌∷◌, leb, ltb, length}
-use Rattle.std.proofs.Math.Option.{Option, some, none}
+use Rattle.std.specs.Prelude.{Option, Some, None}
 use Rattle.kinds.specs.Sheet.{max_text}
 use Rattle.kinds.specs.declared.Refusal.{Refusal}
 use Rattle.kinds.specs.declared.Refusal.TheVariants.{TextTooLong, ListTooShort}
@@ -15,7 +15,7 @@ used l = 3 * (l / 2)
 
 -- Refusals 1 and 2, before reading.
 unfoldable pub turned_away : List ℕ → List ℕ → Option Refusal
-turned_away text list = cond (ltb max_text (length text)) (some TextTooLong) (cond (leb (used (length text)) (length list)) none (some ListTooShort))
+turned_away text list = cond (ltb max_text (length text)) (Some TextTooLong) (cond (leb (used (length text)) (length list)) None (Some ListTooShort))
 
 -- Three numbers for each entry.
 unfoldable pub numbers : List Entry → List ℕ
@@ -32,8 +32,8 @@ reading (entries es) = Entries (length es)
 reading (refused r) = Refused r
 
 unfoldable pub answer_or : Option Refusal → SignatureReading → SignatureReading
-answer_or (some r) a = Refused r
-answer_or none a = a
+answer_or (Some r) a = Refused r
+answer_or None a = a
 
 -- The answer of `parse_signature`.
 unfoldable pub signature_answer : List ℕ → List ℕ → SignatureReading

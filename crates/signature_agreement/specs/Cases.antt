@@ -1,6 +1,6 @@
 -- Signatures and what becomes of them, as one table: the cases of 02's N1 and those at the edges of its rules.
 use Rattle.std.specs.Prelude.{ℕ, ◌≡◌, List, [], ◌∷◌, ◌++◌}
-use Rattle.std.proofs.Math.Option.{some, none}
+use Rattle.std.specs.Prelude.{Some, None}
 use Rattle.kinds.specs.Byte.{byte, bytes}
 use Rattle.kinds.specs.declared.ContainerKind.{ContainerKind}
 use Rattle.kinds.specs.declared.ContainerKind.TheVariants.{Struct, Union}
@@ -19,13 +19,13 @@ outcome (entries es) = gives es
 outcome (S.refused r) = refuses (refused_by r)
 
 abbrev pub refused : ℕ → ℕ → Outcome
-refused n at = refuses (M.refused n (some at) none none)
+refused n at = refuses (M.refused n (Some at) None None)
 
 abbrev pub refused_at : ℕ → ℕ → ℕ → Outcome
-refused_at n at b = refuses (M.refused n (some at) (some b) none)
+refused_at n at b = refuses (M.refused n (Some at) (Some b) None)
 
 abbrev pub refused_in : ℕ → ℕ → ContainerKind → Outcome
-refused_in n at k = refuses (M.refused n (some at) none (some k))
+refused_in n at k = refuses (M.refused n (Some at) None (Some k))
 
 abbrev pub Case : Type 0
 Case = List ℕ × Outcome
@@ -125,7 +125,7 @@ bad_number =
     ∷ (bytes "v4294967296@0", refused 17 11)
     ∷ (bytes "v4@04294967296", refused 17 14)
     ∷ (bytes "v18446744073709551616", refused 17 21)
-    ∷ ([], refuses (M.refused 18 none none none))
+    ∷ ([], refuses (M.refused 18 None None None))
     ∷ []
 
 unfoldable pub cases : List Case

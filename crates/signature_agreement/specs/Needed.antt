@@ -1,6 +1,6 @@
 -- What `writable` leaves in, and why it asks for each of its conditions.
 use Rattle.std.specs.Prelude.{ℕ, ◌≡◌, Bool, true, false, not, List, [], ◌∷◌, leb}
-use Rattle.std.proofs.Math.Option.{none}
+use Rattle.std.specs.Prelude.{None}
 use Rattle.kinds.specs.Byte.{byte, bytes}
 use Rattle.kinds.specs.Parse.{max_u32}
 use Rattle.kinds.specs.Primitive.{kind_of}
@@ -60,7 +60,7 @@ Ambiguous =
 
 -- Nothing is written from no item, and the empty signature is refused.
 abbrev pub NoItem : Type 0
-NoItem = outcome (signature (written [])) ≡ refuses (M.refused 18 none none none)
+NoItem = outcome (signature (written [])) ≡ refuses (M.refused 18 None None None)
 
 -- A method's signature can be written.
 unfoldable pub method : List Item

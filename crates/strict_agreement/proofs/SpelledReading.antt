@@ -4,7 +4,7 @@ use native.Mathlib.Omega.{arith}
 use mathlib.Core.Path.{◌≡◌, refl, sym, ap, subst, ◌∙◌}
 use mathlib.Core.List.{List, [], ◌∷◌, ◌++◌, append_assoc, append-nil}
 use mathlib.Core.Bool.{Bool, true, false, cond, ◌&&◌, false≢true}
-use mathlib.Core.Option.{Option, some, none}
+use Rattle.std.specs.Prelude.{Option, Some, None}
 use lib.Dec.{leb, eqb}
 use lib.ListN.{length}
 use borrow.Author.Tests.{eqb-true}
@@ -32,13 +32,13 @@ use Rattle.strict_agreement.proofs.SpellingLaws.{NameSays, name-says, Begins, be
 -- ---- Numbers without a surplus zero.
 
 abbrev Strict : List (List ℕ) → Type 0
-Strict ss = first_surplus ss ≡ none
+Strict ss = first_surplus ss ≡ None
 
 strict-first : (s : List ℕ) (ss : List (List ℕ)) → Strict (s ∷ ss) → (surplus_zero s ≡ false) × Strict ss
 unfolding first_surplus
 strict-first s ss h = go (surplus_zero s) refl h
   where
-    go : (t : Bool) → surplus_zero s ≡ t → cond t (some s) (first_surplus ss) ≡ none → (surplus_zero s ≡ false) × Strict ss
+    go : (t : Bool) → surplus_zero s ≡ t → cond t (Some s) (first_surplus ss) ≡ None → (surplus_zero s ≡ false) × Strict ss
     go true e i = let z : ◌≡◌ {A = ℕ} 0 1 = cc in absurd (omega arith)
     go false e i = (e, i)
 
@@ -305,8 +305,8 @@ unfolding from_str_strict unless_surplus
 strict-read s l cs h = go (first_surplus (numbers_met s)) refl h
   where
     go : (o : Option (List ℕ)) → first_surplus (numbers_met s) ≡ o → unless_surplus (length s) o (from_str s) ≡ tree l cs → Strict (numbers_met s) × (from_str s ≡ tree l cs)
-    go (some t) e i = let z : ◌≡◌ {A = ℕ} 0 1 = cc in absurd (omega arith)
-    go none e i = (e, i)
+    go (Some t) e i = let z : ◌≡◌ {A = ℕ} 0 1 = cc in absurd (omega arith)
+    go None e i = (e, i)
 
 nothing-short : (s : List ℕ) → length s ≡ 0 → short s ≡ []
 unfolding short

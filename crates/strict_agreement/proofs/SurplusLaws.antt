@@ -4,7 +4,7 @@ use mathlib.Core.Path.{◌≡◌, refl, sym, ap, subst, ◌∙◌}
 use mathlib.Core.Bool.{Bool, true, false, ◌&&◌, not, false≢true}
 use mathlib.Core.List.{List, [], ◌∷◌, ◌++◌}
 use mathlib.Core.Logic.{◌⊎◌, inl, inr}
-use mathlib.Core.Option.{some, none}
+use Rattle.std.specs.Prelude.{Some, None}
 use native.Mathlib.Omega.{arith}
 use lib.ListN.{length, length-append}
 use Rattle.kinds.specs.Parse.{refusal, from_str}
@@ -24,10 +24,10 @@ record First (ts : List (List ℕ)) : Type 0 where
   met : ts ≡ earlier ++ (number ∷ later)
   without : without_surplus earlier ≡ true
   surplus : surplus_zero number ≡ true
-  first : first_surplus ts ≡ some number
+  first : first_surplus ts ≡ Some number
 
 abbrev Nowhere : List (List ℕ) → Type 0
-Nowhere ts = (first_surplus ts ≡ none) × (without_surplus ts ≡ true)
+Nowhere ts = (first_surplus ts ≡ None) × (without_surplus ts ≡ true)
 
 look : (ts : List (List ℕ)) → Nowhere ts ⊎ First ts
 unfolding first_surplus without_surplus

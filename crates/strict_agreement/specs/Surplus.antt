@@ -1,6 +1,6 @@
 -- When strict reading differs from whole-text reading, and how.
 use Rattle.std.specs.Prelude.{ℕ, ◌≡◌, Bool, true, ◌&&◌, not, List, [], ◌∷◌, ◌++◌, length}
-use Rattle.std.proofs.Math.Option.{none}
+use Rattle.std.specs.Prelude.{None}
 use Rattle.kinds.specs.Parse.{refusal, from_str}
 use Rattle.kinds.specs.Strict.{surplus_zero, numbers_met, first_surplus, from_str_strict}
 use Rattle.kinds.specs.declared.ErrorKind.TheVariants.{SurplusZero}
@@ -12,7 +12,7 @@ without_surplus (t ∷ ts) = not (surplus_zero t) && without_surplus ts
 
 -- No number that reading meets has one, and the answers are the same.
 pub record NoneMet (s : List ℕ) : Type 0 where
-  pub no-first : first_surplus (numbers_met s) ≡ none
+  pub no-first : first_surplus (numbers_met s) ≡ None
   pub without : without_surplus (numbers_met s) ≡ true
   pub alike : from_str_strict s ≡ from_str s
 
