@@ -2,8 +2,9 @@
 -- it carries, if it carries any and the call has room for them, else 0 throughout.
 use Rattle.std.specs.Prelude.{ℕ, ◌-◌, true, false, List, [], ◌∷◌, length}
 use Rattle.kinds.specs.Refusal.{number, values}
-use Rattle.kinds.specs.declared.Compared.{Compared}
-use Rattle.kinds.specs.declared.Compared.TheVariants as C
+use Rattle.std.specs.Prelude.{Result, Ok, Err}
+use Rattle.kinds.specs.declared.Refusal.{Refusal}
+use Rattle.std.specs.Prelude.{Bool}
 use Rattle.helper.specs.declared.Sized.{Sized}
 use Rattle.helper.specs.declared.Sized.TheVariants as S
 use Rattle.layout.specs.declared.LaidOut.{LaidOut}
@@ -29,15 +30,15 @@ size_values (S.Refused r) = 0 ∷ 0 ∷ []
 size_values S.Nothing = 0 ∷ 0 ∷ []
 size_values (S.Bytes n) = 1 ∷ n ∷ []
 
-abbrev pub compare_number : Compared → ℕ
-compare_number (C.Refused r) = number r
-compare_number (C.Decided y) = 0
+abbrev pub compare_number : Result Bool Refusal → ℕ
+compare_number (Err r) = number r
+compare_number (Ok y) = 0
 
 -- 1 for yes, 0 for no.
-abbrev pub compare_values : Compared → List ℕ
-compare_values (C.Refused r) = 0 ∷ []
-compare_values (C.Decided true) = 1 ∷ []
-compare_values (C.Decided false) = 0 ∷ []
+abbrev pub compare_values : Result Bool Refusal → List ℕ
+compare_values (Err r) = 0 ∷ []
+compare_values (Ok true) = 1 ∷ []
+compare_values (Ok false) = 0 ∷ []
 
 abbrev pub reason_number : Reasoned → ℕ
 reason_number (N.Refused r) = number r

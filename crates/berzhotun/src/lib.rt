@@ -15,7 +15,6 @@ ghost use Rattle.berzhotun.specs.Answer.{size_number, size_values, compare_numbe
 ghost use Rattle.berzhotun.specs.Answer.{reason_number, reason_values, layout_number, layout_values};
 
 use helper::Sized;
-use kinds::Compared;
 use layout::LaidOut;
 use parse::Reading;
 use reason::Reasoned;
@@ -23,16 +22,16 @@ use signature::SignatureReading;
 use static_str::Printed;
 
 // A comparison's answer as numbers.
-fn give_compared(c: Compared, answer: &mut [u64; 1]) -> u64
+fn give_compared(c: Result<bool, Refusal>, answer: &mut [u64; 1]) -> u64
     ensures returns { result ≡ compare_number c }
     ensures answers { answer.new ≡ compare_values c }
 {
     match c {
-        Compared::Refused(why) => {
+        Err(why) => {
             *answer = [0];
             why.number()
         }
-        Compared::Decided(yes) => {
+        Ok(yes) => {
             if yes {
                 *answer = [1];
             } else {

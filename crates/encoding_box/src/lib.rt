@@ -7,7 +7,6 @@ ghost use Rattle.parse.specs.Answer.{answer_words, from_str_answer, from_str_wor
 ghost use Rattle.parse.specs.Answer.{from_str_strict_answer, from_str_strict_words, from_str_strict_names};
 
 use helper::compare_encodings;
-use kinds::Compared;
 use parse::Reading;
 
 // The tree of a whole text, into lent lists.
@@ -46,7 +45,7 @@ pub fn from_start_of_str<'a>(
 }
 
 // Whether the trees in two sheets match with all fields, every node at top. Both are sheets here, so this serves either order of the two types.
-pub fn eq(aw: &[u64], an: &[u8], bw: &[u64], bn: &[u8]) -> Compared
+pub fn eq(aw: &[u64], an: &[u8], bw: &[u64], bn: &[u8]) -> Result<bool, Refusal>
     ensures { result ≡ compare_answer true aw.now an.now bw.now bn.now }
 {
     compare_encodings(aw, an, bw, bn, true)

@@ -10,7 +10,7 @@ use Rattle.kinds.specs.Expect.{expect_primitive, expect_node, expect_encoding, i
 use Rattle.kinds.specs.Parse.{strip_leading_qualifiers}
 use Rattle.kinds.specs.Sheet.{max_text, trees}
 use Rattle.kinds.specs.Tree.{Trees, end, node, primitive}
-use Rattle.kinds.specs.declared.Compared.TheVariants.{Refused, Decided}
+use Rattle.std.specs.Prelude.{Ok, Err}
 use Rattle.kinds.specs.declared.NestingLevel.{NestingLevel}
 use Rattle.kinds.specs.declared.NestingLevel.TheVariants.{Top}
 use Rattle.kinds.specs.declared.Refusal.{Refusal}
@@ -40,24 +40,24 @@ pub at_top : (text s : List ℕ) (t : Trees) (r : X.Expected) {v : NestingLevel}
 at_top text s t r e h = subst (λ (x : NestingLevel). ExpectedIs text r (expect_encoding x t s)) e h
 
 module _ (words names text : List ℕ) where
-  pub too_long : max_text < length text → Refused TextTooLong ≡ compared words names text
+  pub too_long : max_text < length text → Err TextTooLong ≡ compared words names text
   unfolding compared
   too_long h = sym (rw (lt-ltb max_text (length text) h))
 
   module _ (short : length text ≤ max_text) where
-    pub compared-refused : {r : Refusal} → held words names ≡ refused r → Refused r ≡ compared words names text
+    pub compared-refused : {r : Refusal} → held words names ≡ refused r → Err r ≡ compared words names text
     unfolding compared
-    compared-refused h = answer-refused Refused words names (λ (t : Trees). Decided (equivalent_to_str t text)) h ∙ sym (rw (le-ltb max_text (length text) short))
+    compared-refused h = answer-refused Err words names (λ (t : Trees). Ok (equivalent_to_str t text)) h ∙ sym (rw (le-ltb max_text (length text) short))
 
-    compared-held : {t : Trees} {d : Bool} → held words names ≡ holding t → d ≡ equivalent_to_str t text → Decided d ≡ compared words names text
+    compared-held : {t : Trees} {d : Bool} → held words names ≡ holding t → d ≡ equivalent_to_str t text → Ok d ≡ compared words names text
     unfolding compared
-    compared-held h e = ap Decided e ∙ (answer-held Refused words names (λ (t : Trees). Decided (equivalent_to_str t text)) h
+    compared-held h e = ap Ok e ∙ (answer-held Err words names (λ (t : Trees). Ok (equivalent_to_str t text)) h
         ∙ sym (rw (le-ltb max_text (length text) short)))
 
-    pub compared-code : {k : ℕ} → CodeIn words names k → {d : Bool} → d ≡ equivalent_to_str (node (primitive k) end end) text → Decided d
+    pub compared-code : {k : ℕ} → CodeIn words names k → {d : Bool} → d ≡ equivalent_to_str (node (primitive k) end end) text → Ok d
         ≡ compared words names text
     compared-code h e = compared-held h.holds e
 
-    pub compared-nodes : (w : List ℕ) (n : ℕ) → NodesAre words names w n → {d : Bool} → d ≡ equivalent_to_str (trees names w n 0) text → Decided d
+    pub compared-nodes : (w : List ℕ) (n : ℕ) → NodesAre words names w n → {d : Bool} → d ≡ equivalent_to_str (trees names w n 0) text → Ok d
         ≡ compared words names text
     compared-nodes w n h e = compared-held h.holds e

@@ -22,7 +22,7 @@ use Rattle.kinds.specs.Tree.{Label, Trees, is_end, inside}
 use Rattle.kinds.specs.Walk.{NodeAt}
 use Rattle.kinds.specs.declared.ContainerKind.{ContainerKind}
 use Rattle.kinds.specs.declared.ContainerKind.TheVariants.{Struct, Union}
-use Rattle.kinds.specs.declared.Fields.TheVariants.{Included, Dropped}
+use Rattle.std.specs.Prelude.{Some, None}
 use Rattle.kinds.specs.declared.NestingLevel.{NestingLevel}
 use Rattle.kinds.specs.declared.NestingLevel.TheVariants.{Top, Within, Bottom}
 use Rattle.kinds.specs.Kind.{container_of, is_indirection}
@@ -163,27 +163,27 @@ module _ (k : ContainerKind) (m : List ℕ) (v : NestingLevel) (e : Bool) (inner
         go Bottom = then-mismatch _ _ f
 
     module _ (u : List ℕ) (f : expect_bytes m t ≡ remaining u) where
-      pub container-hidden : container_include_fields v ≡ Dropped → expect_node (container k m) v e inner s ≡ expect_byte (end_byte k) u
+      pub container-hidden : container_include_fields v ≡ None → expect_node (container k m) v e inner s ≡ expect_byte (end_byte k) u
       unfolding expect_container
       container-hidden g = started ∙ then-remaining _ _ _ h ∙ go v g
         where
-          go : (x : NestingLevel) → container_include_fields x ≡ Dropped → expect_container k m x e inner t ≡ expect_byte (end_byte k) u
+          go : (x : NestingLevel) → container_include_fields x ≡ None → expect_container k m x e inner t ≡ expect_byte (end_byte k) u
           go Top d = absurd (let z : ◌≡◌ {A = ℕ} 0 1 = cc in omega arith)
           go Within d = absurd (let z : ◌≡◌ {A = ℕ} 0 1 = cc in omega arith)
           go Bottom d = then-remaining _ _ _ f
 
-      pub container-shown : (x : NestingLevel) → container_include_fields v ≡ Included x → expect_node (container k m) v e inner s
+      pub container-shown : (x : NestingLevel) → container_include_fields v ≡ Some x → expect_node (container k m) v e inner s
           ≡ (expect_byte 61 u then (λ y. expect_fields k e inner y))
       unfolding expect_container
       container-shown x g = started ∙ then-remaining _ _ _ h ∙ go v g
         where
-          go : (y : NestingLevel) → container_include_fields y ≡ Included x → expect_container k m y e inner t
+          go : (y : NestingLevel) → container_include_fields y ≡ Some x → expect_container k m y e inner t
               ≡ (expect_byte 61 u then (λ z. expect_fields k e inner z))
           go Top d = then-remaining _ _ _ f
           go Within d = then-remaining _ _ _ f
           go Bottom d = absurd (let z : ◌≡◌ {A = ℕ} 0 1 = cc in omega arith)
 
-pub shown-within : (v x : NestingLevel) → container_include_fields v ≡ Included x → x ≡ Within
+pub shown-within : (v x : NestingLevel) → container_include_fields v ≡ Some x → x ≡ Within
 shown-within Top x d = cc
 shown-within Within x d = cc
 shown-within Bottom x d = absurd (let z : ◌≡◌ {A = ℕ} 0 1 = cc in omega arith)

@@ -13,11 +13,7 @@ ghost use Rattle.kinds.specs.Walk.{NodeAt, TreesAt, KindAndName, KindsAndNames};
 ghost use Rattle.expect.specs.Agree.{ExpectedIs, expect_at, any_object, expect_leaf, opening_byte, opening, closing, after_name, InText, OpenedIs, ContainerOpenedAt, code_byte, own_byte, level_after, taken_of, fields_of, OpenedAt};
 ghost use Rattle.expect.specs.Answer.{compared};
 
-use kinds::{
-    ARRAY, BIT_FIELD, Code, Compared, ContainerKind, Fields, IndirectionKind, MAX_TEXT,
-    NestingLevel, POINTER, PRIMITIVES, Refusal, TYPED_BIT_FIELD, container_of, is_container,
-    is_indirection, is_object, primitive_code,
-};
+use kinds::{ARRAY, BIT_FIELD, Code, ContainerKind, IndirectionKind, MAX_TEXT, NestingLevel, POINTER, PRIMITIVES, Refusal, TYPED_BIT_FIELD, container_of, is_container, is_indirection, is_object, primitive_code};
 use numbers::{Number, parse_u8, parse_u64};
 use parser::strip_leading_qualifiers;
 use sheet::{Checked, check};
@@ -284,8 +280,8 @@ fn open_named(
         return Opened::Mismatch;
     };
     match level.container_include_fields() {
-        Fields::Included(inner) => open_fields(kind, inner, count, text, next),
-        Fields::Dropped => match expect_byte(kind.end_byte(), text, next) {
+        Some(inner) => open_fields(kind, inner, count, text, next),
+        None => match expect_byte(kind.end_byte(), text, next) {
             Expected::Remaining(to) => Opened::Taken(to),
             Expected::Mismatch => Opened::Mismatch,
         },
@@ -502,16 +498,16 @@ fn tree_matches(nodes: &[u64], names: &[u8], n: usize, text: &[u8]) -> bool
 }
 
 // Whether the tree of the sheet and the text are equivalent.
-pub fn equivalent_to_str(words: &[u64], names: &[u8], text: &[u8]) -> Compared
+pub fn equivalent_to_str(words: &[u64], names: &[u8], text: &[u8]) -> Result<bool, Refusal>
     ensures { result ≡ compared words.now names.now text.now }
 {
     if MAX_TEXT < text.len() {
-        return Compared::Refused(Refusal::TextTooLong);
+        return Err(Refusal::TextTooLong);
     }
     match check(&words[0..], &names[0..]) {
-        Checked::Refused(why) => Compared::Refused(why),
-        Checked::Code(_, kind) => Compared::Decided(code_matches(kind, &text[0..])),
-        Checked::Nodes(first, n) => Compared::Decided(tree_matches(
+        Checked::Refused(why) => Err(why),
+        Checked::Code(_, kind) => Ok(code_matches(kind, &text[0..])),
+        Checked::Nodes(first, n) => Ok(tree_matches(
             &words[first..],
             &names[0..],
             n,

@@ -16,7 +16,7 @@ use Rattle.kinds.specs.Size.{size, sizes, node_size, only}
 use Rattle.kinds.specs.Tree.{end, node, primitive, kind, name, is_container}
 use Rattle.kinds.specs.declared.NestingLevel.{NestingLevel}
 use Rattle.kinds.specs.declared.NestingLevel.TheVariants.{Top}
-use Rattle.kinds.specs.declared.Compared.TheVariants as C
+use Rattle.std.specs.Prelude.{Ok, Err}
 use Rattle.kinds.specs.declared.Refusal.{Refusal}
 use Rattle.kinds.specs.declared.Refusal.TheVariants as R
 use Rattle.kinds.proofs.PrimitiveLaws.{size_small}
@@ -118,25 +118,25 @@ module _ (row : ℕ) where
 -- ---- `compare_encodings`.
 
 module _ (all : Bool) (aw an bw bn : List ℕ) where
-  pub compare-refused : {r : Refusal} → held_both aw an bw bn ≡ refused_both r → C.Refused r ≡ compare_answer all aw an bw bn
+  pub compare-refused : {r : Refusal} → held_both aw an bw bn ≡ refused_both r → Err r ≡ compare_answer all aw an bw bn
   unfolding compare_answer
-  compare-refused h = answer-refused-both C.Refused (λ t u. C.Decided (compare_encodings all Top t u)) aw an bw bn h
+  compare-refused h = answer-refused-both Err (λ t u. Ok (compare_encodings all Top t u)) aw an bw bn h
 
   codes : (k j : ℕ) → equivalent k j ≡ compare_encodings all Top (node (primitive k) end end) (node (primitive j) end end)
   unfolding compare_encodings compare_labels compare_children length_or_offset bits kind name is_container same_bytes
   codes k j = sym (and-true (equivalent k j)) ∙ sym (and-true _)
 
-  pub compare-codes : {k j : ℕ} → CodeIn aw an k × CodeIn bw bn j → {r : Bool} → r ≡ equivalent k j → C.Decided r ≡ compare_answer all aw an bw bn
+  pub compare-codes : {k j : ℕ} → CodeIn aw an k × CodeIn bw bn j → {r : Bool} → r ≡ equivalent k j → Ok r ≡ compare_answer all aw an bw bn
   unfolding compare_answer
   compare-codes {k} {j} h e =
-      ap C.Decided (e ∙ codes k j)
-      ∙ answer-held-both C.Refused (λ t u. C.Decided (compare_encodings all Top t u)) aw an bw bn h.0.holds h.1.holds
+      ap Ok (e ∙ codes k j)
+      ∙ answer-held-both Err (λ t u. Ok (compare_encodings all Top t u)) aw an bw bn h.0.holds h.1.holds
 
   pub compare-nodes : {v u : List ℕ} {n m : ℕ} → NodesAre aw an v n → NodesAre bw bn u m → {l : NestingLevel} → l ≡ Top
-      → {r : Bool} → r ≡ compare_fields all l (trees an v n 0) (trees bn u m 0) → C.Decided r ≡ compare_answer all aw an bw bn
+      → {r : Bool} → r ≡ compare_fields all l (trees an v n 0) (trees bn u m 0) → Ok r ≡ compare_answer all aw an bw bn
   unfolding compare_answer
   compare-nodes {v} {u} {n} {m} g h {l} f e =
-      ap C.Decided (e
+      ap Ok (e
       ∙ ap (λ (x : NestingLevel). compare_fields all x (trees an v n 0) (trees bn u m 0)) f
       ∙ fields-some all Top an v bn u n m 0 0 g.some h.some)
-      ∙ answer-held-both C.Refused (λ t u. C.Decided (compare_encodings all Top t u)) aw an bw bn g.holds h.holds
+      ∙ answer-held-both Err (λ t u. Ok (compare_encodings all Top t u)) aw an bw bn g.holds h.holds

@@ -16,7 +16,7 @@ use Rattle.kinds.specs.Primitive.{is_object, equivalent}
 use Rattle.kinds.specs.Sheet.{kind_at, first_at, second_at, count_at, label_at, label, is_container_kind, read, trees, nests}
 use Rattle.kinds.specs.Tree.{Label, Trees, end, node, is_end, kind, name, is_container, inside, shows}
 use Rattle.kinds.specs.Walk.{NodeAt, TreesAt, KindsAndNames}
-use Rattle.kinds.specs.declared.Fields.TheVariants.{Included, Dropped}
+use Rattle.std.specs.Prelude.{Some, None}
 use Rattle.kinds.specs.declared.NestingLevel.{NestingLevel}
 use Rattle.kinds.specs.declared.NestingLevel.TheVariants.{Top, Within, Bottom}
 use Rattle.kinds.proofs.KindLaws.{inside-kind, included, dropped}
@@ -209,11 +209,11 @@ level-container all k v here c = go (eqb k 29) refl (eqb k 30) refl c
     go false i true j r = rw (eqb-true k 30 j)
     go false i false j r = absurd (false≢true r)
 
-pub count-included : (v u : NestingLevel) (n : ℕ) → container_include_fields v ≡ Included u → n ≡ shown_count v n
+pub count-included : (v u : NestingLevel) (n : ℕ) → container_include_fields v ≡ Some u → n ≡ shown_count v n
 unfolding shown_count
 count-included v u n h = sym (ap (λ x. cond x n 0) (included v u h).0)
 
-pub count-dropped : (v : NestingLevel) (n : ℕ) → container_include_fields v ≡ Dropped → 0 ≡ shown_count v n
+pub count-dropped : (v : NestingLevel) (n : ℕ) → container_include_fields v ≡ None → 0 ≡ shown_count v n
 unfolding shown_count
 count-dropped v n h = sym (ap (λ x. cond x n 0) (dropped v h))
 

@@ -14,7 +14,6 @@ use Rattle.kinds.specs.Sheet.{kind_at, first_at, second_at, count_at, label_at, 
 use Rattle.kinds.specs.Size.{bit_bytes, plus, larger, times, sum, largest, only, node_size, sizes}
 use Rattle.kinds.specs.Tree.{Trees, inside}
 use Rattle.kinds.specs.Walk.{NodeAt, TreesAt}
-use Rattle.kinds.specs.declared.Fields.TheVariants.{Included, Dropped}
 use Rattle.kinds.specs.declared.NestingLevel.{NestingLevel}
 use Rattle.kinds.specs.declared.NestingLevel.TheVariants.{Within, Bottom}
 use Rattle.kinds.proofs.KindLaws.{included, dropped}
@@ -172,10 +171,10 @@ not-leaf k h = go (leb k 24) refl (eqb k 26) refl (leb 31 k) refl h
         le p = omega arith
 
 module _ (m : Widths) (s w : List ℕ) (at : ℕ) (v : NestingLevel) (p : is_container_kind (kind_at w at) ≡ true) where
-  pub size-dropped : container_include_fields v ≡ Dropped → size_at m s w at v ≡ None
+  pub size-dropped : container_include_fields v ≡ None → size_at m s w at v ≡ None
   size-dropped h = size-container m s w at v p ∙ rw (dropped v h)
 
-  pub size-included : (u : NestingLevel) → container_include_fields v ≡ Included u → fold (kind_at w at) (sizes m u (trees s w (count_at w at - 1) (at + 4)))
+  pub size-included : (u : NestingLevel) → container_include_fields v ≡ Some u → fold (kind_at w at) (sizes m u (trees s w (count_at w at - 1) (at + 4)))
       ≡ size_at m s w at v
   size-included u h =
       ap (λ x. fold (kind_at w at) (sizes m x (trees s w (count_at w at - 1) (at + 4)))) (included v u h).1

@@ -8,8 +8,8 @@ use Rattle.kinds.specs.Size.{size}
 use Rattle.kinds.specs.Tree.{Trees}
 use Rattle.kinds.specs.declared.NestingLevel.TheVariants.{Top}
 use Rattle.kinds.specs.declared.Refusal.TheVariants.{SizeTooLarge, NoSuchRow}
-use Rattle.kinds.specs.declared.Compared.{Compared}
-use Rattle.kinds.specs.declared.Compared.TheVariants as C
+use Rattle.std.specs.Prelude.{Result, Ok, Err}
+use Rattle.kinds.specs.declared.Refusal.{Refusal}
 use Rattle.sheet.specs.Answer.{of_sheet, of_sheets}
 use Rattle.helper.specs.declared.Sized.{Sized}
 use Rattle.helper.specs.declared.Sized.TheVariants as S
@@ -32,5 +32,5 @@ unfoldable pub size_answer : ℕ → List ℕ → List ℕ → Sized
 size_answer row words names = of_sheet S.Refused (sized_in row) words names
 
 -- `compare_encodings`: why the lists are turned away, or whether the trees in them match.
-unfoldable pub compare_answer : Bool → List ℕ → List ℕ → List ℕ → List ℕ → Compared
-compare_answer all aw an bw bn = of_sheets C.Refused (λ t u. C.Decided (compare_encodings all Top t u)) aw an bw bn
+unfoldable pub compare_answer : Bool → List ℕ → List ℕ → List ℕ → List ℕ → Result Bool Refusal
+compare_answer all aw an bw bn = of_sheets Err (λ t u. Ok (compare_encodings all Top t u)) aw an bw bn

@@ -12,10 +12,7 @@ ghost use Rattle.kinds.specs.Walk.{NodeAt, TreesAt, KindAndName, KindsAndNames};
 ghost use Rattle.helper.specs.Answer.{max_size, sized_in, size_answer, compare_answer};
 ghost use Rattle.helper.specs.Measure.{clip, plus_measured, larger_measured, times_measured, join_measured, fold, holding_measured, is_leaf, leaf_entry, RowOf, size_at, answer_at, compare_fields, shown_count, level_after, measured};
 
-use kinds::{
-    ARRAY, BIT_FIELD, Compared, Fields, NONE, NestingLevel, POINTER, PRIMITIVES, PrimitiveSize,
-    ROWS, Refusal, SIZES, STRUCT, TYPED_BIT_FIELD, equivalent_kinds, is_container, primitive_size,
-};
+use kinds::{ARRAY, BIT_FIELD, NONE, NestingLevel, POINTER, PRIMITIVES, ROWS, Refusal, SIZES, STRUCT, TYPED_BIT_FIELD, equivalent_kinds, is_container, primitive_size};
 use sheet::{Checked, CheckedBoth, Lone, check, check_both, code_alone};
 
 // The kind word of a primitive that is a pointer, by which a pointer's size is found in a row.
@@ -243,7 +240,7 @@ fn size_of(sizes: &[u8; 24], nodes: &[u64], at: usize, level: NestingLevel) -> M
         let item = size_of(sizes, &nodes[0..], at + 4, level.inside(kind));
         return item.held_by(kind, nodes[at + 1], nodes[at + 2]);
     }
-    let Fields::Included(inner) = level.container_include_fields() else {
+    let Some(inner) = level.container_include_fields() else {
         return Measured::Nothing;
     };
     let mut child = at + 4;
@@ -371,8 +368,8 @@ pub fn shown_count(level: NestingLevel, n: usize) -> usize
     ensures { result ≡ shown_count level n }
 {
     match level.container_include_fields() {
-        Fields::Included(_) => n,
-        Fields::Dropped => 0,
+        Some(_) => n,
+        None => 0,
     }
 }
 
@@ -495,8 +492,8 @@ fn code_size(row: u64, kind: u64) -> Sized
         return Sized::Refused(Refusal::NoSuchRow);
     }
     match primitive_size(row, kind) {
-        PrimitiveSize::Nothing => Sized::Nothing,
-        PrimitiveSize::Bytes(n) => Sized::Bytes(n),
+        None => Sized::Nothing,
+        Some(n) => Sized::Bytes(n),
     }
 }
 
@@ -511,28 +508,28 @@ pub fn size(words: &[u64], names: &[u8], row: u64) -> Sized
     }
 }
 
-fn compare_sheets(aw: &[u64], an: &[u8], bw: &[u64], bn: &[u8], all: bool) -> Compared
+fn compare_sheets(aw: &[u64], an: &[u8], bw: &[u64], bn: &[u8], all: bool) -> Result<bool, Refusal>
     ensures { result ≡ compare_answer all aw.now an.now bw.now bn.now }
 {
     match check_both(aw, an, bw, bn) {
-        CheckedBoth::Refused(why) => Compared::Refused(why),
-        CheckedBoth::Codes(k, j) => Compared::Decided(equivalent_kinds(k, j)),
+        CheckedBoth::Refused(why) => Err(why),
+        CheckedBoth::Codes(k, j) => Ok(equivalent_kinds(k, j)),
         CheckedBoth::Nodes(f, n, g, m) => {
             let top = NestingLevel::new();
             let same = compare_fields(&aw[f..], &an[0..], 0, n, &bw[g..], &bn[0..], 0, m, top, all);
-            Compared::Decided(same)
+            Ok(same)
         }
     }
 }
 
 // Whether the trees in two sheets match, by levels or with `all` fields. Two codes are told before the check of both sheets, whose
 // answer goes through memory.
-pub fn compare_encodings(aw: &[u64], an: &[u8], bw: &[u64], bn: &[u8], all: bool) -> Compared
+pub fn compare_encodings(aw: &[u64], an: &[u8], bw: &[u64], bn: &[u8], all: bool) -> Result<bool, Refusal>
     ensures { result ≡ compare_answer all aw.now an.now bw.now bn.now }
 {
     if let Lone::Code(k) = code_alone(aw) {
         if let Lone::Code(j) = code_alone(bw) {
-            return Compared::Decided(equivalent_kinds(k, j));
+            return Ok(equivalent_kinds(k, j));
         }
     }
     compare_sheets(&aw[0..], &an[0..], &bw[0..], &bn[0..], all)

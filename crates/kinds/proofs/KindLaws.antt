@@ -10,7 +10,7 @@ use Rattle.kinds.specs.Kind.{is_indirection, inside_kind, children_level}
 use Rattle.kinds.specs.Level.{shows_fields, container_include_fields}
 use Rattle.kinds.specs.Sheet.{label, is_container_kind}
 use Rattle.kinds.specs.Tree.{inside}
-use Rattle.kinds.specs.declared.Fields.TheVariants.{Included, Dropped}
+use Rattle.std.specs.Prelude.{Some, None}
 use Rattle.kinds.specs.declared.NestingLevel.{NestingLevel}
 use Rattle.kinds.specs.declared.NestingLevel.TheVariants.{Top, Within, Bottom}
 use Rattle.kinds.proofs.NodeLaws.{by_kind, label-primitive, label-none}
@@ -91,21 +91,21 @@ pub inside-low : (k : ℕ) (v : NestingLevel) → k < 26 → inside_kind k v ≡
 inside-low k v h = sym (plain-inside k v (λ e. omega arith) (λ e. omega arith) (λ e. omega arith) (λ e. omega arith))
 
 -- Children at their parent's own level are shown.
-pub children-kept : (k : ℕ) (v : NestingLevel) → inside_kind k v ≡ v → children_level k v ≡ Included v
+pub children-kept : (k : ℕ) (v : NestingLevel) → inside_kind k v ≡ v → children_level k v ≡ Some v
 unfolding inside_kind children_level
 children-kept k v h = go (is_container_kind k) refl
   where
-    go : (t : Bool) → is_container_kind k ≡ t → children_level k v ≡ Included v
-    go true e = rw e (subst (λ (u : NestingLevel). container_include_fields u ≡ Included u) (rw e at h) refl)
-    go false e = rw e (ap Included (rw e at h))
+    go : (t : Bool) → is_container_kind k ≡ t → children_level k v ≡ Some v
+    go true e = rw e (subst (λ (u : NestingLevel). container_include_fields u ≡ Some u) (rw e at h) refl)
+    go false e = rw e (ap Some (rw e at h))
 
 -- Whether a container shows its fields, and at which level.
-pub dropped : (v : NestingLevel) → container_include_fields v ≡ Dropped → shows_fields v ≡ false
+pub dropped : (v : NestingLevel) → container_include_fields v ≡ None → shows_fields v ≡ false
 dropped Top h = absurd (let z : ◌≡◌ {A = ℕ} 0 1 = cc in omega arith)
 dropped Within h = absurd (let z : ◌≡◌ {A = ℕ} 0 1 = cc in omega arith)
 dropped Bottom h = refl
 
-pub included : (v u : NestingLevel) → container_include_fields v ≡ Included u → (shows_fields v ≡ true) × (u ≡ Within)
+pub included : (v u : NestingLevel) → container_include_fields v ≡ Some u → (shows_fields v ≡ true) × (u ≡ Within)
 included Top u h = (refl, cc)
 included Within u h = (refl, cc)
 included Bottom u h = absurd (let z : ◌≡◌ {A = ℕ} 0 1 = cc in omega arith)

@@ -4,8 +4,7 @@ use Rattle.kinds.specs.Level.{indirection, container_include_fields}
 use Rattle.kinds.specs.Sheet.{is_container_kind}
 use Rattle.kinds.specs.declared.ContainerKind.{ContainerKind}
 use Rattle.kinds.specs.declared.ContainerKind.TheVariants.{Struct, Union}
-use Rattle.kinds.specs.declared.Fields.{Fields}
-use Rattle.kinds.specs.declared.Fields.TheVariants.{Included}
+use Rattle.std.specs.Prelude.{Option, Some}
 use Rattle.kinds.specs.declared.IndirectionKind.TheVariants.{Atomic, Pointer}
 use Rattle.kinds.specs.declared.NestingLevel.{NestingLevel}
 use Rattle.kinds.specs.declared.NestingLevel.TheVariants.{Within}
@@ -23,5 +22,5 @@ unfoldable pub inside_kind : ℕ → NestingLevel → NestingLevel
 inside_kind k v = cond (is_container_kind k) Within (cond (eqb k 26) (indirection Pointer v) (cond (eqb k 27) (indirection Atomic v) v))
 
 -- The same, or that they are not shown.
-unfoldable pub children_level : ℕ → NestingLevel → Fields
-children_level k v = cond (is_container_kind k) (container_include_fields v) (Included (inside_kind k v))
+unfoldable pub children_level : ℕ → NestingLevel → Option NestingLevel
+children_level k v = cond (is_container_kind k) (container_include_fields v) (Some (inside_kind k v))

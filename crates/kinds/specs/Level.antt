@@ -1,7 +1,6 @@
 -- Levels (01, "Levels"; helper.rs, `NestingLevel`).
 use Rattle.std.specs.Prelude.{Bool, true, false}
-use Rattle.kinds.specs.declared.Fields.{Fields}
-use Rattle.kinds.specs.declared.Fields.TheVariants.{Included, Dropped}
+use Rattle.std.specs.Prelude.{Option, Some, None}
 use Rattle.kinds.specs.declared.IndirectionKind.{IndirectionKind}
 use Rattle.kinds.specs.declared.IndirectionKind.TheVariants.{Atomic, Pointer}
 use Rattle.kinds.specs.declared.NestingLevel.{NestingLevel}
@@ -15,10 +14,10 @@ indirection Pointer Within = Bottom
 indirection Pointer Bottom = Bottom
 
 -- Whether a container includes its fields at a level, and then their level.
-abbrev pub container_include_fields : NestingLevel → Fields
-container_include_fields Top = Included Within
-container_include_fields Within = Included Within
-container_include_fields Bottom = Dropped
+abbrev pub container_include_fields : NestingLevel → Option NestingLevel
+container_include_fields Top = Some Within
+container_include_fields Within = Some Within
+container_include_fields Bottom = None
 
 abbrev pub shows_fields : NestingLevel → Bool
 shows_fields Top = true

@@ -6,8 +6,6 @@ use Rattle.kinds.specs.declared.Code.{Code}
 use Rattle.kinds.specs.declared.Code.TheVariants.{Empty, One, Two}
 use Rattle.kinds.specs.declared.Primitive.{Primitive}
 use Rattle.kinds.specs.declared.Primitive.TheVariants as P
-use Rattle.kinds.specs.declared.PrimitiveSize.{PrimitiveSize}
-use Rattle.kinds.specs.declared.PrimitiveSize.TheVariants.{Bytes, Nothing}
 
 -- The kind of a primitive: its place in `Primitive`.
 abbrev pub kind_of : Primitive → ℕ
@@ -140,8 +138,3 @@ size_rows = map size_row machines
 -- The size that a number of such a row stands for.
 unfoldable pub entry : ℕ → Option ℕ
 entry n = cond (eqb n 0) None (Some n)
-
--- A size as the functions hand it out.
-abbrev pub size_of : PrimitiveSize → Option ℕ
-size_of (Bytes n) = Some n
-size_of Nothing = None

@@ -5,7 +5,7 @@ ghost use Rattle.std.specs.Prelude.{◌<◌, ◌≡◌};
 ghost use Rattle.kinds.specs.Kind.{container_of, is_indirection, inside_kind, children_level};
 ghost use Rattle.kinds.specs.Level.{indirection, container_include_fields};
 ghost use Rattle.kinds.specs.Name.{is_name_byte, verify_name};
-ghost use Rattle.kinds.specs.Primitive.{kind_of, code_bytes, code, is_object, equivalent, size_of, size_in, entry};
+ghost use Rattle.kinds.specs.Primitive.{kind_of, code_bytes, code, is_object, equivalent, size_in, entry};
 ghost use Rattle.kinds.specs.Container.{start_byte, end_byte, prefix_byte};
 ghost use Rattle.kinds.specs.Sheet.{is_container_kind};
 ghost use Rattle.kinds.specs.Parse.{unknown_digit};
@@ -63,13 +63,6 @@ pub enum ContainerKind {
     Union,
 }
 
-// Whether a container includes its fields, and then their level.
-#[derive(Clone, Copy)]
-pub enum Fields {
-    Included(NestingLevel),
-    Dropped,
-}
-
 #[derive(Clone, Copy)]
 pub enum Primitive {
     Char,
@@ -106,13 +99,6 @@ pub enum Code {
     Two(u8, u8),
 }
 
-// The size of a primitive in bytes, if it has one.
-#[derive(Clone, Copy)]
-pub enum PrimitiveSize {
-    Bytes(u64),
-    Nothing,
-}
-
 // Why text cannot be read; `SurplusZero` is of strict reading alone.
 #[derive(Clone, Copy)]
 pub enum ErrorKind {
@@ -126,6 +112,13 @@ pub enum ErrorKind {
     InvalidIdentifier(ContainerKind),
     NotAllConsumed,
     SurplusZero,
+}
+
+// Why text cannot be read, and the place in it (parse.rs, `ParseError`).
+#[derive(Clone, Copy)]
+pub struct ParseError {
+    pub kind: ErrorKind,
+    pub split_point: usize,
 }
 
 // Why an input is turned away: document 01's 1 to 6, and 7 to 15 with their place; of signatures 16 and 17 with their place, and 18; of strict reading 19
@@ -144,13 +137,6 @@ pub enum Refusal {
     EmptySignature,
     NoSuchRow,
     BitFieldInLayout(usize),
-}
-
-// What a comparison answers.
-#[derive(Clone, Copy)]
-pub enum Compared {
-    Refused(Refusal),
-    Decided(bool),
 }
 
 impl NestingLevel {
@@ -188,13 +174,13 @@ impl NestingLevel {
         self
     }
 
-    pub fn container_include_fields(self) -> Fields
+    pub fn container_include_fields(self) -> Option<NestingLevel>
         ensures { result ≡ container_include_fields self }
     {
         match self {
-            NestingLevel::Top => Fields::Included(NestingLevel::Within),
-            NestingLevel::Within => Fields::Included(NestingLevel::Within),
-            NestingLevel::Bottom => Fields::Dropped,
+            NestingLevel::Top => Some(NestingLevel::Within),
+            NestingLevel::Within => Some(NestingLevel::Within),
+            NestingLevel::Bottom => None,
         }
     }
 
@@ -215,13 +201,13 @@ impl NestingLevel {
     }
 
     // The same, or that a node of this kind does not show its children.
-    pub fn children(self, kind: u64) -> Fields
+    pub fn children(self, kind: u64) -> Option<NestingLevel>
         ensures { result ≡ children_level kind self }
     {
         if is_container(kind) {
             return self.container_include_fields();
         }
-        Fields::Included(self.inside(kind))
+        Some(self.inside(kind))
     }
 }
 
@@ -331,6 +317,14 @@ impl Refusal {
     }
 }
 
+impl From<ParseError> for Refusal {
+    ghost from_gives = { λ e r. r ≡ Refusal.Parse e.kind e.split_point };
+
+    fn from(e: ParseError) -> Refusal {
+        Refusal::Parse(e.kind, e.split_point)
+    }
+}
+
 // A digit stands where a type should begin: refusal 8, with a digit.
 pub fn unknown_digit(why: ErrorKind) -> bool
     ensures { result ≡ unknown_digit why }
@@ -390,8 +384,8 @@ impl Primitive {
     }
 
     // Its size in a row.
-    pub fn size(self, row: u64) -> PrimitiveSize
-        ensures { size_of result ≡ size_in row (kind_of self) }
+    pub fn size(self, row: u64) -> Option<u64>
+        ensures { result ≡ size_in row (kind_of self) }
     {
         primitive_size(row, self.kind())
     }
@@ -458,20 +452,20 @@ fn wide(x: u8) -> u64
 }
 
 // `Primitive::size` on kind words.
-pub fn primitive_size(row: u64, kind: u64) -> PrimitiveSize
-    ensures { size_of result ≡ size_in row kind }
+pub fn primitive_size(row: u64, kind: u64) -> Option<u64>
+    ensures { result ≡ size_in row kind }
 {
     if ROWS <= row {
-        return PrimitiveSize::Nothing; // no such row
+        return None; // no such row
     }
     if PRIMITIVES <= kind {
-        return PrimitiveSize::Nothing; // no primitive
+        return None; // no primitive
     }
     let n = wide(table_entry(row, kind as usize));
     if n == 0 {
-        return PrimitiveSize::Nothing;
+        return None;
     }
-    PrimitiveSize::Bytes(n)
+    Some(n)
 }
 
 // Object, Block and Class, by their kind words.

@@ -10,7 +10,7 @@ use borrow.Author.Tests.{le-leb, lt-leb}
 use Rattle.kinds.specs.Compare.{compare_encodings}
 use Rattle.kinds.specs.Sound.{good_names}
 use Rattle.kinds.specs.Tree.{Trees}
-use Rattle.kinds.specs.declared.Compared.TheVariants as C
+use Rattle.std.specs.Prelude.{Ok, Err}
 use Rattle.kinds.specs.declared.NestingLevel.TheVariants.{Top}
 use Rattle.kinds.specs.declared.Refusal.TheVariants as R
 use Rattle.sheet.specs.Answer.{Held, refused, holding, held, HeldBoth, refused_both, holding_both, paired, held_both, of_held_both, of_sheets}
@@ -30,7 +30,7 @@ use Rattle.reason_agreement.proofs.YesLaws.{yes-exactly}
 held-good : (words names : List ℕ) (t : Trees) → held words names ≡ holding t → good_names t ≡ true
 held-good words names t e = let h = held-says words names e in rw h.tree at h.good
 
-decided : (o : Option Reason) → C.Decided (is_none o) ≡ decided_by (measured o)
+decided : (o : Option Reason) → Ok (is_none o) ≡ decided_by (measured o)
 unfolding is_none measured
 decided None = refl
 decided (Some r) = refl
@@ -41,12 +41,12 @@ module _ (all : Bool) (aw an bw bn : List ℕ) where
   compared = go (held aw an) refl (held bw bn) refl
     where
       go : (h : Held) → held aw an ≡ h → (k : Held) → held bw bn ≡ k
-          → of_held_both C.Refused (λ t u. C.Decided (compare_encodings all Top t u)) (paired h k) ≡ decided_by (of_held_both Refused (λ t u. measured (first_difference all Top t u)) (paired h k))
+          → of_held_both Err (λ t u. Ok (compare_encodings all Top t u)) (paired h k) ≡ decided_by (of_held_both Refused (λ t u. measured (first_difference all Top t u)) (paired h k))
       go (refused r) e (refused q) f = refl
       go (refused r) e (holding u) f = refl
       go (holding t) e (refused q) f = refl
       go (holding t) e (holding u) f =
-          ap C.Decided (yes-exactly all Top t u (held-holds aw an t e).one (held-holds bw bn u f).one) ∙ decided (first_difference all Top t u)
+          ap Ok (yes-exactly all Top t u (held-holds aw an t e).one (held-holds bw bn u f).one) ∙ decided (first_difference all Top t u)
 
   -- What the lists hold, as one.
   record BothHeld (t u : Trees) : Type 0 where

@@ -3,8 +3,8 @@ use Rattle.std.specs.Prelude.{ℕ, Bool, true, false, List, ◌++◌, ◌≡◌,
 use Rattle.std.specs.Prelude.{Some}
 use Rattle.kinds.specs.Sound.{valid}
 use Rattle.kinds.specs.Tree.{Trees}
-use Rattle.kinds.specs.declared.Compared.{Compared}
-use Rattle.kinds.specs.declared.Compared.TheVariants as C
+use Rattle.std.specs.Prelude.{Result, Ok, Err}
+use Rattle.kinds.specs.declared.Refusal.{Refusal}
 use Rattle.kinds.specs.declared.NestingLevel.TheVariants.{Top}
 use Rattle.sheet.specs.Answer.{held, holding}
 use Rattle.reason.specs.Answer.{reason_answer, reason_output}
@@ -14,10 +14,10 @@ use Rattle.reason.specs.declared.Reasoned.TheVariants.{Refused, Yes, Bytes}
 use Rattle.reason_agreement.specs.Along.{follow, Differ}
 
 -- What comparing answers where the reason's call answers this.
-abbrev pub decided_by : Reasoned → Compared
-decided_by (Refused r) = C.Refused r
-decided_by Yes = C.Decided true
-decided_by (Bytes n) = C.Decided false
+abbrev pub decided_by : Reasoned → Result Bool Refusal
+decided_by (Refused r) = Err r
+decided_by Yes = Ok true
+decided_by (Bytes n) = Ok false
 
 -- The lists hold trees with a reason of `n` bytes, which is right and stands at the front of the output, with what was behind it left as it was.
 pub record Written (all : Bool) (aw an bw bn out : List ℕ) (n : ℕ) : Type 0 where

@@ -4,7 +4,7 @@
 
 use helper::Sized;
 use input::{read_full, zeros};
-use kinds::{Compared, MAX_TEXT, Refusal};
+use kinds::{MAX_TEXT, Refusal};
 use layout::LaidOut;
 use lines::Decoded;
 use parse::Reading;
@@ -95,10 +95,10 @@ fn put_yes_no(out: &mut [u8], at: usize, answer: bool) -> usize {
     lines::put_bytes(out, at, b"no")
 }
 
-fn put_compared(out: &mut [u8], at: usize, compared: Compared) -> usize {
+fn put_compared(out: &mut [u8], at: usize, compared: Result<bool, Refusal>) -> usize {
     match compared {
-        Compared::Refused(why) => put_refused(out, b"refused ", why),
-        Compared::Decided(answer) => put_yes_no(out, at, answer),
+        Err(why) => put_refused(out, b"refused ", why),
+        Ok(answer) => put_yes_no(out, at, answer),
     }
 }
 

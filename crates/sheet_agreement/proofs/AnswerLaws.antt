@@ -13,8 +13,8 @@ use Rattle.kinds.specs.Primitive.{widths}
 use Rattle.kinds.specs.Print.{print}
 use Rattle.kinds.specs.Sheet.{max_text}
 use Rattle.kinds.specs.Tree.{Trees, shown}
-use Rattle.kinds.specs.declared.Compared.{Compared}
-use Rattle.kinds.specs.declared.Compared.TheVariants as C
+use Rattle.std.specs.Prelude.{Result, Ok, Err}
+use Rattle.kinds.specs.declared.Refusal.{Refusal}
 use Rattle.kinds.specs.declared.NestingLevel.TheVariants.{Top}
 use Rattle.kinds.specs.declared.Refusal.TheVariants as R
 use Rattle.sheet.specs.Answer.{Held, refused, holding, held, of_held, of_sheet, paired, held_both, of_held_both, of_sheets}
@@ -28,12 +28,12 @@ use Rattle.bounds.proofs.HeldLaws.{held-holds}
 use Rattle.sheet_agreement.specs.Sheets.{SheetOf, Answered, SheetsAlike}
 
 -- The answer for a text, from that of the tree.
-unfoldable against_text : List ℕ → Bool → Compared
-against_text text answer = cond (ltb max_text (length text)) (C.Refused R.TextTooLong) (C.Decided answer)
+unfoldable against_text : List ℕ → Bool → Result Bool Refusal
+against_text text answer = cond (ltb max_text (length text)) (Err R.TextTooLong) (Ok answer)
 
 -- The answer of a comparison with what other lists hold, from that of the trees.
-abbrev against : (Trees → Bool) → Held → Compared
-against answer h = of_held C.Refused (λ u. C.Decided (answer u)) h
+abbrev against : (Trees → Bool) → Held → Result Bool Refusal
+against answer h = of_held Err (λ u. Ok (answer u)) h
 
 module _ {w s : List ℕ} {t : Trees} (h : SheetOf w s t) where
   length-answer : encoding_len w s ≡ Bytes (length (print Top t))
@@ -56,7 +56,7 @@ module _ {w s : List ℕ} {t : Trees} (h : SheetOf w s t) where
   unfolding compared of_sheet against_text
   text-answer text = rw h.holds
 
-  pub text-decided : (text : List ℕ) → length text ≤ max_text → compared w s text ≡ C.Decided (equivalent_to_str t text)
+  pub text-decided : (text : List ℕ) → length text ≤ max_text → compared w s text ≡ Ok (equivalent_to_str t text)
   unfolding against_text
   text-decided text q = text-answer text ∙ rw (le-ltb max_text (length text) q)
 
@@ -65,7 +65,7 @@ module _ {w s : List ℕ} {t : Trees} (h : SheetOf w s t) where
     unfolding compare_answer of_sheets held_both
     compare-first = rw h.holds (go (held cw cn))
       where
-        go : (x : Held) → of_held_both C.Refused (λ a b. C.Decided (compare_encodings all Top a b)) (paired (holding t) x) ≡ against (compare_encodings all Top t) x
+        go : (x : Held) → of_held_both Err (λ a b. Ok (compare_encodings all Top a b)) (paired (holding t) x) ≡ against (compare_encodings all Top t) x
         go (refused r) = refl
         go (holding u) = refl
 
@@ -73,7 +73,7 @@ module _ {w s : List ℕ} {t : Trees} (h : SheetOf w s t) where
     unfolding compare_answer of_sheets held_both
     compare-second = rw h.holds (go (held cw cn))
       where
-        go : (x : Held) → of_held_both C.Refused (λ a b. C.Decided (compare_encodings all Top a b)) (paired x (holding t)) ≡ against (λ u. compare_encodings all Top u t) x
+        go : (x : Held) → of_held_both Err (λ a b. Ok (compare_encodings all Top a b)) (paired x (holding t)) ≡ against (λ u. compare_encodings all Top u t) x
         go (refused r) = refl
         go (holding u) = refl
 
@@ -93,7 +93,7 @@ module _ {w s : List ℕ} {t : Trees} (h : SheetOf w s t) where
 -- What is held decides, and where no tree is held the trees do not matter.
 same-against : (f g : Trees → Bool) (h : Held) → ((u : Trees) → h ≡ holding u → f u ≡ g u) → against f h ≡ against g h
 same-against f g (refused r) e = refl
-same-against f g (holding u) e = ap C.Decided (e u refl)
+same-against f g (holding u) e = ap Ok (e u refl)
 
 module _ {aw an bw bn : List ℕ} {t u : Trees} (a : SheetOf aw an t) (b : SheetOf bw bn u) (e : shown Top t ≡ shown Top u) where
   alike : ShownAlike t u

@@ -10,7 +10,7 @@ use Rattle.kinds.specs.Compare.{equivalent_to}
 use Rattle.kinds.specs.Print.{print}
 use Rattle.kinds.specs.Sheet.{max_text}
 use Rattle.kinds.specs.Tree.{Trees, shown}
-use Rattle.kinds.specs.declared.Compared.TheVariants as C
+use Rattle.std.specs.Prelude.{Ok}
 use Rattle.kinds.specs.declared.NestingLevel.TheVariants.{Top}
 use Rattle.expect.specs.Answer.{compared}
 use Rattle.helper.specs.Answer.{compare_answer}
@@ -41,10 +41,10 @@ sheets-print-alike aw an bw bn t u a b = prints-alike t u a.sound-tree b.sound-t
 -- Demand 3, comparisons: where the second sheet's printed text has at most 2,000 bytes, tree against tree (either call) and tree against that
 -- text give the same answer.
 pub sheets-compare-alike : (aw an bw bn : List ℕ) (t u : Trees) → SoundSheet aw an t → SoundSheet bw bn u → length (print Top u) ≤ max_text
-    → (answer : Bool) × (compare_answer false aw an bw bn ≡ C.Decided answer) × (compared aw an (print Top u) ≡ C.Decided answer)
+    → (answer : Bool) × (compare_answer false aw an bw bn ≡ Ok answer) × (compared aw an (print Top u) ≡ Ok answer)
 unfolding equivalent_to
 sheets-compare-alike aw an bw bn t u a b q = (
   equivalent_to t u,
   ((answers a.sheet).trees false bw bn u b.sheet).0,
-  text-decided a.sheet (print Top u) q ∙ ap C.Decided (sym (compares-alike t u a.sound-tree b.sound-tree)),
+  text-decided a.sheet (print Top u) q ∙ ap Ok (sym (compares-alike t u a.sound-tree b.sound-tree)),
 )

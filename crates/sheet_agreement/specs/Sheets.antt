@@ -5,7 +5,7 @@ use Rattle.kinds.specs.Expect.{equivalent_to_str}
 use Rattle.kinds.specs.Print.{print}
 use Rattle.kinds.specs.Sheet.{max_text}
 use Rattle.kinds.specs.Tree.{Trees}
-use Rattle.kinds.specs.declared.Compared.TheVariants.{Decided}
+use Rattle.std.specs.Prelude.{Ok}
 use Rattle.kinds.specs.declared.NestingLevel.TheVariants.{Top}
 use Rattle.sheet.specs.Answer.{held, holding}
 use Rattle.expect.specs.Answer.{compared}
@@ -32,8 +32,8 @@ pub record Answered (words names : List ℕ) (t : Trees) : Type 0 where
   pub sizes : (row : ℕ) → size_answer row words names ≡ sized_in row t
   -- By levels and with all fields, with another sheet on either side.
   pub trees : (all : Bool) (cw cn : List ℕ) (u : Trees) → SheetOf cw cn u
-      → (compare_answer all words names cw cn ≡ Decided (compare_encodings all Top t u)) × (compare_answer all cw cn words names ≡ Decided (compare_encodings all Top u t))
-  pub texts : (text : List ℕ) → length text ≤ max_text → compared words names text ≡ Decided (equivalent_to_str t text)
+      → (compare_answer all words names cw cn ≡ Ok (compare_encodings all Top t u)) × (compare_answer all cw cn words names ≡ Ok (compare_encodings all Top u t))
+  pub texts : (text : List ℕ) → length text ≤ max_text → compared words names text ≡ Ok (equivalent_to_str t text)
 
 -- The calls answer the same for either of two sheets and leave the same in a lent output.
 pub record SheetsAlike (aw an bw bn : List ℕ) : Type 0 where

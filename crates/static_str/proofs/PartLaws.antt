@@ -15,20 +15,20 @@ use Rattle.kinds.specs.Primitive.{codes, code}
 use Rattle.kinds.specs.Print.{decimal, fields}
 use Rattle.kinds.specs.Sheet.{is_container_kind}
 use Rattle.kinds.specs.declared.ContainerKind.{ContainerKind}
-use Rattle.kinds.specs.declared.Fields.TheVariants.{Included, Dropped}
+use Rattle.std.specs.Prelude.{Some, None}
 use Rattle.kinds.specs.declared.NestingLevel.{NestingLevel}
 use Rattle.kinds.specs.declared.NestingLevel.TheVariants.{Top, Within, Bottom}
 use Rattle.kinds.proofs.TableLaws.{every_below, pass_below}
 use Rattle.static_str.specs.Parts.{opening, closing}
 
 -- `=` stands where fields are included
-pub fields-shown : (v u : NestingLevel) → container_include_fields v ≡ Included u → fields v [] ≡ 61 ∷ []
+pub fields-shown : (v u : NestingLevel) → container_include_fields v ≡ Some u → fields v [] ≡ 61 ∷ []
 unfolding fields
 fields-shown Top u e = refl
 fields-shown Within u e = refl
 fields-shown Bottom u e = let z : ◌≡◌ {A = ℕ} 0 1 = cc in absurd (omega arith)
 
-pub fields-hidden : (v : NestingLevel) → container_include_fields v ≡ Dropped → fields v [] ≡ []
+pub fields-hidden : (v : NestingLevel) → container_include_fields v ≡ None → fields v [] ≡ []
 unfolding fields
 fields-hidden Top e = let z : ◌≡◌ {A = ℕ} 0 1 = cc in absurd (omega arith)
 fields-hidden Within e = let z : ◌≡◌ {A = ℕ} 0 1 = cc in absurd (omega arith)

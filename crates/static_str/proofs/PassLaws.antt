@@ -10,7 +10,7 @@ use Rattle.kinds.specs.Kind.{children_level, inside_kind}
 use Rattle.kinds.specs.Sheet.{kind_at, count_at, label_at, trees, nests}
 use Rattle.kinds.specs.Tree.{inside}
 use Rattle.kinds.specs.Walk.{TreesAt}
-use Rattle.kinds.specs.declared.Fields.TheVariants.{Included, Dropped}
+use Rattle.std.specs.Prelude.{Some, None}
 use Rattle.kinds.specs.declared.NestingLevel.{NestingLevel}
 use Rattle.kinds.proofs.KindLaws.{children-kept}
 use Rattle.kinds.proofs.SheetLaws.{trees-step}
@@ -73,10 +73,10 @@ module _ (w : List ℕ) (at m : ℕ) (h : TreesAt w at m) (p : 0 < m) where
 
 -- the length of the text of a node's children, and its bound
 module _ (w : List ℕ) (at : ℕ) (v : NestingLevel) (p : 1 ≤ count_at w at) where
-  pub dropped-length : children_level (kind_at w at) v ≡ Dropped → ChildrenLength w at v 0 × (0 + max_node_text ≤ max_node_text * count_at w at)
+  pub dropped-length : children_level (kind_at w at) v ≡ None → ChildrenLength w at v 0 × (0 + max_node_text ≤ max_node_text * count_at w at)
   dropped-length e = (λ s k. let t = ap length (dropped-text s w v at e) in omega arith, omega arith)
 
-  pub included-length : (u : NestingLevel) (r : ℕ) → children_level (kind_at w at) v ≡ Included u → TreesLength w (at + 4) (count_at w at - 1) u r ×
+  pub included-length : (u : NestingLevel) (r : ℕ) → children_level (kind_at w at) v ≡ Some u → TreesLength w (at + 4) (count_at w at - 1) u r ×
       (r ≤ max_node_text * (count_at w at - 1)) → ChildrenLength w at v r × (r + max_node_text ≤ max_node_text * count_at w at)
   included-length u r e l =
       let f = l.1 in (

@@ -14,8 +14,7 @@ use Rattle.kinds.specs.Print.{decimal, fields, print_node, print}
 use Rattle.kinds.specs.Sheet.{kind_at, first_at, second_at, count_at, label, is_container_kind, trees}
 use Rattle.kinds.specs.Tree.{Trees, end, inside}
 use Rattle.kinds.specs.Walk.{TreesAt}
-use Rattle.kinds.specs.declared.Fields.{Fields}
-use Rattle.kinds.specs.declared.Fields.TheVariants.{Included, Dropped}
+use Rattle.std.specs.Prelude.{Option, Some, None}
 use Rattle.kinds.specs.declared.IndirectionKind.TheVariants.{Pointer}
 use Rattle.kinds.specs.declared.NestingLevel.{NestingLevel}
 use Rattle.kinds.specs.declared.NestingLevel.TheVariants.{Top, Within, Bottom}
@@ -23,10 +22,10 @@ use Rattle.kinds.proofs.SheetLaws.{trees-step, arity-low, arity-high}
 use Rattle.kinds.proofs.NodeLaws.{by_kind, label-primitive, leaf-end, no-trees, first_some, first-within, first-node}
 use Rattle.static_str.specs.Parts.{opening, closing, print_shown, children_text}
 
-pub shown-end : (f : Fields) → print_shown f end ≡ []
+pub shown-end : (f : Option NestingLevel) → print_shown f end ≡ []
 unfolding print_shown print
-shown-end (Included v) = refl
-shown-end Dropped = refl
+shown-end (Some v) = refl
+shown-end None = refl
 
 -- a container, with the byte `x` before it and `y` after it
 container-text : (x y : ℕ) (name c d : List ℕ) (v : NestingLevel) → (shows_fields v ≡ true → d ≡ c) → (shows_fields v ≡ false → d ≡ [])
@@ -158,15 +157,15 @@ no-children s w v at p = ap (print_shown (children_level (kind_at w at) v)) (no-
     ∙ shown-end (children_level (kind_at w at) v)
 
 module _ (s w : List ℕ) (v : NestingLevel) (at : ℕ) where
-  pub dropped-text : children_level (kind_at w at) v ≡ Dropped → children_text s w at v ≡ []
+  pub dropped-text : children_level (kind_at w at) v ≡ None → children_text s w at v ≡ []
   unfolding print_shown
-  dropped-text e = ap (λ (f : Fields). print_shown f (trees s w (count_at w at - 1) (at + 4))) e
+  dropped-text e = ap (λ (f : Option NestingLevel). print_shown f (trees s w (count_at w at - 1) (at + 4))) e
 
-  pub included-text : (u : NestingLevel) → children_level (kind_at w at) v ≡ Included u → children_text s w at v ≡ print u (trees s w (count_at w at - 1) (at + 4))
+  pub included-text : (u : NestingLevel) → children_level (kind_at w at) v ≡ Some u → children_text s w at v ≡ print u (trees s w (count_at w at - 1) (at + 4))
   unfolding print_shown
-  included-text u e = ap (λ (f : Fields). print_shown f (trees s w (count_at w at - 1) (at + 4))) e
+  included-text u e = ap (λ (f : Option NestingLevel). print_shown f (trees s w (count_at w at - 1) (at + 4))) e
 
 -- a pointer and an atomic show what they hold
-pub held-shown : (k : ℕ) (v u : NestingLevel) → 26 ≤ k → k ≤ 27 → u ≡ inside_kind k v → children_level k v ≡ Included u
+pub held-shown : (k : ℕ) (v u : NestingLevel) → 26 ≤ k → k ≤ 27 → u ≡ inside_kind k v → children_level k v ≡ Some u
 unfolding children_level
-held-shown k v u lo hi f = rw (ne_eqb k 29 (λ d. omega arith), ne_eqb k 30 (λ d. omega arith)) (ap Included (sym f))
+held-shown k v u lo hi f = rw (ne_eqb k 29 (λ d. omega arith), ne_eqb k 30 (λ d. omega arith)) (ap Some (sym f))

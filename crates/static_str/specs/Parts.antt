@@ -8,8 +8,7 @@ use Rattle.kinds.specs.Print.{decimal, fields, print}
 use Rattle.kinds.specs.Sheet.{kind_at, count_at, is_container_kind, trees}
 use Rattle.kinds.specs.Tree.{Trees}
 use Rattle.kinds.specs.Walk.{KindsAndNames}
-use Rattle.kinds.specs.declared.Fields.{Fields}
-use Rattle.kinds.specs.declared.Fields.TheVariants.{Included, Dropped}
+use Rattle.std.specs.Prelude.{Option, Some, None}
 use Rattle.kinds.specs.declared.IndirectionKind.TheVariants.{Atomic, Pointer}
 use Rattle.kinds.specs.declared.NestingLevel.{NestingLevel}
 
@@ -30,9 +29,9 @@ closing k b =
     (cond (eqb k 28) (bytes "]")
     (cond (is_container_kind k) (end_byte (container_of k) ∷ []) []))
 
-unfoldable pub print_shown : Fields → Trees → List ℕ
-print_shown (Included v) ts = print v ts
-print_shown Dropped ts = []
+unfoldable pub print_shown : Option NestingLevel → Trees → List ℕ
+print_shown (Some v) ts = print v ts
+print_shown None ts = []
 
 -- The text of the children of the node at `at`.
 abbrev pub children_text : List ℕ → List ℕ → ℕ → NestingLevel → List ℕ

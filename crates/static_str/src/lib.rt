@@ -12,11 +12,7 @@ ghost use Rattle.static_str.specs.Output.{Wrote};
 ghost use Rattle.static_str.specs.Answer.{fitted, placed, encoding_len, encoding_array, encoding_output};
 ghost use Rattle.static_str.specs.Parts.{opening, closing, children_text, max_node_text, OwnLength, ChildrenLength, TreesLength};
 
-use kinds::{
-    ARRAY, BIT_FIELD, Code, ContainerKind, Fields, IndirectionKind, NestingLevel, POINTER,
-    PRIMITIVES, Refusal, TYPED_BIT_FIELD, container_of, is_container, is_indirection,
-    primitive_code,
-};
+use kinds::{ARRAY, BIT_FIELD, Code, ContainerKind, IndirectionKind, NestingLevel, POINTER, PRIMITIVES, Refusal, TYPED_BIT_FIELD, container_of, is_container, is_indirection, primitive_code};
 use sheet::{Checked, check};
 
 // The count of bytes of a text, or why there is none.
@@ -158,8 +154,8 @@ fn container_len(name: u64, level: NestingLevel) -> usize
 {
     let len = 2 + name as usize;
     match level.container_include_fields() {
-        Fields::Included(_) => len + 1,
-        Fields::Dropped => len,
+        Some(_) => len + 1,
+        None => len,
     }
 }
 
@@ -234,8 +230,8 @@ fn children_len(nodes: &[u64], at: usize, level: NestingLevel) -> usize
     ensures { ChildrenLength nodes.now at level result × (result + max_node_text ≤ max_node_text * count_at nodes.now at) }
 {
     match level.children(nodes[at]) {
-        Fields::Dropped => 0,
-        Fields::Included(inner) => {
+        None => 0,
+        Some(inner) => {
             let below = nodes[at + 3] as usize - 1;
             trees_len(&nodes[0..], at + 4, below, inner)
         }
@@ -274,8 +270,8 @@ fn put_equals(out: &mut [u8], at: usize, level: NestingLevel) -> usize
     ensures { Wrote out.old at (fields level []) out.new result }
 {
     match level.container_include_fields() {
-        Fields::Included(_) => put(out, at, b'='),
-        Fields::Dropped => at,
+        Some(_) => put(out, at, b'='),
+        None => at,
     }
 }
 
@@ -372,8 +368,8 @@ fn print_children(
         return to;
     }
     match level.children(nodes[at]) {
-        Fields::Dropped => to,
-        Fields::Included(inner) => print_trees(
+        None => to,
+        Some(inner) => print_trees(
             &nodes[0..],
             &names[0..],
             at + 4,

@@ -4,7 +4,7 @@
 
 use helper::Sized;
 use input::{read_full, zeros};
-use kinds::{Compared, MAX_TEXT, ROWS};
+use kinds::{MAX_TEXT, ROWS};
 use layout::LaidOut;
 use parse::Reading;
 use reason::Reasoned;
@@ -385,8 +385,8 @@ fn answer_match(rt: &impl Print, a: &[u8], text: &[u8]) -> io::Result<()> {
         return Ok(());
     }
     match encoding::equivalent_to_str(&words, &names, text) {
-        Compared::Refused(why) => say_refused(rt, text, &why.words()),
-        Compared::Decided(answer) => say_decided(rt, answer),
+        Err(why) => say_refused(rt, text, &why.words()),
+        Ok(answer) => say_decided(rt, answer),
     }
 }
 

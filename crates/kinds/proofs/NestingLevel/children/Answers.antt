@@ -1,6 +1,6 @@
 use mathlib.Core.Path.{ap, sym, ◌∙◌}
 use Rattle.kinds.specs.Kind.{children_level}
-use Rattle.kinds.specs.declared.Fields.TheVariants.{Included}
+use Rattle.std.specs.Prelude.{Some}
 use Rattle.kinds.proofs.NestingLevel.children.Goals as goal
 
 pub returns-then-is_container : goal.returns-then-is_container
@@ -9,4 +9,4 @@ returns-then-is_container c = rw (sym c.is_container.ensures ∙ c.if-is_contain
 
 pub returns : goal.returns
 unfolding children_level
-returns c = rw (sym c.is_container.ensures ∙ c.if-is_container.false) (ap Included c.inside.ensures)
+returns c = rw (sym c.is_container.ensures ∙ c.if-is_container.false) (ap Some c.inside.ensures)
