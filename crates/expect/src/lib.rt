@@ -16,7 +16,7 @@ ghost use Rattle.expect.specs.Answer.{compared};
 use kinds::{ARRAY, BIT_FIELD, Code, ContainerKind, IndirectionKind, MAX_TEXT, NestingLevel, POINTER, PRIMITIVES, Refusal, TYPED_BIT_FIELD, container_of, is_container, is_indirection, is_object, primitive_code};
 use numbers::{Number, parse_u8, parse_u64};
 use parser::strip_leading_qualifiers;
-use sheet::{Checked, check};
+use sheet::{check};
 use skip::{SkippedFields, skip_fields};
 
 // The place after what was taken, or no match.
@@ -505,9 +505,9 @@ pub fn equivalent_to_str(words: &[u64], names: &[u8], text: &[u8]) -> Result<boo
         return Err(Refusal::TextTooLong);
     }
     match check(&words[0..], &names[0..]) {
-        Checked::Refused(why) => Err(why),
-        Checked::Code(_, kind) => Ok(code_matches(kind, &text[0..])),
-        Checked::Nodes(first, n) => Ok(tree_matches(
+        Err(why) => Err(why),
+        Ok(Found::Code(_, kind)) => Ok(code_matches(kind, &text[0..])),
+        Ok(Found::Nodes(first, n)) => Ok(tree_matches(
             &words[first..],
             &names[0..],
             n,

@@ -13,7 +13,7 @@ ghost use Rattle.helper.specs.Answer.{max_size, sized_in, size_answer, compare_a
 ghost use Rattle.helper.specs.Measure.{clip, plus_measured, larger_measured, times_measured, join_measured, fold, holding_measured, is_leaf, leaf_entry, RowOf, size_at, answer_at, compare_fields, shown_count, level_after, measured};
 
 use kinds::{ARRAY, BIT_FIELD, NONE, NestingLevel, POINTER, PRIMITIVES, ROWS, Refusal, SIZES, STRUCT, TYPED_BIT_FIELD, equivalent_kinds, is_container, primitive_size};
-use sheet::{Checked, CheckedBoth, Lone, check, check_both, code_alone};
+use sheet::{check, check_both, code_alone};
 
 // The kind word of a primitive that is a pointer, by which a pointer's size is found in a row.
 const STRING: usize = 18;
@@ -502,9 +502,9 @@ pub fn size(words: &[u64], names: &[u8], row: u64) -> Sized
     ensures { result ≡ size_answer row words.now names.now }
 {
     match check(words, names) {
-        Checked::Refused(why) => Sized::Refused(why),
-        Checked::Code(_, kind) => code_size(row, kind),
-        Checked::Nodes(first, _) => nodes_size(row, &words[first..]),
+        Err(why) => Sized::Refused(why),
+        Ok(Found::Code(_, kind)) => code_size(row, kind),
+        Ok(Found::Nodes(first, _)) => nodes_size(row, &words[first..]),
     }
 }
 
@@ -512,9 +512,9 @@ fn compare_sheets(aw: &[u64], an: &[u8], bw: &[u64], bn: &[u8], all: bool) -> Re
     ensures { result ≡ compare_answer all aw.now an.now bw.now bn.now }
 {
     match check_both(aw, an, bw, bn) {
-        CheckedBoth::Refused(why) => Err(why),
-        CheckedBoth::Codes(k, j) => Ok(equivalent_kinds(k, j)),
-        CheckedBoth::Nodes(f, n, g, m) => {
+        Err(why) => Err(why),
+        Ok(FoundBoth::Codes(k, j)) => Ok(equivalent_kinds(k, j)),
+        Ok(FoundBoth::Nodes(f, n, g, m)) => {
             let top = NestingLevel::new();
             let same = compare_fields(&aw[f..], &an[0..], 0, n, &bw[g..], &bn[0..], 0, m, top, all);
             Ok(same)
@@ -527,8 +527,8 @@ fn compare_sheets(aw: &[u64], an: &[u8], bw: &[u64], bn: &[u8], all: bool) -> Re
 pub fn compare_encodings(aw: &[u64], an: &[u8], bw: &[u64], bn: &[u8], all: bool) -> Result<bool, Refusal>
     ensures { result ≡ compare_answer all aw.now an.now bw.now bn.now }
 {
-    if let Lone::Code(k) = code_alone(aw) {
-        if let Lone::Code(j) = code_alone(bw) {
+    if let Some(k) = code_alone(aw) {
+        if let Some(j) = code_alone(bw) {
             return Ok(equivalent_kinds(k, j));
         }
     }

@@ -10,6 +10,7 @@ ghost use Rattle.kinds.specs.Container.{start_byte, end_byte, prefix_byte};
 ghost use Rattle.kinds.specs.Sheet.{is_container_kind};
 ghost use Rattle.kinds.specs.Parse.{unknown_digit};
 ghost use Rattle.kinds.specs.Refusal.{number, container_word, values, words};
+ghost use Rattle.kinds.specs.declared.Refusal.TheVariants.{Parse};
 
 // The kind words of a sheet from 24 on; below are the primitives, of which there are so many.
 pub const PRIMITIVES: u64 = 24;
@@ -318,7 +319,7 @@ impl Refusal {
 }
 
 impl From<ParseError> for Refusal {
-    ghost from_gives = { λ e r. r ≡ Refusal.Parse e.kind e.split_point };
+    ghost from_gives = { λ e r. r ≡ Parse e.kind e.split_point };
 
     fn from(e: ParseError) -> Refusal {
         Refusal::Parse(e.kind, e.split_point)

@@ -13,7 +13,7 @@ mod taken;
 
 use kinds::{ROWS, Refusal, SIZES};
 use quick::nodes_layout;
-use sheet::{Checked, check};
+use sheet::{check};
 use taken::nodes_extents;
 
 // The kind word of a primitive that is a pointer, by which a pointer's size is found in a row.
@@ -81,9 +81,9 @@ pub fn layout(words: &[u64], names: &[u8], row: u64, offsets: &mut [u64]) -> Lai
     ensures fills { offsets.new ≡ layout_list row words.now names.now offsets.old }
 {
     match check(words, names) {
-        Checked::Refused(why) => LaidOut::Refused(why),
-        Checked::Code(_, kind) => code_layout(row, kind, offsets),
-        Checked::Nodes(first, n) => nodes_layout(row, &words[first..], n, offsets),
+        Err(why) => LaidOut::Refused(why),
+        Ok(Found::Code(_, kind)) => code_layout(row, kind, offsets),
+        Ok(Found::Nodes(first, n)) => nodes_layout(row, &words[first..], n, offsets),
     }
 }
 
@@ -93,8 +93,8 @@ pub fn extents(words: &[u64], names: &[u8], row: u64, list: &mut [u64]) -> bool
     ensures fills { list.new ≡ extents_list row words.now names.now list.old }
 {
     match check(words, names) {
-        Checked::Refused(_) => false,
-        Checked::Code(first, _) => nodes_extents(row, &words[first..], 1, list),
-        Checked::Nodes(first, n) => nodes_extents(row, &words[first..], n, list),
+        Err(_) => false,
+        Ok(Found::Code(first, _)) => nodes_extents(row, &words[first..], 1, list),
+        Ok(Found::Nodes(first, n)) => nodes_extents(row, &words[first..], n, list),
     }
 }

@@ -27,8 +27,11 @@ use Rattle.kinds.proofs.NodeLaws.{no-trees}
 use Rattle.kinds.proofs.ListLaws.{whole}
 use Rattle.sheet.specs.Answer.{checked, both, held_both, refused_both}
 use Rattle.sheet.specs.Given.{CodeIn, NodesAre, GivesBoth}
-use Rattle.sheet.specs.declared.Checked.{Checked}
-use Rattle.sheet.specs.declared.CheckedBoth.{CheckedBoth}
+use Rattle.std.specs.Prelude.{Result}
+use Rattle.sheet.specs.declared.FoundBoth.{FoundBoth}
+use Rattle.sheet.specs.declared.FoundBoth.TheVariants as FoundBoth
+use Rattle.sheet.specs.declared.Found.{Found}
+use Rattle.sheet.specs.declared.Found.TheVariants as Found
 use Rattle.sheet.proofs.GivenLaws.{both-gives, answer-refused-both, answer-held-both}
 use Rattle.static_str.specs.Answer.{placed}
 use Rattle.lines.specs.Answer.{Put}
@@ -370,7 +373,7 @@ module _ {all : Bool} {an a : List ℕ} {n : ℕ} {bn b : List ℕ} {m x y : ℕ
 -- ---- The answers of the calls, from what the check of two sheets gives.
 
 -- two checks of the lists as the code hands them on, `&aw[0..]`
-pub checks-give : (aw an bw bn : List ℕ) {x y : Checked} {r : CheckedBoth} → r ≡ both x y
+pub checks-give : (aw an bw bn : List ℕ) {x y : Result Found Refusal} {r : Result FoundBoth Refusal} → r ≡ both x y
     → x ≡ checked (take (length aw - 0) aw) (take (length an - 0) an) → y ≡ checked (take (length bw - 0) bw) (take (length bn - 0) bn) → GivesBoth aw an bw bn r
 checks-give aw an bw bn e p q = (both-gives aw an bw bn e (p ∙ ap₂ checked (whole aw) (whole an)) (q ∙ ap₂ checked (whole bw) (whole bn))).1.0
 

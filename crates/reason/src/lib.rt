@@ -13,7 +13,7 @@ ghost use Rattle.reason.specs.Spot.{Rooted, codes_difference};
 use find::{Found, first_difference};
 use kinds::{NestingLevel, Refusal, equivalent_kinds};
 use lines::put_bytes;
-use sheet::{CheckedBoth, Lone, both_of, check, code_alone};
+use sheet::{both_of, check, code_alone};
 use words::{difference_len, number_len, path_len, put_number_value, put_reason, reason_fits};
 
 // A yes, or the count of bytes of the reason for a no; or why there is neither.
@@ -95,9 +95,9 @@ fn sheets_len(aw: &[u64], an: &[u8], bw: &[u64], bn: &[u8], all: bool) -> Reason
     ensures { result ≡ reason_len all aw.now an.now bw.now bn.now }
 {
     match both_of(check(&aw[0..], &an[0..]), check(&bw[0..], &bn[0..])) {
-        CheckedBoth::Refused(why) => Reasoned::Refused(why),
-        CheckedBoth::Codes(k, j) => codes_len(k, j),
-        CheckedBoth::Nodes(f, n, g, m) => nodes_len(
+        Err(why) => Reasoned::Refused(why),
+        Ok(FoundBoth::Codes(k, j)) => codes_len(k, j),
+        Ok(FoundBoth::Nodes(f, n, g, m)) => nodes_len(
             &aw[f..],
             &an[0..],
             n,
@@ -113,8 +113,8 @@ fn sheets_len(aw: &[u64], an: &[u8], bw: &[u64], bn: &[u8], all: bool) -> Reason
 pub fn reason_len(aw: &[u64], an: &[u8], bw: &[u64], bn: &[u8], all: bool) -> Reasoned
     ensures { result ≡ reason_len all aw.now an.now bw.now bn.now }
 {
-    if let Lone::Code(k) = code_alone(aw) {
-        if let Lone::Code(j) = code_alone(bw) {
+    if let Some(k) = code_alone(aw) {
+        if let Some(j) = code_alone(bw) {
             return codes_len(k, j);
         }
     }
@@ -127,9 +127,9 @@ pub fn reason(aw: &[u64], an: &[u8], bw: &[u64], bn: &[u8], all: bool, out: &mut
     ensures writes { out.new ≡ reason_output all aw.now an.now bw.now bn.now out.old }
 {
     match both_of(check(&aw[0..], &an[0..]), check(&bw[0..], &bn[0..])) {
-        CheckedBoth::Refused(why) => Reasoned::Refused(why),
-        CheckedBoth::Codes(k, j) => write_codes(k, j, out),
-        CheckedBoth::Nodes(f, n, g, m) => write_nodes(
+        Err(why) => Reasoned::Refused(why),
+        Ok(FoundBoth::Codes(k, j)) => write_codes(k, j, out),
+        Ok(FoundBoth::Nodes(f, n, g, m)) => write_nodes(
             &aw[f..],
             &an[0..],
             n,

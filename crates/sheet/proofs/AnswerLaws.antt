@@ -15,10 +15,9 @@ use Rattle.kinds.specs.Walk.{TreesAt}
 use Rattle.kinds.proofs.SheetLaws.{header-says, trees-step}
 use Rattle.kinds.proofs.NodeLaws.{no-trees, first_some, first-within, first-node, node-inner, other-trees}
 use Rattle.sheet.specs.Walked.{in_order, walked, verdict_of, answer}
-use Rattle.sheet.proofs.WalkLaws.{walked-code}
-use Rattle.sheet.specs.declared.Verdict.TheVariants.{NotASheet, BadName, Good}
-use Rattle.sheet.specs.declared.Walked.{Walked}
-use Rattle.sheet.specs.declared.Walked.TheVariants.{Broken, Next}
+use Rattle.sheet.proofs.WalkLaws.{walked-code, some-pair}
+use Rattle.kinds.specs.declared.Refusal.TheVariants.{NotASheet, BadName}
+use Rattle.std.specs.Prelude.{Option, Some, None, Ok, Err}
 
 -- The names of the `n` nodes from `at` on are good.
 unfoldable names_good : List ℕ → List ℕ → ℕ → ℕ → Bool
@@ -26,9 +25,9 @@ names_good s w zero at = true
 names_good s w (suc n) at = good_name (label_at s w at) && names_good s w n (at + 4)
 
 -- A pass ends where the names end.
-unfoldable ends_at : ℕ → Walked → Bool
-ends_at e Broken = false
-ends_at e (Next p g) = eqb p e
+unfoldable ends_at : ℕ → Option (ℕ × Bool) → Bool
+ends_at e None = false
+ends_at e (Some (p, g)) = eqb p e
 
 module _ (s w : List ℕ) where
   names-split : (j k at : ℕ) → names_good s w (j + k) at ≡ (names_good s w j at && names_good s w k (at + 4 * j))
@@ -68,26 +67,26 @@ module _ (s w : List ℕ) where
     order-packed zero at p g = refl
     order-packed (suc n) at p g = go (numbers (kind_at w at) (first_at w at) (second_at w at) p e) _ _ (order-packed n (at + 4) (next_name (kind_at w at) (second_at w at) p) (g && good_name (label_at s w at)))
       where
-        go : (t x : Bool) (y : Walked) → x ≡ ends_at e y → (t && x) ≡ ends_at e (cond t y Broken)
+        go : (t x : Bool) (y : Option (ℕ × Bool)) → x ≡ ends_at e y → (t && x) ≡ ends_at e (cond t y None)
         go true x y h = h
         go false x y h = refl
 
-    order-good : (n at p : ℕ) (g : Bool) (q : ℕ) (f : Bool) → in_order s w n at p e g ≡ Next q f → f ≡ (g && names_good s w n at)
+    order-good : (n at p : ℕ) (g : Bool) (q : ℕ) (f : Bool) → in_order s w n at p e g ≡ Some (q, f) → f ≡ (g && names_good s w n at)
     unfolding in_order names_good
-    order-good zero at p g q f h = let d : g ≡ f = cc in sym d ∙ sym (and-true g)
+    order-good zero at p g q f h = sym (some-pair h).1 ∙ sym (and-true g)
     order-good (suc n) at p g q f h = go (numbers (kind_at w at) (first_at w at) (second_at w at) p e) _ h (order-good n (at + 4) (next_name (kind_at w at) (second_at w at) p) (g && good_name (label_at s w at)) q f)
       where
-        go : (t : Bool) (x : Walked) → cond t x Broken ≡ Next q f → (x ≡ Next q f → f ≡ ((g && good_name (label_at s w at)) && names_good s w n (at + 4))) → f ≡ (g && (good_name (label_at s w at) && names_good s w n (at + 4)))
+        go : (t : Bool) (x : Option (ℕ × Bool)) → cond t x None ≡ Some (q, f) → (x ≡ Some (q, f) → f ≡ ((g && good_name (label_at s w at)) && names_good s w n (at + 4))) → f ≡ (g && (good_name (label_at s w at) && names_good s w n (at + 4)))
         go true x m more = more m ∙ and_assoc g (good_name (label_at s w at)) (names_good s w n (at + 4))
         go false x m more = let z : ◌≡◌ {A = ℕ} 0 1 = cc in absurd (omega arith)
 
 module _ (words names : List ℕ) where
-  pub verdict-header : header words (length names) ≡ false → verdict_of words names ≡ NotASheet
+  pub verdict-header : header words (length names) ≡ false → verdict_of words names ≡ Err NotASheet
   unfolding verdict_of is_sheet
   verdict-header h = rw h
 
   module _ (h : header words (length names) ≡ true) where
-    pub verdict-count : (get_or words (header_words + 3) 0 ≡ get_or words 0 0 → ⊥) → verdict_of words names ≡ NotASheet
+    pub verdict-count : (get_or words (header_words + 3) 0 ≡ get_or words 0 0 → ⊥) → verdict_of words names ≡ Err NotASheet
     unfolding verdict_of is_sheet
     verdict-count c = rw (h, ne_eqb (count_at (node_words words) 0) (get_or words 0 0) (λ e. c (sym (get_or-drop header_words words 3 0) ∙ e)), and-false (packed (node_words words) (get_or words 0 0) 0 0 (get_or words 2 0)))
 
@@ -100,10 +99,10 @@ module _ (words names : List ℕ) where
         rw (h, eq-eqb (count_at (node_words words) 0) (get_or words 0 0) c, order-packed names (node_words words) (get_or words 2 0) (get_or words 0 0) 0 0 true)
         (go (nests (node_words words) (get_or words 0 0) 0) refl (in_order names (node_words words) (get_or words 0 0) 0 0 (get_or words 2 0) true) refl)
       where
-        go : (t : Bool) → nests (node_words words) (get_or words 0 0) 0 ≡ t → (x : Walked) → in_order names (node_words words) (get_or words 0 0) 0 0 (get_or words 2 0) true ≡ x
-            → cond (ends_at (get_or words 2 0) x && t) (cond (good_names (trees names (node_words words) (get_or words 0 0) 0)) Good BadName) NotASheet ≡ answer (get_or words 2 0) (cond t x Broken)
-        go true n Broken o = refl
-        go true n (Next q f) o =
+        go : (t : Bool) → nests (node_words words) (get_or words 0 0) 0 ≡ t → (x : Option (ℕ × Bool)) → in_order names (node_words words) (get_or words 0 0) 0 0 (get_or words 2 0) true ≡ x
+            → cond (ends_at (get_or words 2 0) x && t) (cond (good_names (trees names (node_words words) (get_or words 0 0) 0)) (Ok tt) (Err BadName)) (Err NotASheet) ≡ answer (get_or words 2 0) (cond t x None)
+        go true n None o = refl
+        go true n (Some (q, f)) o =
             let r : TreesAt (node_words words) 0 (get_or words 0 0) = record { room = nodes-room; nested = n } in
             rw (and-true (eqb q (get_or words 2 0)), names-tree names (node_words words) (get_or words 0 0) (get_or words 0 0) 0 (omega arith) r, order-good names (node_words words) (get_or words 2 0) (get_or words 0 0) 0 0 true q f o)
         go false n x o = rw (and-false (ends_at (get_or words 2 0) x))
@@ -113,17 +112,17 @@ module _ (words names : List ℕ) where
       pub part_room : 0 + 4 * get_or words 0 0 ≤ length w
       part_room = rw part nodes-room
 
-      pub verdict-pass : get_or words (header_words + 3) 0 ≡ get_or words 0 0 → (x : Walked) → x ≡ walked names w (get_or words 0 0) 0 0 (get_or words 2 0) true → answer (get_or words 2 0) x ≡ verdict_of words names
+      pub verdict-pass : get_or words (header_words + 3) 0 ≡ get_or words 0 0 → (x : Option (ℕ × Bool)) → x ≡ walked names w (get_or words 0 0) 0 0 (get_or words 2 0) true → answer (get_or words 2 0) x ≡ verdict_of words names
       verdict-pass c x h = rw (h, part) (sym (verdict-walked (get_or-drop header_words words 3 0 ∙ c)))
 
     -- a lone code
-    pub verdict-code : get_or words 0 0 ≡ 1 → get_or words (header_words + 3) 0 ≡ get_or words 0 0 → get_or words header_words 0 < 24 → (x : Walked)
-        → x ≡ cond (eqb (get_or words (header_words + 1) 0) 0 && eqb (get_or words (header_words + 2) 0) 0) (Next 0 true) Broken
+    pub verdict-code : get_or words 0 0 ≡ 1 → get_or words (header_words + 3) 0 ≡ get_or words 0 0 → get_or words header_words 0 < 24 → (x : Option (ℕ × Bool))
+        → x ≡ cond (eqb (get_or words (header_words + 1) 0) 0 && eqb (get_or words (header_words + 2) 0) 0) (Some (0, true)) None
         → answer (get_or words 2 0) x ≡ verdict_of words names
     verdict-code n c k x h = verdict-pass (node_words words) refl c x (h ∙ sym code)
       where
-        code : walked names (node_words words) (get_or words 0 0) 0 0 (get_or words 2 0) true ≡ cond (eqb (get_or words (header_words + 1) 0) 0 && eqb (get_or words (header_words + 2) 0) 0) (Next 0 true) Broken
+        code : walked names (node_words words) (get_or words 0 0) 0 0 (get_or words 2 0) true ≡ cond (eqb (get_or words (header_words + 1) 0) 0 && eqb (get_or words (header_words + 2) 0) 0) (Some (0, true)) None
         code =
             ap (λ (m : ℕ). walked names (node_words words) m 0 0 (get_or words 2 0) true) n
             ∙ walked-code names (node_words words) 0 0 (get_or words 2 0) true (rw (get_or-drop header_words words 0 0) k) (get_or-drop header_words words 3 0 ∙ c ∙ n)
-            ∙ ap₂ (λ (a b : ℕ). cond (eqb a 0 && eqb b 0) (Next 0 true) Broken) (get_or-drop header_words words 1 0) (get_or-drop header_words words 2 0)
+            ∙ ap₂ (λ (a b : ℕ). cond (eqb a 0 && eqb b 0) (Some (0, true)) None) (get_or-drop header_words words 1 0) (get_or-drop header_words words 2 0)

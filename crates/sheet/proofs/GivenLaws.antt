@@ -21,17 +21,14 @@ use Rattle.kinds.proofs.SheetLaws.{trees-step}
 use Rattle.sheet.specs.Answer.{Held, held, refused, holding, HeldBoth, held_both, refused_both, holding_both, paired, of_held, of_sheet, of_sheets}
 use Rattle.sheet.specs.Answer.{found, checked, checked_number, sheet_number, both, checked_both, checked_both_number, sheets_number, code_of, lone_code}
 use Rattle.sheet.specs.Given.{CodeIn, NodesAre, NodesIn, Gives, GivesBoth}
-use Rattle.sheet.specs.declared.Checked.{Checked}
-use Rattle.sheet.specs.declared.Checked.TheVariants.{Refused, Code, Nodes}
-use Rattle.sheet.specs.declared.CheckedBoth.{CheckedBoth}
-use Rattle.sheet.specs.declared.CheckedBoth.TheVariants as B
-use Rattle.sheet.specs.declared.Lone.TheVariants as L
-use Rattle.sheet.specs.declared.Verdict.{Verdict}
-use Rattle.sheet.specs.declared.Walked.TheVariants.{Next}
+use Rattle.std.specs.Prelude.{Some, None, Result, Ok, Err}
+use Rattle.sheet.specs.declared.FoundBoth.{FoundBoth}
+use Rattle.sheet.specs.declared.FoundBoth.TheVariants as FoundBoth
+use Rattle.sheet.specs.declared.Found.{Found}
+use Rattle.sheet.specs.declared.Found.TheVariants as Found
 use Rattle.sheet.specs.Walked.{verdict_of, answer, LoneCode}
 use Rattle.sheet.proofs.AnswerLaws.{verdict-code}
 use Rattle.sheet.proofs.WalkLaws.{code-numbers}
-use Rattle.sheet.specs.declared.Verdict.TheVariants as J
 
 -- ---- What two lists hold.
 
@@ -117,14 +114,14 @@ module _ (words names : List ℕ) where
       there t e = e ∙ ap holding (sym (held-says words names e).tree)
 
       kinds : (t : Trees) (e : held words names ≡ holding t) (b : Bool) → ltb (kind_at (node_words words) 0) 24 ≡ b
-          → Gives words names (cond b (Code header_words (kind_at (node_words words) 0)) (Nodes header_words (get_or words 0 0)))
+          → Gives words names (Ok (cond b (Found.Code header_words (kind_at (node_words words) 0)) (Found.Nodes header_words (get_or words 0 0))))
       kinds t e true p =
           let s = (held-says words names e).sheet in
           let k = ltb-true _ _ p in
           (sheet-code words names s (there t e) k, code-nodes words names s (there t e) k)
       kinds t e false p = sheet-nodes words names (held-says words names e).sheet (there t e)
 
-      go : (x : Held) → held words names ≡ x → Gives words names (of_held Refused (λ t. found words) x)
+      go : (x : Held) → held words names ≡ x → Gives words names (of_held Err (λ t. Ok (found words)) x)
       go (refused r) e = e
       go (holding t) e = kinds t e (ltb (kind_at (node_words words) 0) 24) refl
 
@@ -148,10 +145,10 @@ module _ (words names : List ℕ) where
       go true false = refl
       go false y = refl
 
-  gives-number : (r : Checked) → Gives words names r → checked_number r ≡ sheet_number words names
-  gives-number (Refused r) g = sym (ap held_number g) ∙ held_number_lem
-  gives-number (Code first k) g = sym (ap held_number g.0.holds) ∙ held_number_lem
-  gives-number (Nodes first n) g = sym (ap held_number g.nodes.holds) ∙ held_number_lem
+  gives-number : (r : Result Found Refusal) → Gives words names r → checked_number r ≡ sheet_number words names
+  gives-number (Err r) g = sym (ap held_number g) ∙ held_number_lem
+  gives-number (Ok (Found.Code first k)) g = sym (ap held_number g.0.holds) ∙ held_number_lem
+  gives-number (Ok (Found.Nodes first n)) g = sym (ap held_number g.nodes.holds) ∙ held_number_lem
 
 module _ (aw an bw bn : List ℕ) where
   held-both-number : held_both_number (held_both aw an bw bn) ≡ sheets_number aw an bw bn
@@ -172,45 +169,44 @@ module _ (aw an bw bn : List ℕ) where
       go false x true false = refl
       go false x false y = refl
 
-  gives-number-both : (r : CheckedBoth) → GivesBoth aw an bw bn r → checked_both_number r ≡ sheets_number aw an bw bn
+  gives-number-both : (r : Result FoundBoth Refusal) → GivesBoth aw an bw bn r → checked_both_number r ≡ sheets_number aw an bw bn
   unfolding held_both
-  gives-number-both (B.Refused r) g = sym (ap held_both_number g) ∙ held-both-number
-  gives-number-both (B.Codes k j) g = sym (ap₂ (λ (x y : Held). held_both_number (paired x y)) g.0.holds g.1.holds) ∙ held-both-number
-  gives-number-both (B.Nodes f n h m) g = sym (ap₂ (λ (x y : Held). held_both_number (paired x y)) g.0.nodes.holds g.1.nodes.holds) ∙ held-both-number
+  gives-number-both (Err r) g = sym (ap held_both_number g) ∙ held-both-number
+  gives-number-both (Ok (FoundBoth.Codes k j)) g = sym (ap₂ (λ (x y : Held). held_both_number (paired x y)) g.0.holds g.1.holds) ∙ held-both-number
+  gives-number-both (Ok (FoundBoth.Nodes f n h m)) g = sym (ap₂ (λ (x y : Held). held_both_number (paired x y)) g.0.nodes.holds g.1.nodes.holds) ∙ held-both-number
 
 -- ---- What the pass over a sheet says, and the check.
 
 module _ (words names : List ℕ) where
-  abbrev checked_as : Verdict → Checked
-  checked_as J.NotASheet = Refused NotASheet
-  checked_as J.BadName = Refused BadName
-  checked_as J.Good = found words
+  abbrev checked_as : Result (Unit {0}) Refusal → Result Found Refusal
+  checked_as (Err r) = Err r
+  checked_as (Ok tt) = Ok (found words)
 
-  pub verdict-checked : {v : Verdict} → verdict_of words names ≡ v → checked_as v ≡ checked words names
+  pub verdict-checked : {v : Result (Unit {0}) Refusal} → verdict_of words names ≡ v → checked_as v ≡ checked words names
   unfolding verdict_of checked of_sheet held
   verdict-checked h = ap checked_as (sym h) ∙ go (is_sheet words names) (good_names (tree_of words names))
     where
-      go : (x y : Bool) → checked_as (cond x (cond y J.Good J.BadName) J.NotASheet) ≡ of_held Refused (λ t. found words) (cond x (cond y (holding (tree_of words names)) (refused BadName)) (refused NotASheet))
+      go : (x y : Bool) → checked_as (cond x (cond y (Ok tt) (Err BadName)) (Err NotASheet)) ≡ of_held Err (λ t. Ok (found words)) (cond x (cond y (holding (tree_of words names)) (refused BadName)) (refused NotASheet))
       go true true = refl
       go true false = refl
       go false y = refl
 
-  verdict-sheet : verdict_of words names ≡ J.Good → is_sheet words names ≡ true
+  verdict-sheet : verdict_of words names ≡ Ok tt → is_sheet words names ≡ true
   unfolding verdict_of
   verdict-sheet h = go (is_sheet words names) (good_names (tree_of words names)) h
     where
-      go : (x y : Bool) → cond x (cond y J.Good J.BadName) J.NotASheet ≡ J.Good → x ≡ true
+      go : (x y : Bool) → ◌≡◌ {A = Result (Unit {0}) Refusal} (cond x (cond y (Ok tt) (Err BadName)) (Err NotASheet)) (Ok tt) → x ≡ true
       go true y e = refl
       go false y e = let z : ◌≡◌ {A = ℕ} 0 1 = cc in absurd (omega arith)
 
-  module _ (h : verdict_of words names ≡ J.Good) where
+  module _ (h : verdict_of words names ≡ Ok tt) where
     pub good-room : words_used 1 ≤ length words
     good-room = let s = sheet-says words names (verdict-sheet h) in let r = s.head.room in let n = s.head.some-nodes in omega arith
 
-    pub good-code : get_or words header_words 0 < 24 → Code header_words (get_or words header_words 0) ≡ checked words names
-    good-code k = let e : get_or words header_words 0 ≡ kind_at (node_words words) 0 = sym (get_or-drop header_words words 0 0) in ap (Code header_words) e ∙ sym (rw (lt-ltb (kind_at (node_words words) 0) 24 (omega arith))) ∙ verdict-checked h
+    pub good-code : get_or words header_words 0 < 24 → Ok (Found.Code header_words (get_or words header_words 0)) ≡ checked words names
+    good-code k = let e : get_or words header_words 0 ≡ kind_at (node_words words) 0 = sym (get_or-drop header_words words 0 0) in ap (λ k. Ok (Found.Code header_words k)) e ∙ sym (rw (lt-ltb (kind_at (node_words words) 0) 24 (omega arith))) ∙ verdict-checked h
 
-    pub good-nodes : 24 ≤ get_or words header_words 0 → Nodes header_words (get_or words 0 0) ≡ checked words names
+    pub good-nodes : 24 ≤ get_or words header_words 0 → Ok (Found.Nodes header_words (get_or words 0 0)) ≡ checked words names
     good-nodes k = let e : get_or words header_words 0 ≡ kind_at (node_words words) 0 = sym (get_or-drop header_words words 0 0) in sym (rw (le-ltb (kind_at (node_words words) 0) 24 (omega arith))) ∙ verdict-checked h
 
   -- the words of one code are a sheet
@@ -219,18 +215,18 @@ module _ (words names : List ℕ) where
     unfolding header
     lone-header = let r = l.room in rw (l.nodes, l.offset, l.names, l.used, le-leb header_words (length words) (omega arith), le-leb (words_used 1) (length words) r, le-leb 0 (length names) (omega arith))
 
-    pub lone-good : verdict_of words names ≡ J.Good
+    pub lone-good : verdict_of words names ≡ Ok tt
     unfolding answer
-    lone-good = sym (verdict-code words names lone-header l.nodes (l.count ∙ sym l.nodes) l.kind (Next 0 true) (rw (l.first, l.second))) ∙ rw l.names
+    lone-good = sym (verdict-code words names lone-header l.nodes (l.count ∙ sym l.nodes) l.kind (Some (0, true)) (rw (l.first, l.second))) ∙ rw l.names
 
   -- the promises of the check from the first
-  pub check-gives : {r : Checked} → r ≡ checked words names → (r ≡ checked words names) × (Gives words names r × (checked_number r ≡ sheet_number words names))
+  pub check-gives : {r : Result Found Refusal} → r ≡ checked words names → (r ≡ checked words names) × (Gives words names r × (checked_number r ≡ sheet_number words names))
   check-gives {r} e = let g = subst (Gives words names) (sym e) (gives words names) in (e, (g, gives-number words names r g))
 
 -- ---- A lone code.
 
 module _ (words : List ℕ) where
-  pub lone_is : LoneCode words → L.Code (get_or words header_words 0) ≡ lone_code words
+  pub lone_is : LoneCode words → Some (get_or words header_words 0) ≡ lone_code words
   unfolding lone_code
   lone_is l = ap code_of (good-code words [] (lone-good words [] l) l.kind)
 
@@ -254,61 +250,61 @@ module _ (words : List ℕ) where
         count = sym (get_or-drop header_words words 3 0) ∙ c;
       }
 
-  code-lone : {first k : ℕ} → checked words [] ≡ Code first k → LoneCode words × (get_or words header_words 0 ≡ k)
+  code-lone : {first k : ℕ} → checked words [] ≡ Ok (Found.Code first k) → LoneCode words × (get_or words header_words 0 ≡ k)
   unfolding checked of_sheet
   code-lone {first} {k} h = go (held words []) refl h
     where
       kinds : (t : Trees) → held words [] ≡ holding t → (b : Bool) → ltb (kind_at (node_words words) 0) 24 ≡ b
-          → cond b (Code header_words (kind_at (node_words words) 0)) (Nodes header_words (get_or words 0 0)) ≡ Code first k → LoneCode words × (get_or words header_words 0 ≡ k)
+          → ◌≡◌ {A = Result Found Refusal} (Ok (cond b (Found.Code header_words (kind_at (node_words words) 0)) (Found.Nodes header_words (get_or words 0 0)))) (Ok (Found.Code first k)) → LoneCode words × (get_or words header_words 0 ≡ k)
       kinds t e true p d =
           let s = (held-says words [] e).sheet in
           let same : kind_at (node_words words) 0 ≡ k = cc in
           (sheet-lone s (ltb-true _ _ p), sym (get_or-drop header_words words 0 0) ∙ same)
       kinds t e false p d = let z : ◌≡◌ {A = ℕ} 0 1 = cc in absurd (omega arith)
 
-      go : (x : Held) → held words [] ≡ x → of_held Refused (λ t. found words) x ≡ Code first k → LoneCode words × (get_or words header_words 0 ≡ k)
+      go : (x : Held) → held words [] ≡ x → of_held Err (λ t. Ok (found words)) x ≡ Ok (Found.Code first k) → LoneCode words × (get_or words header_words 0 ≡ k)
       go (refused r) e d = let z : ◌≡◌ {A = ℕ} 0 1 = cc in absurd (omega arith)
       go (holding t) e d = kinds t e (ltb (kind_at (node_words words) 0) 24) refl d
 
-  pub lone-none : (LoneCode words → ⊥) → L.Other ≡ lone_code words
+  pub lone-none : (LoneCode words → ⊥) → None ≡ lone_code words
   unfolding lone_code
   lone-none other = go (checked words []) refl
     where
-      go : (x : Checked) → checked words [] ≡ x → L.Other ≡ code_of x
-      go (Refused r) e = refl
-      go (Code first k) e = absurd (other (code-lone e).0)
-      go (Nodes first n) e = refl
+      go : (x : Result Found Refusal) → checked words [] ≡ x → None ≡ code_of x
+      go (Err r) e = refl
+      go (Ok (Found.Code first k)) e = absurd (other (code-lone e).0)
+      go (Ok (Found.Nodes first n)) e = refl
 
   -- whatever names stand beside the words
-  pub lone-gives : {k : ℕ} → lone_code words ≡ L.Code k → (names : List ℕ) → CodeIn words names k
+  pub lone-gives : {k : ℕ} → lone_code words ≡ Some k → (names : List ℕ) → CodeIn words names k
   unfolding lone_code
   lone-gives {k} h names = go (checked words []) refl h
     where
-      go : (x : Checked) → checked words [] ≡ x → code_of x ≡ L.Code k → CodeIn words names k
-      go (Refused r) e d = let z : ◌≡◌ {A = ℕ} 0 1 = cc in absurd (omega arith)
-      go (Code first j) e d =
+      go : (x : Result Found Refusal) → checked words [] ≡ x → code_of x ≡ Some k → CodeIn words names k
+      go (Err r) e d = let z : ◌≡◌ {A = ℕ} 0 1 = cc in absurd (omega arith)
+      go (Ok (Found.Code first j)) e d =
           let c = code-lone e in
           let same : j ≡ k = cc in
           subst (CodeIn words names) (c.1 ∙ same) (subst (Gives words names) (sym (good-code words names (lone-good words names c.0) c.0.kind)) (gives words names)).0
-      go (Nodes first n) e d = let z : ◌≡◌ {A = ℕ} 0 1 = cc in absurd (omega arith)
+      go (Ok (Found.Nodes first n)) e d = let z : ◌≡◌ {A = ℕ} 0 1 = cc in absurd (omega arith)
 
 module _ (aw an bw bn : List ℕ) where
   gives_both : GivesBoth aw an bw bn (checked_both aw an bw bn)
   unfolding checked_both held_both
   gives_both = go (checked aw an) (gives aw an) (checked bw bn) (gives bw bn)
     where
-      go : (x : Checked) → Gives aw an x → (y : Checked) → Gives bw bn y → GivesBoth aw an bw bn (both x y)
-      go (Refused r) g (Refused q) h = rw (g, h)
-      go (Refused r) g (Code i j) h = rw (g, h.0.holds)
-      go (Refused r) g (Nodes i m) h = rw (g, h.nodes.holds)
-      go (Code f k) g (Refused q) h = rw (g.0.holds, h)
-      go (Code f k) g (Code i j) h = (g.0, h.0)
-      go (Code f k) g (Nodes i m) h = (g.1, h)
-      go (Nodes f n) g (Refused q) h = rw (g.nodes.holds, h)
-      go (Nodes f n) g (Code i j) h = (g, h.1)
-      go (Nodes f n) g (Nodes i m) h = (g, h)
+      go : (x : Result Found Refusal) → Gives aw an x → (y : Result Found Refusal) → Gives bw bn y → GivesBoth aw an bw bn (both x y)
+      go (Err r) g (Err q) h = rw (g, h)
+      go (Err r) g (Ok (Found.Code i j)) h = rw (g, h.0.holds)
+      go (Err r) g (Ok (Found.Nodes i m)) h = rw (g, h.nodes.holds)
+      go (Ok (Found.Code f k)) g (Err q) h = rw (g.0.holds, h)
+      go (Ok (Found.Code f k)) g (Ok (Found.Code i j)) h = (g.0, h.0)
+      go (Ok (Found.Code f k)) g (Ok (Found.Nodes i m)) h = (g.1, h)
+      go (Ok (Found.Nodes f n)) g (Err q) h = rw (g.nodes.holds, h)
+      go (Ok (Found.Nodes f n)) g (Ok (Found.Code i j)) h = (g, h.1)
+      go (Ok (Found.Nodes f n)) g (Ok (Found.Nodes i m)) h = (g, h)
 
-  pub both-gives : {x y : Checked} {r : CheckedBoth} → r ≡ both x y → x ≡ checked aw an → y ≡ checked bw bn
+  pub both-gives : {x y : Result Found Refusal} {r : Result FoundBoth Refusal} → r ≡ both x y → x ≡ checked aw an → y ≡ checked bw bn
       → (r ≡ checked_both aw an bw bn) × (GivesBoth aw an bw bn r × (checked_both_number r ≡ sheets_number aw an bw bn))
   unfolding checked_both
   both-gives {x} {y} {r} e p q =
@@ -318,28 +314,28 @@ module _ (aw an bw bn : List ℕ) where
 
 -- ---- For a walk: what it is given, by what the check found, and the answer that it makes of it.
 
-module _ (words names : List ℕ) {c : Checked} (g : Gives words names c) where
-  pub given-refused : {r : Refusal} → c ≡ Refused r → held words names ≡ refused r
+module _ (words names : List ℕ) {c : Result Found Refusal} (g : Gives words names c) where
+  pub given-refused : {r : Refusal} → c ≡ Err r → held words names ≡ refused r
   given-refused e = subst (Gives words names) e g
 
-  pub given-code : {first k : ℕ} → c ≡ Code first k → CodeIn words names k
+  pub given-code : {first k : ℕ} → c ≡ Ok (Found.Code first k) → CodeIn words names k
   given-code e = (subst (Gives words names) e g).0
 
   -- a code is one node
-  pub given-node : {first k : ℕ} → c ≡ Code first k → NodesIn words names first 1
+  pub given-node : {first k : ℕ} → c ≡ Ok (Found.Code first k) → NodesIn words names first 1
   given-node e = (subst (Gives words names) e g).1
 
-  pub given-nodes : {first n : ℕ} → c ≡ Nodes first n → NodesIn words names first n
+  pub given-nodes : {first n : ℕ} → c ≡ Ok (Found.Nodes first n) → NodesIn words names first n
   given-nodes e = subst (Gives words names) e g
 
-module _ (aw an bw bn : List ℕ) {c : CheckedBoth} (g : GivesBoth aw an bw bn c) where
-  pub given-refused-both : {r : Refusal} → c ≡ B.Refused r → held_both aw an bw bn ≡ refused_both r
+module _ (aw an bw bn : List ℕ) {c : Result FoundBoth Refusal} (g : GivesBoth aw an bw bn c) where
+  pub given-refused-both : {r : Refusal} → c ≡ Err r → held_both aw an bw bn ≡ refused_both r
   given-refused-both e = subst (GivesBoth aw an bw bn) e g
 
-  pub given-codes : {k j : ℕ} → c ≡ B.Codes k j → CodeIn aw an k × CodeIn bw bn j
+  pub given-codes : {k j : ℕ} → c ≡ Ok (FoundBoth.Codes k j) → CodeIn aw an k × CodeIn bw bn j
   given-codes e = subst (GivesBoth aw an bw bn) e g
 
-  pub given-nodes-both : {f n h m : ℕ} → c ≡ B.Nodes f n h m → NodesIn aw an f n × NodesIn bw bn h m
+  pub given-nodes-both : {f n h m : ℕ} → c ≡ Ok (FoundBoth.Nodes f n h m) → NodesIn aw an f n × NodesIn bw bn h m
   given-nodes-both e = subst (GivesBoth aw an bw bn) e g
 
 -- The nodes as the code takes them out of the words, `&words[first..]`.

@@ -17,8 +17,7 @@ use Rattle.kinds.proofs.SheetLaws.{arity-many, arity-one, arity-low, arity-high,
 use Rattle.kinds.proofs.TableLaws.{both_left, both_right}
 use Rattle.kinds.proofs.NodeLaws.{by_kind, label-none}
 use Rattle.sheet.specs.Walked.{in_order, walked, fits, node_fits}
-use Rattle.sheet.specs.declared.Walked.{Walked}
-use Rattle.sheet.specs.declared.Walked.TheVariants.{Broken, Next}
+use Rattle.std.specs.Prelude.{Option, Some, None}
 
 -- ---- A node's own tests.
 
@@ -126,25 +125,28 @@ container-says w n at p e k m =
 -- ---- A turn of the pass.
 
 -- The nodes after those that were walked.
-unfoldable pub then : Walked → (ℕ → Bool → Walked) → Walked
-then Broken k = Broken
-then (Next p good) k = k p good
+unfoldable pub then : Option (ℕ × Bool) → (ℕ → Bool → Option (ℕ × Bool)) → Option (ℕ × Bool)
+then None k = None
+then (Some (p, good)) k = k p good
 
 -- nothing comes after them
-then-end : (x : Walked) (k : ℕ → Bool → Walked) → ((q : ℕ) (f : Bool) → k q f ≡ Next q f) → then x k ≡ x
+then-end : (x : Option (ℕ × Bool)) (k : ℕ → Bool → Option (ℕ × Bool)) → ((q : ℕ) (f : Bool) → k q f ≡ Some (q, f)) → then x k ≡ x
 unfolding then
-then-end Broken k h = refl
-then-end (Next q f) k h = h q f
+then-end None k h = refl
+then-end (Some (q, f)) k h = h q f
 
-broken-if : (t : Bool) → cond t Broken Broken ≡ Broken
+pub some-pair : {p q : ℕ} {g f : Bool} → ◌≡◌ {A = Option (ℕ × Bool)} (Some (p, g)) (Some (q, f)) → (p ≡ q) × (g ≡ f)
+some-pair {p} {q} {g} {f} h = let d : ◌≡◌ {A = ℕ × Bool} (p, g) (q, f) = cc in (ap (λ (x : ℕ × Bool). x.0) d, ap (λ (x : ℕ × Bool). x.1) d)
+
+broken-if : (t : Bool) → cond {A = Option (ℕ × Bool)} t None None ≡ None
 broken-if true = refl
 broken-if false = refl
 
 -- counts and numbers are tested together or one after the other
-then_if : (a b : Bool) (x : Walked) (k : ℕ → Bool → Walked) → cond (a && b) (then x k) Broken ≡ then (cond a x Broken) (λ (q : ℕ) (f : Bool). cond b (k q f) Broken)
+then_if : (a b : Bool) (x : Option (ℕ × Bool)) (k : ℕ → Bool → Option (ℕ × Bool)) → cond (a && b) (then x k) None ≡ then (cond a x None) (λ (q : ℕ) (f : Bool). cond b (k q f) None)
 unfolding then
-then_if true b Broken k = broken-if b
-then_if true b (Next q f) k = refl
+then_if true b None k = broken-if b
+then_if true b (Some (q, f)) k = refl
 then_if false b x k = refl
 
 -- What is known of a subtree that fits.
@@ -221,7 +223,7 @@ container-next k b p h = rw h
 
 module _ (s w : List ℕ) (e : ℕ) where
   order-step : (n at p : ℕ) (g : Bool) → 0 < n → in_order s w n at p e g
-      ≡ cond (numbers (kind_at w at) (first_at w at) (second_at w at) p e) (in_order s w (n - 1) (at + 4) (next_name (kind_at w at) (second_at w at) p) e (g && good_name (label_at s w at))) Broken
+      ≡ cond (numbers (kind_at w at) (first_at w at) (second_at w at) p e) (in_order s w (n - 1) (at + 4) (next_name (kind_at w at) (second_at w at) p) e (g && good_name (label_at s w at))) None
   unfolding in_order
   order-step zero at p g h = absurd (omega arith)
   order-step (suc n) at p g h = rw (sub-one (suc n))
@@ -232,41 +234,41 @@ module _ (s w : List ℕ) (e : ℕ) where
   order-append (suc j) k at p g = ap (λ (n : ℕ). in_order s w n at p e g) (suc-add j k)
       ∙ go (numbers (kind_at w at) (first_at w at) (second_at w at) p e) _ _ (order-append j k (at + 4) (next_name (kind_at w at) (second_at w at) p) (g && good_name (label_at s w at)))
     where
-      go : (t : Bool) (x y : Walked) → x ≡ then y (λ (q : ℕ) (f : Bool). in_order s w k (at + 4 + 4 * j) q e f) → cond t x Broken ≡ then (cond t y Broken) (λ (q : ℕ) (f : Bool). in_order s w k (at + 4 * suc j) q e f)
+      go : (t : Bool) (x y : Option (ℕ × Bool)) → x ≡ then y (λ (q : ℕ) (f : Bool). in_order s w k (at + 4 + 4 * j) q e f) → cond t x None ≡ then (cond t y None) (λ (q : ℕ) (f : Bool). in_order s w k (at + 4 * suc j) q e f)
       go true x y h = h ∙ ap (λ (i : ℕ). then y (λ (q : ℕ) (f : Bool). in_order s w k i q e f)) (omega arith)
       go false x y h = refl
 
   -- the next name is within the names
-  order_le : (n at p : ℕ) (g : Bool) (q : ℕ) (f : Bool) → p ≤ e → in_order s w n at p e g ≡ Next q f → q ≤ e
+  order_le : (n at p : ℕ) (g : Bool) (q : ℕ) (f : Bool) → p ≤ e → in_order s w n at p e g ≡ Some (q, f) → q ≤ e
   unfolding in_order
-  order_le zero at p g q f h r = let d : p ≡ q = cc in omega arith
+  order_le zero at p g q f h r = let d = some-pair r in omega (arith, d.0)
   order_le (suc n) at p g q f h r = go (numbers (kind_at w at) (first_at w at) (second_at w at) p e) refl (order_le n (at + 4) (next_name (kind_at w at) (second_at w at) p) (g && good_name (label_at s w at)) q f)
     where
       go : (t : Bool) → numbers (kind_at w at) (first_at w at) (second_at w at) p e ≡ t
-          → (next_name (kind_at w at) (second_at w at) p ≤ e → in_order s w n (at + 4) (next_name (kind_at w at) (second_at w at) p) e (g && good_name (label_at s w at)) ≡ Next q f → q ≤ e) → q ≤ e
+          → (next_name (kind_at w at) (second_at w at) p ≤ e → in_order s w n (at + 4) (next_name (kind_at w at) (second_at w at) p) e (g && good_name (label_at s w at)) ≡ Some (q, f) → q ≤ e) → q ≤ e
       go true m more = more (next_name-le (kind_at w at) (first_at w at) (second_at w at) p e h m) (rw m at r)
-      go false m more = let d : Broken ≡ Next q f = rw m at r in let z : ◌≡◌ {A = ℕ} 0 1 = cc in absurd (omega arith)
+      go false m more = let d : None ≡ Some (q, f) = rw m at r in let z : ◌≡◌ {A = ℕ} 0 1 = cc in absurd (omega arith)
 
-  pub walked-le : (n at p : ℕ) (g : Bool) (q : ℕ) (f : Bool) → p ≤ e → Next q f ≡ walked s w n at p e g → q ≤ e
+  pub walked-le : (n at p : ℕ) (g : Bool) (q : ℕ) (f : Bool) → p ≤ e → Some (q, f) ≡ walked s w n at p e g → q ≤ e
   unfolding walked
   walked-le n at p g q f h r = go (nests w n at) refl
     where
       go : (t : Bool) → nests w n at ≡ t → q ≤ e
       go true m = order_le n at p g q f h (sym (rw m at r))
-      go false m = let d : Next q f ≡ Broken = rw m at r in let z : ◌≡◌ {A = ℕ} 0 1 = cc in absurd (omega arith)
+      go false m = let d : Some (q, f) ≡ None = rw m at r in let z : ◌≡◌ {A = ℕ} 0 1 = cc in absurd (omega arith)
 
-  pub walked_none : (n at p : ℕ) (g : Bool) → n ≤ 0 → walked s w n at p e g ≡ Next p g
+  pub walked_none : (n at p : ℕ) (g : Bool) → n ≤ 0 → walked s w n at p e g ≡ Some (p, g)
   unfolding walked in_order
   walked_none zero at p g h = rw (nests-none w zero at h)
   walked_none (suc n) at p g h = absurd (omega arith)
 
   module _ (n at p : ℕ) (g : Bool) (h : 0 < n) where
     -- a node that cannot stand first
-    pub walked-bad : node_fits w n at p e ≡ false → walked s w n at p e g ≡ Broken
+    pub walked-bad : node_fits w n at p e ≡ false → walked s w n at p e g ≡ None
     unfolding walked node_fits
     walked-bad m = go (numbers (kind_at w at) (first_at w at) (second_at w at) p e) refl
       where
-        go : (t : Bool) → numbers (kind_at w at) (first_at w at) (second_at w at) p e ≡ t → cond (nests w n at) (in_order s w n at p e g) Broken ≡ Broken
+        go : (t : Bool) → numbers (kind_at w at) (first_at w at) (second_at w at) p e ≡ t → cond (nests w n at) (in_order s w n at p e g) None ≡ None
         go true q = rw (nests-unfit w n at h (rw q at m))
         go false q = rw (order-step n at p g h, q) (broken-if (nests w n at))
 
@@ -312,22 +314,22 @@ module _ (s w : List ℕ) (e : ℕ) where
             ∙ then-end _ _ (λ q f. walked_none (n - count_at w at) (at + 4 * count_at w at) q f (omega arith))
             ∙ ap₂ (λ (j : ℕ) (t : Bool). walked s w j (at + 4) (p + second_at w at) e t) (omega arith) (sym same)
 
-        module _ (g' : Bool) (same : g' ≡ (g && verify_name (take (second_at w at) (drop p s)))) (x : Walked) (inner : x ≡ walked s w (count_at w at - 1) (at + 4) (p + second_at w at) e g') where
-          pub walked-broken : x ≡ Broken → walked s w n at p e g ≡ Broken
+        module _ (g' : Bool) (same : g' ≡ (g && verify_name (take (second_at w at) (drop p s)))) (x : Option (ℕ × Bool)) (inner : x ≡ walked s w (count_at w at - 1) (at + 4) (p + second_at w at) e g') where
+          pub walked-broken : x ≡ None → walked s w n at p e g ≡ None
           unfolding then
           walked-broken b = walked-container ∙ rw (← same, ← inner, b)
 
-          pub walked_next : (q : ℕ) (f : Bool) → x ≡ Next q f → walked s w n at p e g ≡ walked s w (n - count_at w at) (at + 4 * count_at w at) q e f
+          pub walked_next : (q : ℕ) (f : Bool) → x ≡ Some (q, f) → walked s w n at p e g ≡ walked s w (n - count_at w at) (at + 4 * count_at w at) q e f
           unfolding then
           walked_next q f b = walked-container ∙ rw (← same, ← inner, b)
 
 -- a lone code
-pub walked-code : (s w : List ℕ) (at p e : ℕ) (g : Bool) → kind_at w at < 24 → count_at w at ≡ 1 → walked s w 1 at p e g ≡ cond (eqb (first_at w at) 0 && eqb (second_at w at) 0) (Next p g) Broken
+pub walked-code : (s w : List ℕ) (at p e : ℕ) (g : Bool) → kind_at w at < 24 → count_at w at ≡ 1 → walked s w 1 at p e g ≡ cond (eqb (first_at w at) 0 && eqb (second_at w at) 0) (Some (p, g)) None
 walked-code s w at p e g k c = go (eqb (first_at w at) 0 && eqb (second_at w at) 0) refl
   where
     tests : (t : Bool) → (eqb (first_at w at) 0 && eqb (second_at w at) 0) ≡ t → node_fits w 1 at p e ≡ t
     tests t h = node-code w 1 at p e (omega arith) k ∙ rw (h, eq-eqb (count_at w at) 1 c) (and-true t)
 
-    go : (t : Bool) → (eqb (first_at w at) 0 && eqb (second_at w at) 0) ≡ t → walked s w 1 at p e g ≡ cond t (Next p g) Broken
+    go : (t : Bool) → (eqb (first_at w at) 0 && eqb (second_at w at) 0) ≡ t → walked s w 1 at p e g ≡ cond t (Some (p, g)) None
     go true h = walked-plain s w e 1 at p g (omega arith) (tests true h) (rw (ne_eqb (kind_at w at) 29 (λ d. omega arith), ne_eqb (kind_at w at) 30 (λ d. omega arith))) ∙ walked_none s w e (1 - 1) (at + 4) p g (omega arith)
     go false h = walked-bad s w e 1 at p g (omega arith) (tests false h)

@@ -6,12 +6,11 @@ use Rattle.kinds.specs.Sound.{good_names}
 use Rattle.kinds.specs.Tree.{Trees}
 use Rattle.kinds.specs.declared.Refusal.{Refusal}
 use Rattle.kinds.specs.declared.Refusal.TheVariants.{NotASheet, BadName}
-use Rattle.sheet.specs.declared.Checked.{Checked}
-use Rattle.sheet.specs.declared.Checked.TheVariants.{Refused, Code, Nodes}
-use Rattle.sheet.specs.declared.CheckedBoth.{CheckedBoth}
-use Rattle.sheet.specs.declared.CheckedBoth.TheVariants as B
-use Rattle.sheet.specs.declared.Lone.{Lone}
-use Rattle.sheet.specs.declared.Lone.TheVariants as L
+use Rattle.std.specs.Prelude.{Option, Some, None, Result, Ok, Err}
+use Rattle.sheet.specs.declared.FoundBoth.{FoundBoth}
+use Rattle.sheet.specs.declared.FoundBoth.TheVariants as FoundBoth
+use Rattle.sheet.specs.declared.Found.{Found}
+use Rattle.sheet.specs.declared.Found.TheVariants as Found
 
 -- A tree, or why there is none.
 pub data Held : Type 0 where
@@ -59,51 +58,50 @@ of_sheets refuse tell aw an bw bn = of_held_both refuse tell (held_both aw an bw
 -- ---- The check.
 
 -- Where the nodes begin in the words; the kind of the tree where that is one code, or how many its nodes are.
-abbrev pub found : List ℕ → Checked
-found words = cond (ltb (kind_at (node_words words) 0) 24) (Code header_words (kind_at (node_words words) 0)) (Nodes header_words (get_or words 0 0))
+abbrev pub found : List ℕ → Found
+found words = cond (ltb (kind_at (node_words words) 0) 24) (Found.Code header_words (kind_at (node_words words) 0)) (Found.Nodes header_words (get_or words 0 0))
 
-unfoldable pub checked : List ℕ → List ℕ → Checked
-checked words names = of_sheet Refused (λ t. found words) words names
+unfoldable pub checked : List ℕ → List ℕ → Result Found Refusal
+checked words names = of_sheet Err (λ t. Ok (found words)) words names
 
 -- 01's number of the answer, and what it must be: 3 where the lists begin with no sheet, 4 where a container's name is bad, else 0.
-abbrev pub checked_number : Checked → ℕ
-checked_number (Refused r) = number r
-checked_number (Code first k) = 0
-checked_number (Nodes first n) = 0
+abbrev pub checked_number : Result Found Refusal → ℕ
+checked_number (Err r) = number r
+checked_number (Ok x) = 0
 
 unfoldable pub sheet_number : List ℕ → List ℕ → ℕ
 sheet_number words names = cond (is_sheet words names) (cond (good_names (tree_of words names)) 0 4) 3
 
 -- The check of two sheets; a code that stands beside another tree is one node.
-abbrev pub both : Checked → Checked → CheckedBoth
-both (Refused r) (Refused q) = B.Refused (sooner r q)
-both (Refused r) (Code g j) = B.Refused r
-both (Refused r) (Nodes g m) = B.Refused r
-both (Code f k) (Refused q) = B.Refused q
-both (Code f k) (Code g j) = B.Codes k j
-both (Code f k) (Nodes g m) = B.Nodes f 1 g m
-both (Nodes f n) (Refused q) = B.Refused q
-both (Nodes f n) (Code g j) = B.Nodes f n g 1
-both (Nodes f n) (Nodes g m) = B.Nodes f n g m
+abbrev pub beside : Found → Found → FoundBoth
+beside (Found.Code f k) (Found.Code g j) = FoundBoth.Codes k j
+beside (Found.Code f k) (Found.Nodes g m) = FoundBoth.Nodes f 1 g m
+beside (Found.Nodes f n) (Found.Code g j) = FoundBoth.Nodes f n g 1
+beside (Found.Nodes f n) (Found.Nodes g m) = FoundBoth.Nodes f n g m
 
-unfoldable pub checked_both : List ℕ → List ℕ → List ℕ → List ℕ → CheckedBoth
+abbrev pub both : Result Found Refusal → Result Found Refusal → Result FoundBoth Refusal
+both (Err r) (Err q) = Err (sooner r q)
+both (Err r) (Ok y) = Err r
+both (Ok x) (Err q) = Err q
+both (Ok x) (Ok y) = Ok (beside x y)
+
+unfoldable pub checked_both : List ℕ → List ℕ → List ℕ → List ℕ → Result FoundBoth Refusal
 checked_both aw an bw bn = both (checked aw an) (checked bw bn)
 
 -- The same of two sheets: 3 is tested on both before 4 on either.
-abbrev pub checked_both_number : CheckedBoth → ℕ
-checked_both_number (B.Refused r) = number r
-checked_both_number (B.Codes k j) = 0
-checked_both_number (B.Nodes f n g m) = 0
+abbrev pub checked_both_number : Result FoundBoth Refusal → ℕ
+checked_both_number (Err r) = number r
+checked_both_number (Ok x) = 0
 
 unfoldable pub sheets_number : List ℕ → List ℕ → List ℕ → List ℕ → ℕ
 sheets_number aw an bw bn = cond (is_sheet aw an && is_sheet bw bn) (cond (good_names (tree_of aw an) && good_names (tree_of bw bn)) 0 4) 3
 
 -- The code that a check found.
-abbrev pub code_of : Checked → Lone
-code_of (Refused r) = L.Other
-code_of (Code first k) = L.Code k
-code_of (Nodes first n) = L.Other
+abbrev pub code_of : Result Found Refusal → Option ℕ
+code_of (Err r) = None
+code_of (Ok (Found.Code first k)) = Some k
+code_of (Ok (Found.Nodes first n)) = None
 
 -- The code that words hold without any name byte: a tree that is one code has no name, so its words are all that it takes.
-unfoldable pub lone_code : List ℕ → Lone
+unfoldable pub lone_code : List ℕ → Option ℕ
 lone_code words = code_of (checked words [])

@@ -4,10 +4,12 @@ use Rattle.kinds.specs.Sheet.{Holds, count_at, trees, max_nodes, max_names}
 use Rattle.kinds.specs.Tree.{end, node, primitive}
 use Rattle.kinds.specs.Walk.{NodeAt, TreesAt, KindsAndNames}
 use Rattle.sheet.specs.Answer.{held, refused, holding, held_both, refused_both}
-use Rattle.sheet.specs.declared.Checked.{Checked}
-use Rattle.sheet.specs.declared.Checked.TheVariants.{Refused, Code, Nodes}
-use Rattle.sheet.specs.declared.CheckedBoth.{CheckedBoth}
-use Rattle.sheet.specs.declared.CheckedBoth.TheVariants as B
+use Rattle.std.specs.Prelude.{Result, Ok, Err}
+use Rattle.kinds.specs.declared.Refusal.{Refusal}
+use Rattle.sheet.specs.declared.FoundBoth.{FoundBoth}
+use Rattle.sheet.specs.declared.FoundBoth.TheVariants as FoundBoth
+use Rattle.sheet.specs.declared.Found.{Found}
+use Rattle.sheet.specs.declared.Found.TheVariants as Found
 
 -- The `n` nodes of a sheet are `w`.
 pub record NodesAre (words names w : List ℕ) (n : ℕ) : Type 0 where
@@ -32,13 +34,13 @@ pub record CodeIn (words names : List ℕ) (k : ℕ) : Type 0 where
   pub code : k < 24
   pub holds : held words names ≡ holding (node (primitive k) end end)
 
-abbrev pub Gives : List ℕ → List ℕ → Checked → Type 0
-Gives words names (Refused r) = held words names ≡ refused r
-Gives words names (Code first k) = CodeIn words names k × NodesIn words names first 1
-Gives words names (Nodes first n) = NodesIn words names first n
+abbrev pub Gives : List ℕ → List ℕ → Result Found Refusal → Type 0
+Gives words names (Err r) = held words names ≡ refused r
+Gives words names (Ok (Found.Code first k)) = CodeIn words names k × NodesIn words names first 1
+Gives words names (Ok (Found.Nodes first n)) = NodesIn words names first n
 
 -- The same of two sheets.
-abbrev pub GivesBoth : List ℕ → List ℕ → List ℕ → List ℕ → CheckedBoth → Type 0
-GivesBoth aw an bw bn (B.Refused r) = held_both aw an bw bn ≡ refused_both r
-GivesBoth aw an bw bn (B.Codes k j) = CodeIn aw an k × CodeIn bw bn j
-GivesBoth aw an bw bn (B.Nodes f n g m) = NodesIn aw an f n × NodesIn bw bn g m
+abbrev pub GivesBoth : List ℕ → List ℕ → List ℕ → List ℕ → Result FoundBoth Refusal → Type 0
+GivesBoth aw an bw bn (Err r) = held_both aw an bw bn ≡ refused_both r
+GivesBoth aw an bw bn (Ok (FoundBoth.Codes k j)) = CodeIn aw an k × CodeIn bw bn j
+GivesBoth aw an bw bn (Ok (FoundBoth.Nodes f n g m)) = NodesIn aw an f n × NodesIn bw bn g m

@@ -2,23 +2,22 @@
 use Rattle.std.specs.Prelude.{ℕ, zero, suc, ◌+◌, ◌≤◌, ◌<◌, Bool, cond, ◌&&◌, List, ◌≡◌, leb, eqb, length, get_or}
 use Rattle.kinds.specs.Sheet.{header_words, words_used, kind_at, first_at, second_at, count_at, label_at, numbers, next_name, arity, nests, is_sheet, tree_of}
 use Rattle.kinds.specs.Sound.{good_name, good_names}
-use Rattle.sheet.specs.declared.Verdict.{Verdict}
-use Rattle.sheet.specs.declared.Verdict.TheVariants.{NotASheet, BadName, Good}
-use Rattle.sheet.specs.declared.Walked.{Walked}
-use Rattle.sheet.specs.declared.Walked.TheVariants.{Broken, Next}
+use Rattle.kinds.specs.declared.Refusal.TheVariants.{NotASheet, BadName}
+use Rattle.std.specs.Prelude.{Option, Some, None, Result, Ok, Err}
+use Rattle.kinds.specs.declared.Refusal.{Refusal}
 
 -- The `n` nodes from `at` on, one after the other, each with the numbers that its kind takes: the place of the next name after them,
 -- and whether their names are good. Before them these are `p` and `good`; the names end at `e`.
-unfoldable pub in_order : List ℕ → List ℕ → ℕ → ℕ → ℕ → ℕ → Bool → Walked
-in_order names w zero at p e good = Next p good
+unfoldable pub in_order : List ℕ → List ℕ → ℕ → ℕ → ℕ → ℕ → Bool → Option (ℕ × Bool)
+in_order names w zero at p e good = Some (p, good)
 in_order names w (suc n) at p e good =
     cond (numbers (kind_at w at) (first_at w at) (second_at w at) p e)
     (in_order names w n (at + 4) (next_name (kind_at w at) (second_at w at) p) e (good && good_name (label_at names w at)))
-    Broken
+    None
 
 -- The same, where the nodes' counts must also nest.
-unfoldable pub walked : List ℕ → List ℕ → ℕ → ℕ → ℕ → ℕ → Bool → Walked
-walked names w n at p e good = cond (nests w n at) (in_order names w n at p e good) Broken
+unfoldable pub walked : List ℕ → List ℕ → ℕ → ℕ → ℕ → ℕ → Bool → Option (ℕ × Bool)
+walked names w n at p e good = cond (nests w n at) (in_order names w n at p e good) None
 
 -- A subtree of `c` nodes lies within the `n` nodes that are there, and its root of kind `k` has as many children as its kind takes;
 -- the node after it has `d` nodes in its own.
@@ -30,13 +29,13 @@ unfoldable pub node_fits : List ℕ → ℕ → ℕ → ℕ → ℕ → Bool
 node_fits w n at p e = numbers (kind_at w at) (first_at w at) (second_at w at) p e && fits n (kind_at w at) (count_at w at) (count_at w (at + 4))
 
 -- Refusals 3 and 4, or neither.
-unfoldable pub verdict_of : List ℕ → List ℕ → Verdict
-verdict_of words names = cond (is_sheet words names) (cond (good_names (tree_of words names)) Good BadName) NotASheet
+unfoldable pub verdict_of : List ℕ → List ℕ → Result (Unit {0}) Refusal
+verdict_of words names = cond (is_sheet words names) (cond (good_names (tree_of words names)) (Ok tt) (Err BadName)) (Err NotASheet)
 
 -- What a whole pass says of a sheet whose names end at `e`.
-unfoldable pub answer : ℕ → Walked → Verdict
-answer e Broken = NotASheet
-answer e (Next p good) = cond (eqb p e) (cond good Good BadName) NotASheet
+unfoldable pub answer : ℕ → Option (ℕ × Bool) → Result (Unit {0}) Refusal
+answer e None = Err NotASheet
+answer e (Some (p, good)) = cond (eqb p e) (cond good (Ok tt) (Err BadName)) (Err NotASheet)
 
 -- The words of a sheet of one code.
 pub record LoneCode (words : List ℕ) : Type 0 where

@@ -5,7 +5,7 @@
 ghost use Rattle.std.specs.Prelude.{ℕ, ◌+◌, ◌-◌, ◌*◌, ◌≤◌, ◌<◌, ◌≡◌, true, false, ◌&&◌, [], ◌∷◌, leb, eqb, length, take, drop, replicate};
 ghost use Rattle.kinds.specs.Name.{verify_name};
 ghost use Rattle.kinds.specs.Sheet.{kind_at, count_at, is_container_kind, numbers, header};
-ghost use Rattle.sheet.specs.Answer.{checked, checked_number, sheet_number, sooner, both, checked_both, checked_both_number, sheets_number, lone_code};
+ghost use Rattle.sheet.specs.Answer.{checked, checked_number, sheet_number, sooner, beside, both, checked_both, checked_both_number, sheets_number, lone_code};
 ghost use Rattle.sheet.specs.Given.{Gives, GivesBoth};
 ghost use Rattle.sheet.specs.Put.{put_node, put_header};
 ghost use Rattle.sheet.specs.Walked.{walked, fits, node_fits, verdict_of, answer, LoneCode};
@@ -24,43 +24,18 @@ pub const HEADER: usize = 4;
 // The most words of a sheet that is read from a text.
 pub const MAX_WORDS: usize = HEADER + 4 * (MAX_TEXT + 1);
 
-// What the check of a sheet finds: why there is none, or where the nodes begin in the words, with the kind of a tree that is one
-// code or else how many they are.
+// Where the check of a sheet finds the nodes to begin in the words, with the kind of a tree that is one code or else how many they are.
 #[derive(Clone, Copy)]
-pub enum Checked {
-    Refused(Refusal),
+pub enum Found {
     Code(usize, u64),
     Nodes(usize, usize),
 }
 
 // The same of two sheets, a code that stands beside another tree being one node.
 #[derive(Clone, Copy)]
-pub enum CheckedBoth {
-    Refused(Refusal),
+pub enum FoundBoth {
     Codes(u64, u64),
     Nodes(usize, usize, usize, usize),
-}
-
-// The kind of the code that words hold alone, or that they hold none.
-#[derive(Clone, Copy)]
-pub enum Lone {
-    Code(u64),
-    Other,
-}
-
-// Refusals 3 and 4, or neither.
-#[derive(Clone, Copy)]
-enum Verdict {
-    NotASheet,
-    BadName,
-    Good,
-}
-
-// What a pass over nodes finds: that they are no part of a sheet, or the place of the next name and whether all names are good.
-#[derive(Clone, Copy)]
-enum Walked {
-    Broken,
-    Next(u64, bool),
 }
 
 // Whether the name at `first` is the next one and ends within the names.
@@ -200,21 +175,21 @@ fn check_nodes(
     mut name: u64,
     end: u64,
     mut good: bool,
-) -> Walked
+) -> Option<(u64, bool)>
     requires { (at + 4 * left ≤ length nodes.now) × (name ≤ end) × (end ≤ length names.now) }
     ensures { result ≡ walked names.now nodes.now left at name end good }
 {
     while 0 < left {
         if !is_container(nodes[at]) {
             if !plain_ok(nodes, at, left) {
-                return Walked::Broken;
+                return None;
             }
             at = at + 4;
             left = left - 1;
             continue;
         }
         if !container_ok(nodes, at, left, name, end) {
-            return Walked::Broken;
+            return None;
         }
         let size = nodes[at + 2];
         let count = nodes[at + 3] as usize;
@@ -225,16 +200,21 @@ fn check_nodes(
             left = left - 1;
             continue;
         }
-        let inner = check_nodes(&nodes[0..], &names[0..], at + 4, count - 1, name, end, good);
-        let Walked::Next(p, g) = inner else {
-            return Walked::Broken;
-        };
-        name = p;
-        good = g;
+        let (next, all_good) = check_nodes(
+            &nodes[0..],
+            &names[0..],
+            at + 4,
+            count - 1,
+            name,
+            end,
+            good,
+        )?;
+        name = next;
+        good = all_good;
         at = at + 4 * count;
         left = left - count;
     }
-    Walked::Next(name, good)
+    Some((name, good))
 }
 
 fn header_ok(words: &[u64], room: usize) -> bool
@@ -268,33 +248,33 @@ fn header_ok(words: &[u64], room: usize) -> bool
 }
 
 // What a whole pass says of a sheet whose names end at `end`.
-fn answer_of(end: u64, pass: Walked) -> Verdict
+fn answer_of(end: u64, pass: Option<(u64, bool)>) -> Result<(), Refusal>
     ensures { result ≡ answer end pass }
 {
     match pass {
-        Walked::Broken => Verdict::NotASheet,
-        Walked::Next(p, good) => {
+        None => Err(Refusal::NotASheet),
+        Some((p, good)) => {
             if p != end {
-                return Verdict::NotASheet;
+                return Err(Refusal::NotASheet);
             }
             if good {
-                return Verdict::Good;
+                return Ok(());
             }
-            Verdict::BadName
+            Err(Refusal::BadName)
         }
     }
 }
 
 // Whether the two lists begin with a sheet, and then whether each container of it has a good name.
-fn judged(words: &[u64], names: &[u8]) -> Verdict
+fn judged(words: &[u64], names: &[u8]) -> Result<(), Refusal>
     ensures { result ≡ verdict_of words.now names.now }
 {
     if !header_ok(words, names.len()) {
-        return Verdict::NotASheet;
+        return Err(Refusal::NotASheet);
     }
     let nodes = words[0];
     if words[HEADER + 3] != nodes {
-        return Verdict::NotASheet;
+        return Err(Refusal::NotASheet);
     }
     let end = words[2];
     let pass = check_nodes(
@@ -309,20 +289,15 @@ fn judged(words: &[u64], names: &[u8]) -> Verdict
     answer_of(end, pass)
 }
 
-fn check_sheet(words: &[u64], names: &[u8]) -> Checked
+fn check_sheet(words: &[u64], names: &[u8]) -> Result<Found, Refusal>
     ensures { result ≡ checked words.now names.now }
 {
-    match judged(words, names) {
-        Verdict::NotASheet => Checked::Refused(Refusal::NotASheet),
-        Verdict::BadName => Checked::Refused(Refusal::BadName),
-        Verdict::Good => {
-            let kind = words[HEADER];
-            if kind < PRIMITIVES {
-                return Checked::Code(HEADER, kind);
-            }
-            Checked::Nodes(HEADER, words[0] as usize)
-        }
+    judged(words, names)?;
+    let kind = words[HEADER];
+    if kind < PRIMITIVES {
+        return Ok(Found::Code(HEADER, kind));
     }
+    Ok(Found::Nodes(HEADER, words[0] as usize))
 }
 
 // Whether the words are the sheet of one code: the case that is asked for most, told apart before all else.
@@ -355,23 +330,23 @@ fn lone_code(words: &[u64]) -> bool
 }
 
 // The code that the words hold, whatever names stand beside them: for a call that can answer for codes before the check of its sheets.
-pub fn code_alone(words: &[u64]) -> Lone
+pub fn code_alone(words: &[u64]) -> Option<u64>
     ensures { result ≡ lone_code words.now }
 {
     if lone_code(words) {
-        return Lone::Code(words[HEADER]);
+        return Some(words[HEADER]);
     }
-    Lone::Other
+    None
 }
 
 // The check of a sheet.
-pub fn check(words: &[u64], names: &[u8]) -> Checked
+pub fn check(words: &[u64], names: &[u8]) -> Result<Found, Refusal>
     ensures answers { result ≡ checked words.now names.now }
     ensures gives { Gives words.now names.now result }
     ensures number { checked_number result ≡ sheet_number words.now names.now }
 {
     if lone_code(words) {
-        return Checked::Code(HEADER, words[HEADER]);
+        return Ok(Found::Code(HEADER, words[HEADER]));
     }
     check_sheet(&words[0..], &names[0..])
 }
@@ -385,41 +360,41 @@ fn sooner_of(a: Refusal, b: Refusal) -> Refusal
     b
 }
 
+fn beside(x: Found, y: Found) -> FoundBoth
+    ensures { result ≡ beside x y }
+{
+    match (x, y) {
+        (Found::Code(_, k), Found::Code(_, j)) => FoundBoth::Codes(k, j),
+        (Found::Code(f, _), Found::Nodes(g, m)) => FoundBoth::Nodes(f, 1, g, m),
+        (Found::Nodes(f, n), Found::Code(g, _)) => FoundBoth::Nodes(f, n, g, 1),
+        (Found::Nodes(f, n), Found::Nodes(g, m)) => FoundBoth::Nodes(f, n, g, m),
+    }
+}
+
 // What the checks of two sheets say together.
-pub fn both_of(a: Checked, b: Checked) -> CheckedBoth
+pub fn both_of(a: Result<Found, Refusal>, b: Result<Found, Refusal>) -> Result<FoundBoth, Refusal>
     ensures { result ≡ both a b }
 {
-    match a {
-        Checked::Refused(r) => match b {
-            Checked::Refused(q) => CheckedBoth::Refused(sooner_of(r, q)),
-            Checked::Code(_, _) => CheckedBoth::Refused(r),
-            Checked::Nodes(_, _) => CheckedBoth::Refused(r),
-        },
-        Checked::Code(f, k) => match b {
-            Checked::Refused(q) => CheckedBoth::Refused(q),
-            Checked::Code(_, j) => CheckedBoth::Codes(k, j),
-            Checked::Nodes(g, m) => CheckedBoth::Nodes(f, 1, g, m),
-        },
-        Checked::Nodes(f, n) => match b {
-            Checked::Refused(q) => CheckedBoth::Refused(q),
-            Checked::Code(g, _) => CheckedBoth::Nodes(f, n, g, 1),
-            Checked::Nodes(g, m) => CheckedBoth::Nodes(f, n, g, m),
-        },
+    match (a, b) {
+        (Err(r), Err(q)) => Err(sooner_of(r, q)),
+        (Err(r), Ok(_)) => Err(r),
+        (Ok(_), Err(q)) => Err(q),
+        (Ok(x), Ok(y)) => Ok(beside(x, y)),
     }
 }
 
 // The check of two sheets.
-pub fn check_both(aw: &[u64], an: &[u8], bw: &[u64], bn: &[u8]) -> CheckedBoth
+pub fn check_both(aw: &[u64], an: &[u8], bw: &[u64], bn: &[u8]) -> Result<FoundBoth, Refusal>
     ensures answers { result ≡ checked_both aw.now an.now bw.now bn.now }
     ensures gives { GivesBoth aw.now an.now bw.now bn.now result }
     ensures number { checked_both_number result ≡ sheets_number aw.now an.now bw.now bn.now }
 {
     if lone_code(aw) {
         if lone_code(bw) {
-            return CheckedBoth::Codes(aw[HEADER], bw[HEADER]);
+            return Ok(FoundBoth::Codes(aw[HEADER], bw[HEADER]));
         }
         return both_of(
-            Checked::Code(HEADER, aw[HEADER]),
+            Ok(Found::Code(HEADER, aw[HEADER])),
             check_sheet(&bw[0..], &bn[0..]),
         );
     }

@@ -13,7 +13,7 @@ ghost use Rattle.static_str.specs.Answer.{fitted, placed, encoding_len, encoding
 ghost use Rattle.static_str.specs.Parts.{opening, closing, children_text, max_node_text, OwnLength, ChildrenLength, TreesLength};
 
 use kinds::{ARRAY, BIT_FIELD, Code, ContainerKind, IndirectionKind, NestingLevel, POINTER, PRIMITIVES, Refusal, TYPED_BIT_FIELD, container_of, is_container, is_indirection, primitive_code};
-use sheet::{Checked, check};
+use sheet::{check};
 
 // The count of bytes of a text, or why there is none.
 #[derive(Clone, Copy)]
@@ -466,9 +466,9 @@ pub fn static_encoding_str_len(words: &[u64], names: &[u8]) -> Printed
     ensures { result ≡ encoding_len words.now names.now }
 {
     match check(&words[0..], &names[0..]) {
-        Checked::Refused(why) => Printed::Refused(why),
-        Checked::Code(_, kind) => Printed::Bytes(code_len(kind)),
-        Checked::Nodes(first, n) => Printed::Bytes(trees_len(
+        Err(why) => Printed::Refused(why),
+        Ok(Found::Code(_, kind)) => Printed::Bytes(code_len(kind)),
+        Ok(Found::Nodes(first, n)) => Printed::Bytes(trees_len(
             &words[first..],
             0,
             n,
@@ -483,8 +483,8 @@ pub fn static_encoding_str_array(words: &[u64], names: &[u8], out: &mut [u8]) ->
     ensures writes { out.new ≡ encoding_output words.now names.now out.old }
 {
     match check(&words[0..], &names[0..]) {
-        Checked::Refused(refusal) => Printed::Refused(refusal),
-        Checked::Code(_, kind) => print_code(kind, out),
-        Checked::Nodes(first, n) => print_tree(&words[first..], &names[0..], n, out),
+        Err(refusal) => Printed::Refused(refusal),
+        Ok(Found::Code(_, kind)) => print_code(kind, out),
+        Ok(Found::Nodes(first, n)) => print_tree(&words[first..], &names[0..], n, out),
     }
 }

@@ -8,7 +8,7 @@ use kinds::{MAX_TEXT, ROWS};
 use layout::LaidOut;
 use parse::Reading;
 use reason::Reasoned;
-use sheet::{Checked, MAX_WORDS};
+use sheet::{MAX_WORDS};
 use signature::SignatureReading;
 use static_str::Printed;
 use std::env::{Env, FillError};
@@ -103,9 +103,9 @@ fn from(words: &[u64], first: usize) -> &[u64] {
 
 fn say_tree(rt: &impl Print, words: &[u64], names: &[u8]) -> io::Result<()> {
     match sheet::check(words, names) {
-        Checked::Refused(_) => Ok(()),
-        Checked::Code(first, _) => say_nodes(rt, from(words, first), names, 1),
-        Checked::Nodes(first, n) => say_nodes(rt, from(words, first), names, (n % 65536) as u16),
+        Err(_) => Ok(()),
+        Ok(Found::Code(first, _)) => say_nodes(rt, from(words, first), names, 1),
+        Ok(Found::Nodes(first, n)) => say_nodes(rt, from(words, first), names, (n % 65536) as u16),
     }
 }
 

@@ -54,14 +54,14 @@ loop-left-preserved-then-count-left t c = let k = container-says c.args.nodes.no
 pub overflow_sub-count : goal.overflow_sub-count
 overflow_sub-count t c = let k = container-says c.args.nodes.now c.loop-left.left c.loop-left.at c.loop-left.name c.args.end (sym c.is_container.ensures ∙ c.if-not-is_container.false) (sym c.container_ok.ensures ∙ c.if-not-container_ok.false) in omega arith
 
-pub check_nodes-inner-requires : goal.check_nodes-inner-requires
-check_nodes-inner-requires t c = let k = container-says c.args.nodes.now c.loop-left.left c.loop-left.at c.loop-left.name c.args.end (sym c.is_container.ensures ∙ c.if-not-is_container.false) (sym c.container_ok.ensures ∙ c.if-not-container_ok.false)
+pub check_nodes-requires : goal.check_nodes-requires
+check_nodes-requires t c = let k = container-says c.args.nodes.now c.loop-left.left c.loop-left.at c.loop-left.name c.args.end (sym c.is_container.ensures ∙ c.if-not-is_container.false) (sym c.container_ok.ensures ∙ c.if-not-container_ok.false)
     in (omega arith, (rw whole (omega arith), omega arith, rw whole (omega arith)))
 
-pub returns-in_default : goal.returns-in_default
-returns-in_default t c = sym (c.loop-left.invariant.3 ∙ walked-broken _ _ _ _ _ _ _ c.loop-left-test.true (sym c.container_ok.ensures ∙ c.if-not-container_ok.false) (sym c.is_container.ensures ∙ c.if-not-is_container.false) _
-    c.name_good-good.ensures _ (rw (whole, whole) at c.check_nodes-inner.ensures)
-    c.in_default.is)
+pub returns-in_err-next : goal.returns-in_err-next
+returns-in_err-next t c = let k = c.from_residual.ensures in let e = sym (c.loop-left.invariant.3 ∙ walked-broken _ _ _ _ _ _ _ c.loop-left-test.true (sym c.container_ok.ensures ∙ c.if-not-container_ok.false) (sym c.is_container.ensures ∙ c.if-not-is_container.false) _
+    c.name_good-good.ensures _ (rw (whole, whole) at c.check_nodes.ensures)
+    c.in_err-next.was) in search rules
 
 pub overflow_mul-at : goal.overflow_mul-at
 overflow_mul-at t c = let k = container-says c.args.nodes.now c.loop-left.left c.loop-left.at c.loop-left.name c.args.end (sym c.is_container.ensures ∙ c.if-not-is_container.false) (sym c.container_ok.ensures ∙ c.if-not-container_ok.false) in search rules
@@ -79,11 +79,11 @@ pub loop-left-preserved : goal.loop-left-preserved
 loop-left-preserved t c = let k = container-says c.args.nodes.now c.loop-left.left c.loop-left.at c.loop-left.name c.args.end (sym c.is_container.ensures ∙ c.if-not-is_container.false) (sym c.container_ok.ensures ∙ c.if-not-container_ok.false) in (
   omega arith,
   omega arith,
-  walked-le _ _ _ _ _ _ _ _ _ k.name-fits (sym c.in-Next.is ∙ c.check_nodes-inner.ensures),
+  walked-le _ _ _ _ _ _ _ _ _ k.name-fits (sym c.in_ok-next.was ∙ c.check_nodes.ensures),
   c.loop-left.invariant.3
       ∙ walked_next _ _ _ _ _ _ _ c.loop-left-test.true (sym c.container_ok.ensures ∙ c.if-not-container_ok.false) (sym c.is_container.ensures ∙ c.if-not-is_container.false) _
       c.name_good-good.ensures _
-      (rw (whole, whole) at c.check_nodes-inner.ensures) _ _ c.in-Next.is,
+      (rw (whole, whole) at c.check_nodes.ensures) _ _ c.in_ok-next.was,
 )
 
 pub returns : goal.returns

@@ -4,16 +4,16 @@ use Rattle.sheet.proofs.answer_of.Goals as goal
 
 pub returns-then-p-end : goal.returns-then-p-end
 unfolding answer
-returns-then-p-end c = rw (c.in-Next.is, ne_eqb _ _ c.if-p-end.true)
+returns-then-p-end c = rw (c.in-Some.is, ne_eqb _ _ c.if-p-end.true)
 
 pub returns-then-good : goal.returns-then-good
 unfolding answer
-returns-then-good c = rw (c.in-Next.is, eq-eqb _ _ c.if-p-end.false, c.if-good.true)
+returns-then-good c = rw (c.in-Some.is, eq-eqb _ _ c.if-p-end.false, c.if-good.true)
 
-pub returns-in-Broken : goal.returns-in-Broken
+pub returns-in-None : goal.returns-in-None
 unfolding answer
-returns-in-Broken c = rw c.in-Broken.is
+returns-in-None c = rw c.in-None.is
 
 pub returns-else-good : goal.returns-else-good
 unfolding answer
-returns-else-good c = rw (c.in-Next.is, eq-eqb _ _ c.if-p-end.false, c.if-good.false)
+returns-else-good c = rw (c.in-Some.is, eq-eqb _ _ c.if-p-end.false, c.if-good.false)

@@ -3,7 +3,9 @@ use native.Mathlib.Omega.{arith}
 use lib.ListN.{get_or}
 use Rattle.kinds.specs.Sheet.{header_words}
 use Rattle.kinds.proofs.ListLaws.{whole}
-use Rattle.sheet.specs.declared.Checked.TheVariants.{Code}
+use Rattle.std.specs.Prelude.{Ok}
+use Rattle.sheet.specs.declared.Found.{Found}
+use Rattle.sheet.specs.declared.Found.TheVariants as Found
 use Rattle.sheet.proofs.GivenLaws.{both-gives, good-code, lone-good}
 use Rattle.sheet.proofs.check_both.Goals as goal
 
@@ -16,7 +18,7 @@ bounds-bw-4 c = let r = (c.lone_code-then-lone_code.ensures.holds c.if-lone_code
 pub returns-then-lone_code-2 : goal.returns-then-lone_code-2
 returns-then-lone_code-2 c = let a = c.args in
     let l = c.lone_code.ensures.holds c.if-lone_code.true in
-    let m = c.lone_code-then-lone_code.ensures.holds c.if-lone_code-2.true in let p = both-gives a.aw.now a.an.now a.bw.now a.bn.now {x = Code header_words (get_or a.aw.now header_words 0)} {y = Code header_words (get_or a.bw.now header_words 0)} refl
+    let m = c.lone_code-then-lone_code.ensures.holds c.if-lone_code-2.true in let p = both-gives a.aw.now a.an.now a.bw.now a.bn.now {x = Ok (Found.Code header_words (get_or a.aw.now header_words 0))} {y = Ok (Found.Code header_words (get_or a.bw.now header_words 0))} refl
     (good-code _ _ (lone-good _ _ l) l.kind)
     (good-code _ _ (lone-good _ _ m) m.kind) in record { answers = p.0; gives = p.1.0; number = p.1.1 }
 
