@@ -14,12 +14,6 @@ ghost use Rattle.static_str.specs.Answer.{encoding_len, encoding_array, encoding
 ghost use Rattle.berzhotun.specs.Answer.{size_number, size_values, compare_number, compare_values, print_number, print_values, read_number, read_values, rest_place, signature_number, signature_values};
 ghost use Rattle.berzhotun.specs.Answer.{reason_number, reason_values, layout_number, layout_values};
 
-use helper::Sized;
-use layout::LaidOut;
-use parse::Reading;
-use reason::Reasoned;
-use signature::SignatureReading;
-use static_str::Printed;
 
 // A comparison's answer as numbers.
 fn give_compared(c: Result<bool, Refusal>, answer: &mut [u64; 1]) -> u64
@@ -43,16 +37,16 @@ fn give_compared(c: Result<bool, Refusal>, answer: &mut [u64; 1]) -> u64
 }
 
 // A length as numbers.
-fn give_printed(p: Printed, answer: &mut [u64; 1]) -> u64
+fn give_printed(p: Result<usize, Refusal>, answer: &mut [u64; 1]) -> u64
     ensures returns { result ≡ print_number p }
     ensures answers { answer.new ≡ print_values p }
 {
     match p {
-        Printed::Refused(why) => {
+        Err(why) => {
             *answer = [0];
             why.number()
         }
-        Printed::Bytes(n) => {
+        Ok(n) => {
             *answer = [n as u64];
             0
         }
@@ -60,20 +54,20 @@ fn give_printed(p: Printed, answer: &mut [u64; 1]) -> u64
 }
 
 // A size as numbers.
-fn give_sized(s: Sized, answer: &mut [u64; 2]) -> u64
+fn give_sized(s: Result<Option<u64>, Refusal>, answer: &mut [u64; 2]) -> u64
     ensures returns { result ≡ size_number s }
     ensures answers { answer.new ≡ size_values s }
 {
     match s {
-        Sized::Refused(why) => {
+        Err(why) => {
             *answer = [0, 0];
             why.number()
         }
-        Sized::Nothing => {
+        Ok(None) => {
             *answer = [0, 0];
             0
         }
-        Sized::Bytes(n) => {
+        Ok(Some(n)) => {
             *answer = [1, n];
             0
         }
@@ -81,20 +75,20 @@ fn give_sized(s: Sized, answer: &mut [u64; 2]) -> u64
 }
 
 // A reason's answer as numbers.
-fn give_reasoned(reasoned: Reasoned, answer: &mut [u64; 2]) -> u64
+fn give_reasoned(reasoned: Result<Option<usize>, Refusal>, answer: &mut [u64; 2]) -> u64
     ensures returns { result ≡ reason_number reasoned }
     ensures answers { answer.new ≡ reason_values reasoned }
 {
     match reasoned {
-        Reasoned::Refused(why) => {
+        Err(why) => {
             *answer = [0, 0];
             why.number()
         }
-        Reasoned::Yes => {
+        Ok(None) => {
             *answer = [1, 0];
             0
         }
-        Reasoned::Bytes(n) => {
+        Ok(Some(n)) => {
             *answer = [0, n as u64];
             0
         }
@@ -102,16 +96,16 @@ fn give_reasoned(reasoned: Reasoned, answer: &mut [u64; 2]) -> u64
 }
 
 // A whole-text reading's answer as numbers.
-fn give_reading(reading: Reading, values: &mut [u64; 3]) -> u64
+fn give_reading(reading: Result<(), Refusal>, values: &mut [u64; 3]) -> u64
     ensures returns { result ≡ read_number reading }
     ensures answers { values.new ≡ read_values 0 reading }
 {
     match reading {
-        Reading::Tree => {
+        Ok(()) => {
             *values = [0, 0, 0];
             0
         }
-        Reading::Refused(why) => {
+        Err(why) => {
             *values = why.values();
             why.number()
         }
@@ -119,16 +113,16 @@ fn give_reading(reading: Reading, values: &mut [u64; 3]) -> u64
 }
 
 // A signature's answer as numbers.
-fn give_signature(reading: SignatureReading, values: &mut [u64; 3]) -> u64
+fn give_signature(reading: Result<usize, Refusal>, values: &mut [u64; 3]) -> u64
     ensures returns { result ≡ signature_number reading }
     ensures answers { values.new ≡ signature_values reading }
 {
     match reading {
-        SignatureReading::Entries(k) => {
+        Ok(k) => {
             *values = [k as u64, 0, 0];
             0
         }
-        SignatureReading::Refused(why) => {
+        Err(why) => {
             *values = why.values();
             why.number()
         }
@@ -136,20 +130,20 @@ fn give_signature(reading: SignatureReading, values: &mut [u64; 3]) -> u64
 }
 
 // A layout's answer as numbers.
-fn give_laid_out(laid: LaidOut, answer: &mut [u64; 3]) -> u64
+fn give_laid_out(laid: Result<Option<(u64, u64)>, Refusal>, answer: &mut [u64; 3]) -> u64
     ensures returns { result ≡ layout_number laid }
     ensures answers { answer.new ≡ layout_values laid }
 {
     match laid {
-        LaidOut::Refused(why) => {
+        Err(why) => {
             *answer = why.values();
             why.number()
         }
-        LaidOut::Nothing => {
+        Ok(None) => {
             *answer = [0, 0, 0];
             0
         }
-        LaidOut::Bytes(size, alignment) => {
+        Ok(Some((size, alignment))) => {
             *answer = [1, size, alignment];
             0
         }

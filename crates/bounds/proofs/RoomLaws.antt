@@ -13,15 +13,15 @@ use Rattle.kinds.specs.Tree as T
 use Rattle.kinds.specs.Tree.{Trees, end, node, pointer, count}
 use Rattle.kinds.specs.declared.Refusal.TheVariants.{TextTooLong, ListTooShort}
 use Rattle.parse.specs.Answer.{used, padded, filled, sheet_words, unless_away, words_after, whole_tree, whole_reading, turned_away, answer_or, from_str_answer, from_str_words}
-use Rattle.parse.specs.declared.Reading.{Reading}
-use Rattle.parse.specs.declared.Reading.TheVariants.{Tree, Refused}
+use Rattle.std.specs.Prelude.{Result, Ok, Err}
+use Rattle.kinds.specs.declared.Refusal.{Refusal}
 use Rattle.parse.proofs.Entry.{too_long, not-away, few_words, few-names}
 use Rattle.bounds.specs.Extremes.{pointers}
 use Rattle.bounds.specs.Limits.{words_for, names_for}
 
 -- Every reading is turned away alike, whatever it would answer (`a`).
-module _ (text words names : List ℕ) (a : Reading) where
-  pub long-text : max_text < length text → answer_or (turned_away text words names) a ≡ Refused TextTooLong
+module _ (text words names : List ℕ) (a : Result (Unit {0}) Refusal) where
+  pub long-text : max_text < length text → answer_or (turned_away text words names) a ≡ Err TextTooLong
   unfolding answer_or
   long-text h = rw (too_long text words names h)
 
@@ -29,11 +29,11 @@ module _ (text words names : List ℕ) (a : Reading) where
   unfolding answer_or
   enough-room l w n = rw (not-away text words names l (omega arith) n)
 
-  pub short-words : length text ≤ max_text → length words < words_for (length text) → answer_or (turned_away text words names) a ≡ Refused ListTooShort
+  pub short-words : length text ≤ max_text → length words < words_for (length text) → answer_or (turned_away text words names) a ≡ Err ListTooShort
   unfolding answer_or
   short-words l w = rw (few_words text words names l (omega arith))
 
-  pub short-names : length text ≤ max_text → length names < names_for (length text) → answer_or (turned_away text words names) a ≡ Refused ListTooShort
+  pub short-names : length text ≤ max_text → length names < names_for (length text) → answer_or (turned_away text words names) a ≡ Err ListTooShort
   unfolding answer_or
   short-names l n = rw (few-names text words names l n)
 
@@ -78,7 +78,7 @@ no-qualifiers (suc n) = refl
 -- What whole-text reading makes of it.
 record WholeIs (t : Trees) (q : Whole) : Type 0 where
   the-tree : whole_tree q ≡ Some t
-  accepted : whole_reading q ≡ Tree
+  accepted : whole_reading q ≡ Ok tt
 
 whole_of : (k n : ℕ) (q : Parsed) → Read n q → WholeIs (pointers_to n) (whole k (encoding_or_none q))
 unfolding Read encoding_or_none whole whole_tree whole_reading pointers_to
@@ -101,7 +101,7 @@ unfolding filled padded sheet_words sheet_of header_for
 words-used k t words = refl
 
 pub pointers-fill : (n : ℕ) (words names : List ℕ) → n ≤ max_text → words_for n ≤ length words → names_for n ≤ length names
-    → (length (pointers n) ≡ n) × (from_str_answer (pointers n) words names ≡ Tree) × (get_or (from_str_words (pointers n) words names) 3 0 ≡ words_for n)
+    → (length (pointers n) ≡ n) × (from_str_answer (pointers n) words names ≡ Ok tt) × (get_or (from_str_words (pointers n) words names) 3 0 ≡ words_for n)
 unfolding from_str_answer from_str_words words_after unless_away
 pointers-fill n words names l w h =
     let e = pointers-length n in

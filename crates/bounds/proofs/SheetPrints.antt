@@ -15,7 +15,7 @@ use Rattle.kinds.specs.declared.NestingLevel.TheVariants.{Top}
 use Rattle.kinds.specs.declared.Refusal.TheVariants.{OutputTooShort}
 use Rattle.sheet.specs.Answer.{Held, refused, holding, held, of_held, of_sheet}
 use Rattle.static_str.specs.Answer.{fitted, encoding_len, encoding_array}
-use Rattle.static_str.specs.declared.Printed.TheVariants.{Refused, Bytes}
+use Rattle.std.specs.Prelude.{Ok, Err}
 use Rattle.bounds.specs.Limits.{max_nodes, max_names, max_print}
 use Rattle.bounds.specs.Extremes.{named, most_bit_fields, longest}
 use Rattle.bounds.proofs.HeldLaws.{held-refused, held-holds, holds-held, layout-holds}
@@ -36,11 +36,11 @@ module _ (words names : List ℕ) where
   text-bound : (t : Trees) → held words names ≡ holding t → length (print Top t) ≤ max_print
   text-bound t e = tree-bound words names t (held-holds words names t e)
 
-  pub most : (n : ℕ) → encoding_len words names ≡ Bytes n → n ≤ max_print
+  pub most : (n : ℕ) → encoding_len words names ≡ Ok n → n ≤ max_print
   unfolding encoding_len of_sheet
   most n = go (held words names) refl
     where
-      go : (h : Held) → held words names ≡ h → of_held Refused (λ t. Bytes (length (print Top t))) h ≡ Bytes n → n ≤ max_print
+      go : (h : Held) → held words names ≡ h → of_held Err (λ t. Ok (length (print Top t))) h ≡ Ok n → n ≤ max_print
       go (refused r) e q = let z : ◌≡◌ {A = ℕ} 0 1 = cc in absurd (omega arith)
       go (holding t) e q = let z : length (print Top t) ≡ n = cc in omega (arith, text-bound t e)
 
@@ -48,15 +48,15 @@ module _ (words names : List ℕ) where
   unfolding encoding_len encoding_array of_sheet fitted
   enough room l = go (held words names) refl
     where
-      go : (h : Held) → held words names ≡ h → of_held Refused (λ t. fitted (print Top t) room) h ≡ of_held Refused (λ t. Bytes (length (print Top t))) h
+      go : (h : Held) → held words names ≡ h → of_held Err (λ t. fitted (print Top t) room) h ≡ of_held Err (λ t. Ok (length (print Top t))) h
       go (refused r) e = refl
       go (holding t) e = rw (le-leb (length (print Top t)) room (omega (arith, text-bound t e)))
 
-  pub never-short : (room : ℕ) → max_print ≤ room → encoding_array words names room ≡ Refused OutputTooShort → ⊥
+  pub never-short : (room : ℕ) → max_print ≤ room → encoding_array words names room ≡ Err OutputTooShort → ⊥
   unfolding encoding_len of_sheet
   never-short room l q = go (held words names) refl (sym (enough room l) ∙ q)
     where
-      go : (h : Held) → held words names ≡ h → of_held Refused (λ t. Bytes (length (print Top t))) h ≡ Refused OutputTooShort → ⊥
+      go : (h : Held) → held words names ≡ h → of_held Err (λ t. Ok (length (print Top t))) h ≡ Err OutputTooShort → ⊥
       go (refused r) e p = ⊎_elim (λ q. let z : ◌≡◌ {A = ℕ} 0 1 = cc in omega arith) (λ q. let z : ◌≡◌ {A = ℕ} 0 1 = cc in omega arith) (held-refused words names e)
       go (holding t) e p = let z : ◌≡◌ {A = ℕ} 0 1 = cc in omega arith
 
@@ -84,6 +84,6 @@ longest-print : length (print Top longest) ≡ max_print
 unfolding longest
 longest-print = named-print most_bit_fields 2000
 
-pub reaches : encoding_len (sheet_of longest) (names_of longest) ≡ Bytes max_print
+pub reaches : encoding_len (sheet_of longest) (names_of longest) ≡ Ok max_print
 unfolding encoding_len of_sheet
 reaches = rw (holds-held (sheet_of longest) (names_of longest) longest longest-holds longest-good, longest-print)

@@ -5,7 +5,8 @@ ghost use Rattle.std.specs.Prelude.{◌≡◌, false};
 ghost use Rattle.expect.specs.Answer.{compared};
 ghost use Rattle.helper.specs.Answer.{size_answer, compare_answer};
 
-use helper::{Sized, compare_encodings};
+use kinds::Refusal;
+use helper::{compare_encodings};
 
 // Whether the tree in the first sheet matches that in the second, by levels.
 pub fn equivalent_to(aw: &[u64], an: &[u8], bw: &[u64], bn: &[u8]) -> Result<bool, Refusal>
@@ -29,7 +30,7 @@ pub fn equivalent_to_str(words: &[u64], names: &[u8], text: &[u8]) -> Result<boo
 }
 
 // The size of the tree in a sheet, in a row: on 64-bit Apple ARM, the machine that the Rust's sizes are taken from, in row 0.
-pub fn size(words: &[u64], names: &[u8], row: u64) -> Sized
+pub fn size(words: &[u64], names: &[u8], row: u64) -> Result<Option<u64>, Refusal>
     ensures { result ≡ size_answer row words.now names.now }
 {
     helper::size(words, names, row)

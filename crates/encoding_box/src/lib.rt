@@ -6,11 +6,11 @@ ghost use Rattle.helper.specs.Answer.{compare_answer};
 ghost use Rattle.parse.specs.Answer.{answer_words, from_str_answer, from_str_words, from_str_names, from_start_answer, from_start_words, from_start_names, from_start_rest, EndOf};
 ghost use Rattle.parse.specs.Answer.{from_str_strict_answer, from_str_strict_words, from_str_strict_names};
 
+use kinds::Refusal;
 use helper::compare_encodings;
-use parse::Reading;
 
 // The tree of a whole text, into lent lists.
-pub fn from_str(text: &[u8], words: &mut [u64], names: &mut [u8]) -> Reading
+pub fn from_str(text: &[u8], words: &mut [u64], names: &mut [u8]) -> Result<(), Refusal>
     ensures answers { result ≡ from_str_answer text.now words.old names.old }
     ensures fills { words.new ≡ from_str_words text.now words.old names.old }
     ensures names { names.new ≡ from_str_names text.now words.old names.old }
@@ -19,7 +19,7 @@ pub fn from_str(text: &[u8], words: &mut [u64], names: &mut [u8]) -> Reading
 }
 
 // The same, but a number with a surplus zero is refused.
-pub fn from_str_strict(text: &[u8], words: &mut [u64], names: &mut [u8]) -> Reading
+pub fn from_str_strict(text: &[u8], words: &mut [u64], names: &mut [u8]) -> Result<(), Refusal>
     ensures answers { result ≡ from_str_strict_answer text.now words.old names.old }
     ensures fills { words.new ≡ from_str_strict_words text.now words.old names.old }
     ensures names { names.new ≡ from_str_strict_names text.now words.old names.old }

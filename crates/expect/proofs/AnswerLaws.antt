@@ -20,7 +20,6 @@ use Rattle.sheet.specs.Given.{NodesAre, CodeIn}
 use Rattle.sheet.proofs.GivenLaws.{answer-refused, answer-held}
 use Rattle.expect.specs.Agree.{ExpectedIs}
 use Rattle.expect.specs.Answer.{compared}
-use Rattle.expect.specs.declared.Expected as X
 use Rattle.expect.proofs.TextLaws.{then-nothing, same_outcome}
 
 -- Where the walk along a tree began after the qualifiers, its outcome decides.

@@ -26,7 +26,6 @@ use Rattle.kinds.specs.declared.IndirectionKind.{IndirectionKind}
 use Rattle.kinds.specs.declared.IndirectionKind.TheVariants.{Atomic, Pointer}
 use Rattle.kinds.specs.declared.NestingLevel.{NestingLevel}
 use Rattle.expect.specs.Agree.{ExpectedIs, expect_at, indirection_of, code_bytes_by_kind, code_byte, own_byte, level_after}
-use Rattle.expect.specs.declared.Expected as X
 use Rattle.expect.proofs.TextLaws.{then-remaining, then-mismatch, code_one, primitive-alone}
 use Rattle.expect.proofs.WalkLaws.{leaf-is, behind-off, behind_more, by_byte, lent-whole}
 

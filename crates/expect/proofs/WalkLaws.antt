@@ -27,8 +27,6 @@ use Rattle.kinds.specs.declared.NestingLevel.{NestingLevel}
 use Rattle.kinds.specs.declared.NestingLevel.TheVariants.{Top, Within, Bottom}
 use Rattle.kinds.specs.Kind.{container_of, is_indirection}
 use Rattle.expect.specs.Agree.{expect_at, ExpectedIs, InText, indirection_of, expect_leaf, opening, closing, OpenedIs, ContainerOpenedAt, taken_of, fields_of, OpenedAt}
-use Rattle.expect.specs.declared.Expected as X
-use Rattle.expect.specs.declared.Expected.TheVariants as XV
 use Rattle.expect.specs.declared.Opened.{Opened}
 use Rattle.expect.specs.declared.Opened.TheVariants as O
 use Rattle.expect.proofs.TextLaws.{then-remaining, then-mismatch, then-nothing, closing-container}
@@ -226,8 +224,8 @@ pub by_byte : (b d : ℕ) (s : List ℕ) (q : E.Expected) → b ≡ d → expect
 by_byte b d s q e h = ap (λ (x : ℕ). expect_byte x s) (sym e) ∙ h
 
 pub in-text : (text : List ℕ) (r : X.Expected) (q : E.Expected) → ExpectedIs text r q → InText text r
-in-text text (XV.Remaining to) q h = h.1
-in-text text XV.Mismatch q h = tt
+in-text text (Some to) q h = h.1
+in-text text None q h = tt
 
 -- The container at a node.
 pub container-at : (names w : List ℕ) (at : ℕ) (v : NestingLevel) (s text : List ℕ) (r : Opened) (k : ContainerKind)
@@ -295,8 +293,8 @@ module _ (names w : List ℕ) (at : ℕ) (v : NestingLevel) (text : List ℕ) (p
   taken_at e p h = rw e (go r (lent-whole text r place (λ s. expect_leaf (kind_at w at) (second_at w at) s) h))
     where
       go : (x : X.Expected) → ExpectedIs text x (expect_leaf (kind_at w at) (second_at w at) (drop place text)) → OpenedAt names w at v text place (taken_of x)
-      go (XV.Remaining to) k = (leaf-is names w at v (drop place text) p ∙ k.0, k.1)
-      go XV.Mismatch k = leaf-is names w at v (drop place text) p ∙ k
+      go (Some to) k = (leaf-is names w at v (drop place text) p ∙ k.0, k.1)
+      go None k = leaf-is names w at v (drop place text) p ∙ k
 
   pub fields_at : q ≡ fields_of r v → 25 ≤ kind_at w at → kind_at w at < 29 → is_indirection (kind_at w at) ≡ false
       → ExpectedIs text r (opening (kind_at w at) (first_at w at) (drop place text)) → OpenedAt names w at v text place q
@@ -306,5 +304,5 @@ module _ (names w : List ℕ) (at : ℕ) (v : NestingLevel) (text : List ℕ) (p
           → expect_at names w at v (drop place text) ≡ (opening (kind_at w at) (first_at w at) (drop place text) then
           (λ t. expect_encoding v (trees names w (count_at w at - 1) (at + 4)) t then (λ u. closing (kind_at w at) (second_at w at) u)))
           → OpenedAt names w at v text place (fields_of x v)
-      go (XV.Remaining to) k f = (f ∙ then-remaining _ _ _ k.0, k.1)
-      go XV.Mismatch k f = f ∙ then-mismatch _ _ k
+      go (Some to) k f = (f ∙ then-remaining _ _ _ k.0, k.1)
+      go None k f = f ∙ then-mismatch _ _ k

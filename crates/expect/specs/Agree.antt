@@ -14,15 +14,14 @@ use Rattle.kinds.specs.declared.IndirectionKind.{IndirectionKind}
 use Rattle.kinds.specs.declared.IndirectionKind.TheVariants.{Atomic, Pointer}
 use Rattle.kinds.specs.declared.NestingLevel.{NestingLevel}
 use Rattle.kinds.specs.declared.NestingLevel.TheVariants.{Within}
-use Rattle.expect.specs.declared.Expected.{Expected}
-use Rattle.expect.specs.declared.Expected.TheVariants.{Remaining, Mismatch}
+use Rattle.std.specs.Prelude.{Option, Some, None}
 use Rattle.expect.specs.declared.Opened.{Opened}
 use Rattle.expect.specs.declared.Opened.TheVariants as O
 
 -- The place after what was taken stands for the text from there on.
-abbrev pub ExpectedIs : List ℕ → Expected → E.Expected → Type 0
-ExpectedIs text (Remaining to) q = (q ≡ remaining (drop to text)) × (to ≤ length text)
-ExpectedIs text Mismatch q = q ≡ mismatch
+abbrev pub ExpectedIs : List ℕ → Option ℕ → E.Expected → Type 0
+ExpectedIs text (Some to) q = (q ≡ remaining (drop to text)) × (to ≤ length text)
+ExpectedIs text None q = q ≡ mismatch
 
 -- The node at `at`, its children included.
 unfoldable pub expect_at : List ℕ → List ℕ → ℕ → NestingLevel → List ℕ → E.Expected
@@ -55,9 +54,9 @@ abbrev pub after_name : ContainerKind → Bool → (List ℕ → E.Expected) →
 after_name k e inner s = expect_byte (byte "=") s then (λ t. expect_fields k e inner t)
 
 -- The place after what was taken lies within the text.
-abbrev pub InText : List ℕ → Expected → Type 0
-InText text (Remaining to) = to ≤ length text
-InText text Mismatch = Unit {0}
+abbrev pub InText : List ℕ → Option ℕ → Type 0
+InText text (Some to) = to ≤ length text
+InText text None = Unit {0}
 
 -- A container up to its fields, whatever `inner` makes of them: taken whole, no match, or its fields, at level `u`, and its closer are still to come.
 abbrev pub OpenedIs : List ℕ → ContainerKind → NestingLevel → Opened → ((List ℕ → E.Expected) → E.Expected) → Type 0
@@ -91,13 +90,13 @@ unfoldable pub level_after : ℕ → NestingLevel → NestingLevel → NestingLe
 level_after k v here = cond (is_indirection k) (inside_kind k here) v
 
 -- A node without children, from the outcome of its text; one whose children, at the level `v`, are still to come, from that of what stands before them.
-abbrev pub taken_of : Expected → Opened
-taken_of Mismatch = O.Mismatch
-taken_of (Remaining to) = O.Taken to
+abbrev pub taken_of : Option ℕ → Opened
+taken_of None = O.Mismatch
+taken_of (Some to) = O.Taken to
 
-abbrev pub fields_of : Expected → NestingLevel → Opened
-fields_of Mismatch v = O.Mismatch
-fields_of (Remaining to) v = O.Fields to v
+abbrev pub fields_of : Option ℕ → NestingLevel → Opened
+fields_of None v = O.Mismatch
+fields_of (Some to) v = O.Fields to v
 
 -- The node at `at` up to its children: taken whole, no match, or its children, at a level, and what stands after them are still to come.
 abbrev pub OpenedAt : List ℕ → List ℕ → ℕ → NestingLevel → List ℕ → ℕ → Opened → Type 0

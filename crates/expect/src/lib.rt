@@ -16,15 +16,8 @@ ghost use Rattle.expect.specs.Answer.{compared};
 use kinds::{ARRAY, BIT_FIELD, Code, ContainerKind, IndirectionKind, MAX_TEXT, NestingLevel, POINTER, PRIMITIVES, Refusal, TYPED_BIT_FIELD, container_of, is_container, is_indirection, is_object, primitive_code};
 use numbers::{Number, parse_u8, parse_u64};
 use parser::strip_leading_qualifiers;
-use sheet::{check};
-use skip::{SkippedFields, skip_fields};
-
-// The place after what was taken, or no match.
-#[derive(Clone, Copy)]
-enum Expected {
-    Remaining(usize),
-    Mismatch,
-}
+use sheet::{Found, check};
+use skip::{skip_fields};
 
 // A node up to its children: taken whole, or its children are still to come, at a level.
 #[derive(Clone, Copy)]
@@ -34,19 +27,19 @@ enum Opened {
     Fields(usize, NestingLevel),
 }
 
-fn expect_byte(byte: u8, text: &[u8], at: usize) -> Expected
+fn expect_byte(byte: u8, text: &[u8], at: usize) -> Option<usize>
     ensures { ExpectedIs text.now result (expect_byte byte (drop at text.now)) }
 {
     if text.len() <= at {
-        return Expected::Mismatch;
+        return None;
     }
     if text[at] != byte {
-        return Expected::Mismatch;
+        return None;
     }
-    Expected::Remaining(at + 1)
+    Some(at + 1)
 }
 
-fn expect_bytes(bytes: &[u8], text: &[u8], at: usize) -> Expected
+fn expect_bytes(bytes: &[u8], text: &[u8], at: usize) -> Option<usize>
     requires { at ≤ length text.now }
     ensures { ExpectedIs text.now result (expect_bytes bytes.now (drop at text.now)) }
 {
@@ -54,140 +47,140 @@ fn expect_bytes(bytes: &[u8], text: &[u8], at: usize) -> Expected
     let mut to = at;
     while i < bytes.len() {
         if text.len() <= to {
-            return Expected::Mismatch;
+            return None;
         }
         if text[to] != bytes[i] {
-            return Expected::Mismatch;
+            return None;
         }
         i += 1;
         to += 1;
     }
-    Expected::Remaining(to)
+    Some(to)
 }
 
-fn expect_u64(n: u64, text: &[u8], at: usize) -> Expected
+fn expect_u64(n: u64, text: &[u8], at: usize) -> Option<usize>
     requires { at ≤ length text.now }
     ensures { ExpectedIs text.now result (expect_number max_u64 n (drop at text.now)) }
 {
     match parse_u64(text, at) {
-        Number::Refused(_, _, _) => Expected::Mismatch,
+        Number::Refused(_, _, _) => None,
         Number::Value(m, to, _) => {
             if m == n {
-                return Expected::Remaining(to);
+                return Some(to);
             }
-            Expected::Mismatch
+            None
         }
     }
 }
 
-fn expect_u8(n: u64, text: &[u8], at: usize) -> Expected
+fn expect_u8(n: u64, text: &[u8], at: usize) -> Option<usize>
     requires { at ≤ length text.now }
     ensures { ExpectedIs text.now result (expect_number max_u8 n (drop at text.now)) }
 {
     match parse_u8(text, at) {
-        Number::Refused(_, _, _) => Expected::Mismatch,
+        Number::Refused(_, _, _) => None,
         Number::Value(m, to, _) => {
             if m == n {
-                return Expected::Remaining(to);
+                return Some(to);
             }
-            Expected::Mismatch
+            None
         }
     }
 }
 
 // Up to the closing quote.
-fn expect_quote(text: &[u8], at: usize) -> Expected
+fn expect_quote(text: &[u8], at: usize) -> Option<usize>
     requires { at ≤ length text.now }
     ensures { ExpectedIs text.now result (expect_quote (drop at text.now)) }
 {
     let mut i = at;
     while i < text.len() {
         if text[i] == b'"' {
-            return Expected::Remaining(i + 1);
+            return Some(i + 1);
         }
         i += 1;
     }
-    Expected::Mismatch
+    None
 }
 
 // The class name that may follow an Object.
-fn class_name(text: &[u8], at: usize) -> Expected
+fn class_name(text: &[u8], at: usize) -> Option<usize>
     requires { at ≤ length text.now }
     ensures { ExpectedIs text.now result (class_name (drop at text.now)) }
 {
     if text.len() <= at {
-        return Expected::Remaining(at);
+        return Some(at);
     }
     if text[at] != b'"' {
-        return Expected::Remaining(at);
+        return Some(at);
     }
     expect_quote(text, at + 1)
 }
 
-fn expect_code(code: Code, text: &[u8], at: usize) -> Expected
+fn expect_code(code: Code, text: &[u8], at: usize) -> Option<usize>
     requires { at ≤ length text.now }
     ensures { ExpectedIs text.now result (expect_bytes (code_bytes code) (drop at text.now)) }
 {
     match code {
-        Code::Empty => Expected::Remaining(at),
+        Code::Empty => Some(at),
         Code::One(a) => expect_byte(a, text, at),
         Code::Two(a, b) => match expect_byte(a, text, at) {
-            Expected::Mismatch => Expected::Mismatch,
-            Expected::Remaining(to) => expect_byte(b, text, to),
+            None => None,
+            Some(to) => expect_byte(b, text, to),
         },
     }
 }
 
 // The codes of Block, Object and Class, which are one group.
-fn expect_object(text: &[u8], at: usize) -> Expected
+fn expect_object(text: &[u8], at: usize) -> Option<usize>
     ensures { ExpectedIs text.now result (any_object (drop at text.now)) }
 {
     if text.len() <= at {
-        return Expected::Mismatch;
+        return None;
     }
     let b = text[at];
     let next = at + 1;
     if b == b'@' {
         if text.len() <= next {
-            return Expected::Remaining(next);
+            return Some(next);
         }
         if text[next] == b'?' {
-            return Expected::Remaining(next + 1);
+            return Some(next + 1);
         }
-        return Expected::Remaining(next);
+        return Some(next);
     }
     if b == b'#' {
-        return Expected::Remaining(next);
+        return Some(next);
     }
-    Expected::Mismatch
+    None
 }
 
-fn expect_primitive(kind: u64, text: &[u8], at: usize) -> Expected
+fn expect_primitive(kind: u64, text: &[u8], at: usize) -> Option<usize>
     requires { at ≤ length text.now }
     ensures { ExpectedIs text.now result (expect_primitive kind (drop at text.now)) }
 {
     if !is_object(kind) {
         return expect_code(primitive_code(kind), text, at);
     }
-    let Expected::Remaining(to) = expect_object(text, at) else {
-        return Expected::Mismatch;
+    let Some(to) = expect_object(text, at) else {
+        return None;
     };
     if kind == 19 {
         return class_name(text, to);
     }
-    Expected::Remaining(to)
+    Some(to)
 }
 
 // A primitive, or a bitfield without a type.
-fn expect_leaf(kind: u64, size: u64, text: &[u8], at: usize) -> Expected
+fn expect_leaf(kind: u64, size: u64, text: &[u8], at: usize) -> Option<usize>
     requires { at ≤ length text.now }
     ensures { ExpectedIs text.now result (expect_leaf kind size (drop at text.now)) }
 {
     if kind < PRIMITIVES {
         return expect_primitive(kind, text, at);
     }
-    let Expected::Remaining(to) = expect_byte(b'b', text, at) else {
-        return Expected::Mismatch;
+    let Some(to) = expect_byte(b'b', text, at) else {
+        return None;
     };
     expect_u8(size, text, to)
 }
@@ -202,17 +195,17 @@ fn opening_byte(kind: u64) -> u8
 }
 
 // What stands before the type of a bitfield and before the item of an array.
-fn expect_opening(kind: u64, number: u64, text: &[u8], at: usize) -> Expected
+fn expect_opening(kind: u64, number: u64, text: &[u8], at: usize) -> Option<usize>
     ensures { ExpectedIs text.now result (opening kind number (drop at text.now)) }
 {
-    let Expected::Remaining(to) = expect_byte(opening_byte(kind), text, at) else {
-        return Expected::Mismatch;
+    let Some(to) = expect_byte(opening_byte(kind), text, at) else {
+        return None;
     };
     expect_u64(number, text, to)
 }
 
 // What stands after the children of a bitfield, an array or a container.
-fn expect_closing(kind: u64, size: u64, text: &[u8], at: usize) -> Expected
+fn expect_closing(kind: u64, size: u64, text: &[u8], at: usize) -> Option<usize>
     requires { at ≤ length text.now }
     ensures { ExpectedIs text.now result (closing kind size (drop at text.now)) }
 {
@@ -226,13 +219,13 @@ fn expect_closing(kind: u64, size: u64, text: &[u8], at: usize) -> Expected
 }
 
 // The same, after children of which `after` is the outcome.
-fn close_node(after: Expected, kind: u64, size: u64, text: &[u8]) -> Expected
+fn close_node(after: Option<usize>, kind: u64, size: u64, text: &[u8]) -> Option<usize>
     requires { InText text.now after }
     ensures { (q : E.Expected) → ExpectedIs text.now after q → ExpectedIs text.now result (q then (λ t. closing kind size t)) }
 {
     match after {
-        Expected::Mismatch => Expected::Mismatch,
-        Expected::Remaining(to) => expect_closing(kind, size, text, to),
+        None => None,
+        Some(to) => expect_closing(kind, size, text, to),
     }
 }
 
@@ -246,19 +239,19 @@ fn open_fields(
 ) -> Opened
     ensures { OpenedIs text.now kind level result (λ inner. after_name kind (eqb count 0) inner (drop at text.now)) }
 {
-    let Expected::Remaining(next) = expect_byte(b'=', text, at) else {
+    let Some(next) = expect_byte(b'=', text, at) else {
         return Opened::Mismatch;
     };
     if count == 0 {
         // An empty container matches whatever can be read up to its closer.
         return match skip_fields(text, next, kind) {
-            SkippedFields::Refused => Opened::Mismatch,
-            SkippedFields::To(to) => Opened::Taken(to),
+            None => Opened::Mismatch,
+            Some(to) => Opened::Taken(to),
         };
     }
     match expect_byte(kind.end_byte(), text, next) {
-        Expected::Remaining(to) => Opened::Taken(to),
-        Expected::Mismatch => Opened::Fields(next, level),
+        Some(to) => Opened::Taken(to),
+        None => Opened::Fields(next, level),
     }
 }
 
@@ -273,17 +266,17 @@ fn open_named(
 ) -> Opened
     ensures { OpenedIs text.now kind NestingLevel.Within result (λ inner. expect_node (container kind name.now) level (eqb count 0) inner (drop at text.now)) }
 {
-    let Expected::Remaining(start) = expect_byte(kind.start_byte(), text, at) else {
+    let Some(start) = expect_byte(kind.start_byte(), text, at) else {
         return Opened::Mismatch;
     };
-    let Expected::Remaining(next) = expect_bytes(name, text, start) else {
+    let Some(next) = expect_bytes(name, text, start) else {
         return Opened::Mismatch;
     };
     match level.container_include_fields() {
         Some(inner) => open_fields(kind, inner, count, text, next),
         None => match expect_byte(kind.end_byte(), text, next) {
-            Expected::Remaining(to) => Opened::Taken(to),
-            Expected::Mismatch => Opened::Mismatch,
+            Some(to) => Opened::Taken(to),
+            None => Opened::Mismatch,
         },
     }
 }
@@ -344,22 +337,22 @@ fn level_after(kind: u64, level: NestingLevel, here: NestingLevel) -> NestingLev
 }
 
 // A node without children, from the outcome of its text.
-fn taken(own: Expected) -> Opened
+fn taken(own: Option<usize>) -> Opened
     ensures { result ≡ taken_of own }
 {
     match own {
-        Expected::Mismatch => Opened::Mismatch,
-        Expected::Remaining(to) => Opened::Taken(to),
+        None => Opened::Mismatch,
+        Some(to) => Opened::Taken(to),
     }
 }
 
 // A bitfield with a type or an array, which keep the level, from the outcome of what stands before the child.
-fn children_follow(opening: Expected, level: NestingLevel) -> Opened
+fn children_follow(opening: Option<usize>, level: NestingLevel) -> Opened
     ensures { result ≡ fields_of opening level }
 {
     match opening {
-        Expected::Mismatch => Opened::Mismatch,
-        Expected::Remaining(to) => Opened::Fields(to, level),
+        None => Opened::Mismatch,
+        Some(to) => Opened::Fields(to, level),
     }
 }
 
@@ -405,14 +398,14 @@ fn expect_node(
     level: NestingLevel,
     text: &[u8],
     place: usize,
-) -> Expected
+) -> Option<usize>
     requires node_at { NodeAt nodes.now at × KindsAndNames nodes.now (length names.now) at (count_at nodes.now at) × (place ≤ length text.now) }
     requires at_value { is_indirection (kind_at nodes.now at) ≡ false }
     ensures { ExpectedIs text.now result (expect_at names.now nodes.now at level (drop place text.now)) }
 {
     match open_node(nodes, names, at, level, text, place) {
-        Opened::Mismatch => Expected::Mismatch,
-        Opened::Taken(to) => Expected::Remaining(to),
+        Opened::Mismatch => None,
+        Opened::Taken(to) => Some(to),
         Opened::Fields(to, inner) => {
             let m = nodes[at + 3] as usize - 1;
             let all = expect_encoding(&nodes[0..], &names[0..], at + 4, m, inner, &text[0..], to);
@@ -431,7 +424,7 @@ fn expect_encoding(
     level: NestingLevel,
     text: &[u8],
     start: usize,
-) -> Expected
+) -> Option<usize>
     requires trees_at { TreesAt nodes.now from n × (start ≤ length text.now) }
     requires kinds_and_names { KindsAndNames nodes.now (length names.now) from n }
     ensures { ExpectedIs text.now result (expect_encoding level (trees names.now nodes.now n from) (drop start text.now)) }
@@ -444,8 +437,8 @@ fn expect_encoding(
         let kind = nodes[at];
         let byte = own_byte(kind);
         if byte != 0 {
-            let Expected::Remaining(to) = expect_byte(byte, text, place) else {
-                return Expected::Mismatch;
+            let Some(to) = expect_byte(byte, text, place) else {
+                return None;
             };
             at = at + 4;
             left = left - 1;
@@ -454,23 +447,23 @@ fn expect_encoding(
             continue;
         }
         let count = nodes[at + 3] as usize;
-        let Expected::Remaining(next) = expect_node(nodes, names, at, here, text, place) else {
-            return Expected::Mismatch;
+        let Some(next) = expect_node(nodes, names, at, here, text, place) else {
+            return None;
         };
         at = at + 4 * count;
         left = left - count;
         place = next;
         here = level;
     }
-    Expected::Remaining(place)
+    Some(place)
 }
 
-fn decide(walked: Expected, text: &[u8]) -> bool
+fn decide(walked: Option<usize>, text: &[u8]) -> bool
     ensures { (q : E.Expected) → ExpectedIs text.now walked q → result ≡ is_empty q }
 {
     match walked {
-        Expected::Mismatch => false,
-        Expected::Remaining(to) => to == text.len(),
+        None => false,
+        Some(to) => to == text.len(),
     }
 }
 
@@ -504,10 +497,9 @@ pub fn equivalent_to_str(words: &[u64], names: &[u8], text: &[u8]) -> Result<boo
     if MAX_TEXT < text.len() {
         return Err(Refusal::TextTooLong);
     }
-    match check(&words[0..], &names[0..]) {
-        Err(why) => Err(why),
-        Ok(Found::Code(_, kind)) => Ok(code_matches(kind, &text[0..])),
-        Ok(Found::Nodes(first, n)) => Ok(tree_matches(
+    match check(&words[0..], &names[0..])? {
+        Found::Code(_, kind) => Ok(code_matches(kind, &text[0..])),
+        Found::Nodes(first, n) => Ok(tree_matches(
             &words[first..],
             &names[0..],
             n,

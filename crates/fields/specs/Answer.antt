@@ -3,8 +3,8 @@
 use Rattle.std.specs.Prelude.{ℕ, zero, suc, ◌+◌, ◌-◌, ◌*◌, max, Bool, true, false, cond, ◌&&◌, List, leb, ltb, eqb, get_or}
 use Rattle.kinds.specs.Sheet.{kind_at, count_at, is_container_kind}
 use Rattle.kinds.specs.declared.Refusal.TheVariants.{SizeTooLarge}
-use Rattle.layout.specs.declared.LaidOut.{LaidOut}
-use Rattle.layout.specs.declared.LaidOut.TheVariants as A
+use Rattle.std.specs.Prelude.{Option, Some, Result, Ok, Err}
+use Rattle.kinds.specs.declared.Refusal.{Refusal}
 use Rattle.fields.specs.declared.Hole.{Hole}
 
 -- Node `j` holds node `i`, directly or not: it stands before it, and its subtree reaches beyond it.
@@ -43,8 +43,8 @@ unfoldable pub ends_with : List ℕ → ℕ → ℕ → Bool
 ends_with w i last = eqb (count_at w (4 * i)) (last - i + 1)
 
 -- The size and the alignment of node `i`: where there is none in the list the size is too large.
-unfoldable pub extent_of : List ℕ → ℕ → LaidOut
-extent_of xs i = cond (eqb (get_or xs (2 * i + 1) 0) 0) (A.Refused SizeTooLarge) (A.Bytes (get_or xs (2 * i) 0) (get_or xs (2 * i + 1) 0))
+unfoldable pub extent_of : List ℕ → ℕ → Result (Option (ℕ × ℕ)) Refusal
+extent_of xs i = cond (eqb (get_or xs (2 * i + 1) 0) 0) (Err SizeTooLarge) (Ok (Some (get_or xs (2 * i) 0, get_or xs (2 * i + 1) 0)))
 
 -- What lies between an end and the next beginning.
 unfoldable pub gap : ℕ → ℕ → Hole

@@ -7,7 +7,6 @@ ghost use Rattle.kinds.specs.Sheet.{kind_at, count_at, is_container_kind};
 ghost use Rattle.fields.specs.Answer.{holds, points, none_of, is_laid_out, last_of, holder_of, is_field_of, is_field, extent_of, gap, is_last, ends_with, largest, hole_in, hole_after};
 
 use kinds::{POINTER, Refusal, UNION, is_container};
-use layout::LaidOut;
 
 // A gap in a container: where it begins, and its bytes; 0 of them where there is none.
 #[derive(Clone, Copy)]
@@ -118,14 +117,14 @@ pub fn ends_with(nodes: &[u64], i: u16, last: u16) -> bool
 }
 
 // The size and the alignment of node `i`, or that the size is too large.
-pub fn extent_of(extents: &[u64], i: u16) -> LaidOut
+pub fn extent_of(extents: &[u64], i: u16) -> Result<Option<(u64, u64)>, Refusal>
     ensures { result ≡ extent_of extents.now i }
 {
     let alignment = lines::word_at(extents, 2 * (i as usize) + 1);
     if alignment == 0 {
-        return LaidOut::Refused(Refusal::SizeTooLarge);
+        return Err(Refusal::SizeTooLarge);
     }
-    LaidOut::Bytes(bytes_of(extents, i), alignment)
+    Ok(Some((bytes_of(extents, i), alignment)))
 }
 
 // What lies between the end of something that begins at `offset` and `next`.

@@ -27,8 +27,7 @@ use Rattle.helper.specs.Answer.{max_size, sized, sized_in, size_answer, compare_
 use Rattle.helper.specs.Measure.{fit, clip, measured, size_at, answer_at, compare_fields}
 use Rattle.helper.specs.declared.Measured.{Measured}
 use Rattle.helper.specs.declared.Measured.TheVariants.{Bytes, TooLarge}
-use Rattle.helper.specs.declared.Sized.{Sized}
-use Rattle.helper.specs.declared.Sized.TheVariants as S
+use Rattle.std.specs.Prelude.{Result}
 use Rattle.helper.proofs.NodeSizeLaws.{sizes_step}
 use Rattle.helper.proofs.CompareLaws.{fields-some}
 
@@ -59,25 +58,25 @@ measured-clip row (Some n) = go (leb n max_u64) refl
     above : max_u64 < n → max_size row ≤ max_u64 → max_size row < n
     above p q = omega arith
 
-    go : (t : Bool) → leb n max_u64 ≡ t → measured (max_size row) (cond t (Bytes n) TooLarge) ≡ cond (leb n (max_size row)) (S.Bytes n) (S.Refused R.SizeTooLarge)
+    go : (t : Bool) → leb n max_u64 ≡ t → measured (max_size row) (cond t (Bytes n) TooLarge) ≡ cond (leb n (max_size row)) (Ok (Some n)) (Err R.SizeTooLarge)
     go true e = refl
     go false e = rw (lt-leb n (max_size row) (above (leb-false n max_u64 e) (max_least row)))
 
 module _ (row : ℕ) where
-  pub no_row : 4 ≤ row → (s w : List ℕ) → S.Refused R.NoSuchRow ≡ answer_at row s w
+  pub no_row : 4 ≤ row → (s w : List ℕ) → Err R.NoSuchRow ≡ answer_at row s w
   unfolding answer_at
   no_row h s w = rw (lt-leb row 3 h)
 
   -- the walk's size, where there is the row
   pub row-answer : row < 4 → (s w : List ℕ) {l : NestingLevel} → l ≡ Top → {m : Measured} → m ≡ clip (size_at (widths row) s w 0 l) → {n : ℕ} → n ≡ max_size row
-      → {r : Sized} → r ≡ measured n m → r ≡ answer_at row s w
+      → {r : Result (Option ℕ) Refusal} → r ≡ measured n m → r ≡ answer_at row s w
   unfolding answer_at
   row-answer h s w {l} f e k d =
       d ∙ ap₂ measured k (e ∙ ap (λ (x : NestingLevel). clip (size_at (widths row) s w 0 x)) f)
       ∙ measured-clip row (size_at (widths row) s w 0 Top)
       ∙ rw (le-leb row 3 (omega arith))
 
-  pub code-no-row : 4 ≤ row → (k : ℕ) → S.Refused R.NoSuchRow ≡ sized_in row (node (primitive k) end end)
+  pub code-no-row : 4 ≤ row → (k : ℕ) → Err R.NoSuchRow ≡ sized_in row (node (primitive k) end end)
   unfolding sized_in
   code-no-row h k = rw (lt-leb row 3 h)
 
@@ -85,11 +84,11 @@ module _ (row : ℕ) where
   unfolding sized_in size_in size sizes node_size only
   code-sized h k = rw (le-leb row 3 (omega arith))
 
-  pub code-none : row < 4 → (k : ℕ) → None ≡ size_in row k → S.Nothing ≡ sized_in row (node (primitive k) end end)
+  pub code-none : row < 4 → (k : ℕ) → None ≡ size_in row k → Ok None ≡ sized_in row (node (primitive k) end end)
   unfolding sized
   code-none h k e = sym (code-sized h k ∙ ap (sized (max_size row)) (sym e))
 
-  pub code-some : row < 4 → (k n : ℕ) → Some n ≡ size_in row k → S.Bytes n ≡ sized_in row (node (primitive k) end end)
+  pub code-some : row < 4 → (k n : ℕ) → Some n ≡ size_in row k → Ok (Some n) ≡ sized_in row (node (primitive k) end end)
   unfolding sized
   code-some h k n e = sym (code-sized h k ∙ ap (sized (max_size row)) (sym e)
       ∙ rw (le-leb n (max_size row) (small (max_size row) (size_small row k n e) (max-most row))))
@@ -98,22 +97,22 @@ module _ (row : ℕ) where
       small x p q = omega arith
 
   module _ (words names : List ℕ) where
-    pub size-refused : {r : Refusal} → held words names ≡ refused r → S.Refused r ≡ size_answer row words names
+    pub size-refused : {r : Refusal} → held words names ≡ refused r → Err r ≡ size_answer row words names
     unfolding size_answer
-    size-refused h = answer-refused S.Refused words names (sized_in row) h
+    size-refused h = answer-refused Err words names (sized_in row) h
 
-    pub size-code : {k : ℕ} → CodeIn words names k → {r : Sized} → r ≡ sized_in row (node (primitive k) end end) → r ≡ size_answer row words names
+    pub size-code : {k : ℕ} → CodeIn words names k → {r : Result (Option ℕ) Refusal} → r ≡ sized_in row (node (primitive k) end end) → r ≡ size_answer row words names
     unfolding size_answer
-    size-code h e = e ∙ answer-held S.Refused words names (sized_in row) h.holds
+    size-code h e = e ∙ answer-held Err words names (sized_in row) h.holds
 
-    pub size-nodes : {w : List ℕ} {n : ℕ} → NodesAre words names w n → {r : Sized} → r ≡ answer_at row names w → r ≡ size_answer row words names
+    pub size-nodes : {w : List ℕ} {n : ℕ} → NodesAre words names w n → {r : Result (Option ℕ) Refusal} → r ≡ answer_at row names w → r ≡ size_answer row words names
     unfolding size_answer sized_in answer_at size only
     size-nodes {w} {n} h e =
         let c = h.count in
         e
-        ∙ ap (λ (x : List (Option ℕ)). cond (is_row row) (sized (max_size row) (only x)) (S.Refused R.NoSuchRow))
+        ∙ ap (λ (x : List (Option ℕ)). cond (is_row row) (sized (max_size row) (only x)) (Err R.NoSuchRow))
         (sym (sizes_step (widths row) names w 0 Top n h.root.some-node (omega arith)))
-        ∙ answer-held S.Refused words names (sized_in row) h.holds
+        ∙ answer-held Err words names (sized_in row) h.holds
 
 -- ---- `compare_encodings`.
 

@@ -11,25 +11,23 @@ use Rattle.kinds.specs.declared.Refusal.TheVariants.{SizeTooLarge, NoSuchRow}
 use Rattle.std.specs.Prelude.{Result, Ok, Err}
 use Rattle.kinds.specs.declared.Refusal.{Refusal}
 use Rattle.sheet.specs.Answer.{of_sheet, of_sheets}
-use Rattle.helper.specs.declared.Sized.{Sized}
-use Rattle.helper.specs.declared.Sized.TheVariants as S
 
 -- The largest size in a row: refusal 6 begins above it.
 unfoldable pub max_size : ℕ → ℕ
 max_size row = cond (eqb row 2) max_u32 max_u64
 
 -- A size of at most `limit` bytes as `size` hands it out.
-unfoldable pub sized : ℕ → Option ℕ → Sized
-sized limit None = S.Nothing
-sized limit (Some n) = cond (leb n limit) (S.Bytes n) (S.Refused SizeTooLarge)
+unfoldable pub sized : ℕ → Option ℕ → Result (Option ℕ) Refusal
+sized limit None = Ok None
+sized limit (Some n) = cond (leb n limit) (Ok (Some n)) (Err SizeTooLarge)
 
 -- A tree's size in a row, or that there is no such row.
-unfoldable pub sized_in : ℕ → Trees → Sized
-sized_in row t = cond (is_row row) (sized (max_size row) (size (widths row) t)) (S.Refused NoSuchRow)
+unfoldable pub sized_in : ℕ → Trees → Result (Option ℕ) Refusal
+sized_in row t = cond (is_row row) (sized (max_size row) (size (widths row) t)) (Err NoSuchRow)
 
 -- `size`: why the lists or the row are turned away, or the size of the tree in them.
-unfoldable pub size_answer : ℕ → List ℕ → List ℕ → Sized
-size_answer row words names = of_sheet S.Refused (sized_in row) words names
+unfoldable pub size_answer : ℕ → List ℕ → List ℕ → Result (Option ℕ) Refusal
+size_answer row words names = of_sheet Err (sized_in row) words names
 
 -- `compare_encodings`: why the lists are turned away, or whether the trees in them match.
 unfoldable pub compare_answer : Bool → List ℕ → List ℕ → List ℕ → List ℕ → Result Bool Refusal

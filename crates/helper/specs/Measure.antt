@@ -15,8 +15,8 @@ use Rattle.kinds.specs.declared.Refusal.TheVariants.{SizeTooLarge, NoSuchRow}
 use Rattle.helper.specs.Answer.{max_size, sized}
 use Rattle.helper.specs.declared.Measured.{Measured}
 use Rattle.helper.specs.declared.Measured.TheVariants.{Nothing, Bytes, TooLarge}
-use Rattle.helper.specs.declared.Sized.{Sized}
-use Rattle.helper.specs.declared.Sized.TheVariants as S
+use Rattle.std.specs.Prelude.{Result, Ok, Err}
+use Rattle.kinds.specs.declared.Refusal.{Refusal}
 
 -- ---- Sizes.
 
@@ -28,10 +28,10 @@ clip None = Nothing
 clip (Some n) = fit n
 
 -- A size as `size` hands it out, where sizes are at most `limit`.
-abbrev pub measured : ℕ → Measured → Sized
-measured limit Nothing = S.Nothing
-measured limit (Bytes n) = cond (leb n limit) (S.Bytes n) (S.Refused SizeTooLarge)
-measured limit TooLarge = S.Refused SizeTooLarge
+abbrev pub measured : ℕ → Measured → Result (Option ℕ) Refusal
+measured limit Nothing = Ok None
+measured limit (Bytes n) = cond (leb n limit) (Ok (Some n)) (Err SizeTooLarge)
+measured limit TooLarge = Err SizeTooLarge
 
 -- The sum of two sizes: none goes before too large.
 unfoldable pub plus_measured : Measured → Measured → Measured
@@ -96,8 +96,8 @@ unfoldable pub size_at : Widths → List ℕ → List ℕ → ℕ → NestingLev
 size_at m names w at v = node_size m (label_at names w at) v (sizes m (inside (label_at names w at) v) (trees names w (count_at w at - 1) (at + 4)))
 
 -- The answer for the tree of the nodes `w`, as of `sized_in`.
-unfoldable pub answer_at : ℕ → List ℕ → List ℕ → Sized
-answer_at row names w = cond (is_row row) (sized (max_size row) (size_at (widths row) names w 0 Top)) (S.Refused NoSuchRow)
+unfoldable pub answer_at : ℕ → List ℕ → List ℕ → Result (Option ℕ) Refusal
+answer_at row names w = cond (is_row row) (sized (max_size row) (size_at (widths row) names w 0 Top)) (Err NoSuchRow)
 
 -- ---- Comparison.
 

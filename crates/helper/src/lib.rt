@@ -13,7 +13,7 @@ ghost use Rattle.helper.specs.Answer.{max_size, sized_in, size_answer, compare_a
 ghost use Rattle.helper.specs.Measure.{clip, plus_measured, larger_measured, times_measured, join_measured, fold, holding_measured, is_leaf, leaf_entry, RowOf, size_at, answer_at, compare_fields, shown_count, level_after, measured};
 
 use kinds::{ARRAY, BIT_FIELD, NONE, NestingLevel, POINTER, PRIMITIVES, ROWS, Refusal, SIZES, STRUCT, TYPED_BIT_FIELD, equivalent_kinds, is_container, primitive_size};
-use sheet::{check, check_both, code_alone};
+use sheet::{Found, FoundBoth, check, check_both, code_alone};
 
 // The kind word of a primitive that is a pointer, by which a pointer's size is found in a row.
 const STRING: usize = 18;
@@ -27,14 +27,6 @@ pub enum Measured {
     Nothing,
     Bytes(u64),
     TooLarge,
-}
-
-// What `size` answers.
-#[derive(Clone, Copy)]
-pub enum Sized {
-    Refused(Refusal),
-    Nothing,
-    Bytes(u64),
 }
 
 impl Measured {
@@ -118,18 +110,18 @@ impl Measured {
     }
 
     // What a call answers where sizes are at most `limit`.
-    fn answer(self, limit: u64) -> Sized
+    fn answer(self, limit: u64) -> Result<Option<u64>, Refusal>
         ensures { result ≡ measured limit self }
     {
         match self {
-            Measured::Nothing => Sized::Nothing,
+            Measured::Nothing => Ok(None),
             Measured::Bytes(n) => {
                 if limit < n {
-                    return Sized::Refused(Refusal::SizeTooLarge);
+                    return Err(Refusal::SizeTooLarge);
                 }
-                Sized::Bytes(n)
+                Ok(Some(n))
             }
-            Measured::TooLarge => Sized::Refused(Refusal::SizeTooLarge),
+            Measured::TooLarge => Err(Refusal::SizeTooLarge),
         }
     }
 
@@ -468,12 +460,12 @@ pub fn max_size(row: u64) -> u64
 }
 
 // The size in a row of the tree of the nodes. The row is looked up once: a constant table is put on the stack wherever it is indexed.
-fn nodes_size(row: u64, nodes: &[u64]) -> Sized
+fn nodes_size(row: u64, nodes: &[u64]) -> Result<Option<u64>, Refusal>
     requires { NodeAt nodes.now 0 }
     ensures { (s : List ℕ) → result ≡ answer_at row s nodes.now }
 {
     if ROWS <= row {
-        return Sized::Refused(Refusal::NoSuchRow);
+        return Err(Refusal::NoSuchRow);
     }
     let table = SIZES;
     let sizes = &table[row as usize];
@@ -485,36 +477,34 @@ fn nodes_size(row: u64, nodes: &[u64]) -> Sized
 }
 
 // The size in a row of a tree that is one code.
-fn code_size(row: u64, kind: u64) -> Sized
+fn code_size(row: u64, kind: u64) -> Result<Option<u64>, Refusal>
     ensures { result ≡ sized_in row (node (primitive kind) end end) }
 {
     if ROWS <= row {
-        return Sized::Refused(Refusal::NoSuchRow);
+        return Err(Refusal::NoSuchRow);
     }
     match primitive_size(row, kind) {
-        None => Sized::Nothing,
-        Some(n) => Sized::Bytes(n),
+        None => Ok(None),
+        Some(n) => Ok(Some(n)),
     }
 }
 
 // The size of the tree in a sheet in a row.
-pub fn size(words: &[u64], names: &[u8], row: u64) -> Sized
+pub fn size(words: &[u64], names: &[u8], row: u64) -> Result<Option<u64>, Refusal>
     ensures { result ≡ size_answer row words.now names.now }
 {
-    match check(words, names) {
-        Err(why) => Sized::Refused(why),
-        Ok(Found::Code(_, kind)) => code_size(row, kind),
-        Ok(Found::Nodes(first, _)) => nodes_size(row, &words[first..]),
+    match check(words, names)? {
+        Found::Code(_, kind) => code_size(row, kind),
+        Found::Nodes(first, _) => nodes_size(row, &words[first..]),
     }
 }
 
 fn compare_sheets(aw: &[u64], an: &[u8], bw: &[u64], bn: &[u8], all: bool) -> Result<bool, Refusal>
     ensures { result ≡ compare_answer all aw.now an.now bw.now bn.now }
 {
-    match check_both(aw, an, bw, bn) {
-        Err(why) => Err(why),
-        Ok(FoundBoth::Codes(k, j)) => Ok(equivalent_kinds(k, j)),
-        Ok(FoundBoth::Nodes(f, n, g, m)) => {
+    match check_both(aw, an, bw, bn)? {
+        FoundBoth::Codes(k, j) => Ok(equivalent_kinds(k, j)),
+        FoundBoth::Nodes(f, n, g, m) => {
             let top = NestingLevel::new();
             let same = compare_fields(&aw[f..], &an[0..], 0, n, &bw[g..], &bn[0..], 0, m, top, all);
             Ok(same)

@@ -31,8 +31,7 @@ use Rattle.layout.specs.Placing.{placed_of, stored, part_kind, plain_extent, ext
 use Rattle.layout.specs.Walking.{Powers}
 use Rattle.layout.specs.declared.find.Found.{Found}
 use Rattle.layout.specs.declared.find.Found.TheVariants as F
-use Rattle.layout.specs.declared.LaidOut.{LaidOut}
-use Rattle.layout.specs.declared.LaidOut.TheVariants as A
+use Rattle.std.specs.Prelude.{Result, Ok, Err}
 use Rattle.layout.specs.declared.place.Placed.{Placed}
 use Rattle.layout.proofs.ExtentLaws.{primitive-extent}
 use Rattle.layout.proofs.FindLaws.{none-entry}
@@ -79,14 +78,14 @@ module _ (limit : ℕ) (g : limit ≤ max_u64) (x : Extent) (below : List ℕ) w
       zero-too e = rw (le-leb 0 max_u64 (omega arith)) e
 
       large : (t : Bool) → leb x.bytes max_u64 ≡ t → all_within max_u64 below ≡ true
-          → finish_by limit x.alignment (0 ∷ below) true (fit x.bytes) ≡ cond (leb x.bytes limit && all_within limit (0 ∷ below)) (A.Bytes x.bytes x.alignment) (A.Refused SizeTooLarge)
+          → finish_by limit x.alignment (0 ∷ below) true (fit x.bytes) ≡ cond (leb x.bytes limit && all_within limit (0 ∷ below)) (Ok (Some (x.bytes, x.alignment))) (Err SizeTooLarge)
       large true e f = ap (finish_by limit x.alignment (0 ∷ below) true) (fit-le x.bytes (leb-true x.bytes max_u64 e))
-          ∙ ap (λ t. cond (leb x.bytes limit && t) (A.Bytes x.bytes x.alignment) (A.Refused SizeTooLarge)) (limit-within limit (0 ∷ below) (zero-too f))
+          ∙ ap (λ t. cond (leb x.bytes limit && t) (Ok (Some (x.bytes, x.alignment))) (Err SizeTooLarge)) (limit-within limit (0 ∷ below) (zero-too f))
       large false e f = let q = leb-false x.bytes max_u64 e in
           ap (finish_by limit x.alignment (0 ∷ below) true) (fit-gt x.bytes q) ∙ sym (rw (lt-leb x.bytes limit (omega arith)))
 
       go : (t : Bool) → all_within max_u64 below ≡ t → finish_by limit x.alignment (0 ∷ map stored below) t (fit x.bytes)
-          ≡ cond (leb x.bytes limit && all_within limit (0 ∷ below)) (A.Bytes x.bytes x.alignment) (A.Refused SizeTooLarge)
+          ≡ cond (leb x.bytes limit && all_within limit (0 ∷ below)) (Ok (Some (x.bytes, x.alignment))) (Err SizeTooLarge)
       go true e = ap (λ (v : List ℕ). finish_by limit x.alignment (0 ∷ v) true (fit x.bytes)) (all-stored below e) ∙ large (leb x.bytes max_u64) refl e
       go false e = sym (rw (within-lower limit max_u64 below g e, and-false (leb 0 limit), and-false (leb x.bytes limit)))
 
@@ -105,7 +104,7 @@ module _ (m : Widths) (s w : List ℕ) (n : ℕ) (c : count_at w 0 ≡ n) (p : 1
   exit-is : exit ≡ 0 ∷ map stored (offsets_below m s w 0)
   exit-is = l.list ∙ numbers-left entry n h p z (map stored (offsets_below m s w 0)) (map-length stored (offsets_below m s w 0) ∙ below_length m s w 0 ∙ ap (λ (k : ℕ). k - 1) c)
 
-  pub walked-answer : {r : LaidOut} → r ≡ finished limit x exit → r ≡ fitted_at m s w limit
+  pub walked-answer : {r : Result (Option (ℕ × ℕ)) Refusal} → r ≡ finished limit x exit → r ≡ fitted_at m s w limit
   unfolding fitted_at numbers_at
   walked-answer e = e ∙ ap₂ (finished limit) l.takes exit-is ∙ finished-answer limit g (extent_at m s w 0) (offsets_below m s w 0)
 
@@ -136,7 +135,7 @@ layout-found : (row : ℕ) (t : Trees) → layout_of row t ≡ by_found (found_i
 unfolding layout_of found_in
 layout-found row t = go (first_bit_field (laid_out Top 0 t)) (any_sizeless (widths row) (laid_out Top 0 t)) (fitted (max_size row) (extent (widths row) t) (offsets_in row t))
   where
-    go : (o : Option ℕ) (b : Bool) (a : LaidOut) → unless_bit_field o (cond b A.Nothing a) ≡ by_found (unless_found o (cond (false || b) F.Nothing F.Sized)) a
+    go : (o : Option ℕ) (b : Bool) (a : Result (Option (ℕ × ℕ)) Refusal) → unless_bit_field o (cond b (Ok None) a) ≡ by_found (unless_found o (cond (false || b) F.Nothing F.Sized)) a
     go (Some i) b a = refl
     go None true a = refl
     go None false a = refl
@@ -147,7 +146,7 @@ module _ (m : Widths) (s w : List ℕ) (limit : ℕ) {n : ℕ} (c : count_at w 0
   answer-is = ap (λ k. by_found (found_in m false (laid_out Top 0 (trees s w k 0))) (fitted_at m s w limit)) c ∙ ap (λ g. by_found g (fitted_at m s w limit)) (sym e)
 
   -- The answer and the list after it, by what was found.
-  pub answer-by : {r : LaidOut} → r ≡ by_found f (fitted_at m s w limit) → r ≡ answer_at m s w limit
+  pub answer-by : {r : Result (Option (ℕ × ℕ)) Refusal} → r ≡ by_found f (fitted_at m s w limit) → r ≡ answer_at m s w limit
   answer-by d = d ∙ sym answer-is
 
   pub list-by : (list : List ℕ) {after : List ℕ} → after ≡ list_after (by_found f (fitted_at m s w limit)) (numbers_at m s w) list → after ≡ list_for m s w limit list
@@ -179,12 +178,12 @@ module _ (row : ℕ) (h : row < 4) (s w : List ℕ) (n : ℕ) (root : NodeAt w 0
     in_row : answer_at (widths row) s w (max_size row) ≡ layout_in row (length list) (trees s w n 0)
     in_row = answer-is (widths row) s w (max_size row) c refl ∙ sym (room-answer (length list) r ∙ layout_is)
 
-    pub row-answer : {a : LaidOut} → a ≡ answer_at (widths row) s w (max_size row) → a ≡ layout_in row (length list) (trees s w n 0)
+    pub row-answer : {a : Result (Option (ℕ × ℕ)) Refusal} → a ≡ answer_at (widths row) s w (max_size row) → a ≡ layout_in row (length list) (trees s w n 0)
     row-answer d = d ∙ in_row
 
     pub row_list : {after : List ℕ} → after ≡ list_for (widths row) s w (max_size row) list → after ≡ list_in row (trees s w n 0) list
     unfolding list_in list_for
-    row_list d = d ∙ ap₂ (λ (a : LaidOut) (ns : List ℕ). list_after a ns list) in_row (sym root-offsets)
+    row_list d = d ∙ ap₂ (λ (a : Result (Option (ℕ × ℕ)) Refusal) (ns : List ℕ). list_after a ns list) in_row (sym root-offsets)
 
 pub listed : (m : Widths) (s w : List ℕ) (limit : ℕ) (list : List ℕ) → list_at m s w limit list ≡ list_after (fitted_at m s w limit) (numbers_at m s w) list
 unfolding list_at
@@ -192,18 +191,18 @@ listed m s w limit list = refl
 
 -- No such row, or a list that is too short.
 module _ (row : ℕ) (t : Trees) (list : List ℕ) where
-  pub no-row-answer : 4 ≤ row → (A.Refused NoSuchRow ≡ layout_in row (length list) t) × (list ≡ list_in row t list)
+  pub no-row-answer : 4 ≤ row → (Err NoSuchRow ≡ layout_in row (length list) t) × (list ≡ list_in row t list)
   unfolding layout_in list_in
   no-row-answer h = (sym refused, sym (ap (λ a. list_after a (offsets_in row t) list) refused))
     where
-      refused : layout_in row (length list) t ≡ A.Refused NoSuchRow
+      refused : layout_in row (length list) t ≡ Err NoSuchRow
       refused = rw (lt-leb row 3 h)
 
-  pub short-answer : row < 4 → length list < count t → (A.Refused ListTooShort ≡ layout_in row (length list) t) × (list ≡ list_in row t list)
+  pub short-answer : row < 4 → length list < count t → (Err ListTooShort ≡ layout_in row (length list) t) × (list ≡ list_in row t list)
   unfolding layout_in list_in
   short-answer h g = (sym refused, sym (ap (λ a. list_after a (offsets_in row t) list) refused))
     where
-      refused : layout_in row (length list) t ≡ A.Refused ListTooShort
+      refused : layout_in row (length list) t ≡ Err ListTooShort
       refused = rw (le-leb row 3 (omega arith), lt-leb (count t) (length list) g)
 
 -- ---- A tree that is one code.
@@ -244,37 +243,37 @@ module _ (row k : ℕ) where
   lone-offsets = refl
 
   lone-layout : {b : Bool} → is_none (primitive_size (widths row) k) ≡ b
-      → layout_of row lone ≡ cond b A.Nothing (fitted (max_size row) (primitive_extent (widths row) k) (0 ∷ []))
+      → layout_of row lone ≡ cond b (Ok None) (fitted (max_size row) (primitive_extent (widths row) k) (0 ∷ []))
   unfolding layout_of first_bit_field is_bit_field any_sizeless sizeless extent only_extent extents node_extent
   lone-layout {b} e =
-      ap (λ ps. unless_bit_field (first_bit_field ps) (cond (any_sizeless (widths row) ps) A.Nothing (fitted (max_size row) (extent (widths row) lone) (offsets_in row lone)))) lone_parts
-      ∙ ap₂ (λ (t : Bool) (ns : List ℕ). cond (t || false) A.Nothing (fitted (max_size row) (primitive_extent (widths row) k) ns)) e lone-offsets
+      ap (λ ps. unless_bit_field (first_bit_field ps) (cond (any_sizeless (widths row) ps) (Ok None) (fitted (max_size row) (extent (widths row) lone) (offsets_in row lone)))) lone_parts
+      ∙ ap₂ (λ (t : Bool) (ns : List ℕ). cond (t || false) (Ok None) (fitted (max_size row) (primitive_extent (widths row) k) ns)) e lone-offsets
       ∙ go b (fitted (max_size row) (primitive_extent (widths row) k) (0 ∷ []))
     where
-      go : (t : Bool) (a : LaidOut) → cond (t || false) A.Nothing a ≡ cond t A.Nothing a
+      go : (t : Bool) (a : Result (Option (ℕ × ℕ)) Refusal) → cond (t || false) (Ok None) a ≡ cond t (Ok None) a
       go true a = refl
       go false a = refl
 
   -- Its answer by a row of the table, and the list after it.
   module _ (h : row < 4) (g : k < 24) (sizes : List ℕ) (o : RowOf sizes (widths row)) {b : ℕ} (e : b ≡ get_or sizes k 0) (list : List ℕ) (l : 0 < length list) where
-    lone-answer : layout_in row (length list) lone ≡ cond (eqb b 0) A.Nothing (fitted (max_size row) (plain_extent sizes k) (0 ∷ []))
+    lone-answer : layout_in row (length list) lone ≡ cond (eqb b 0) (Ok None) (fitted (max_size row) (plain_extent sizes k) (0 ∷ []))
     unfolding layout_in count
     lone-answer =
         rw (le-leb row 3 (omega arith), le-leb 1 (length list) l)
         (lone-layout (ap is_none (sym (o.codes k g)) ∙ none-entry (get_or sizes k 0) ∙ ap (λ n. eqb n 0) (sym e))
-        ∙ ap (λ x. cond (eqb b 0) A.Nothing (fitted (max_size row) x (0 ∷ []))) (primitive-extent sizes (widths row) o k g))
+        ∙ ap (λ x. cond (eqb b 0) (Ok None) (fitted (max_size row) x (0 ∷ []))) (primitive-extent sizes (widths row) o k g))
 
-    pub code-nothing : b ≡ 0 → (A.Nothing ≡ layout_in row (length list) lone) × (list ≡ list_in row lone list)
+    pub code-nothing : b ≡ 0 → ((Ok None) ≡ layout_in row (length list) lone) × (list ≡ list_in row lone list)
     unfolding list_in
     code-nothing z = (sym none-there, sym (ap (λ a. list_after a (offsets_in row lone) list) none-there))
       where
-        none-there : layout_in row (length list) lone ≡ A.Nothing
+        none-there : layout_in row (length list) lone ≡ Ok None
         none-there = lone-answer ∙ rw z
 
     pub code-bytes : (b ≡ 0 → ⊥) → Powers sizes → {a : ℕ} → a ≡ get_or sizes (part_kind k) 0
-        → (A.Bytes b a ≡ layout_in row (length list) lone) × (set list 0 0 ≡ list_in row lone list)
+        → (Ok (Some (b, a)) ≡ layout_in row (length list) lone) × (set list 0 0 ≡ list_in row lone list)
     unfolding list_in fitted all_within plain_extent
-    code-bytes z p {a} f = (sym laid, set_first list l ∙ sym (ap₂ (λ (x : LaidOut) (ns : List ℕ). list_after x ns list) laid lone-offsets))
+    code-bytes z p {a} f = (sym laid, set_first list l ∙ sym (ap₂ (λ (x : Result (Option (ℕ × ℕ)) Refusal) (ns : List ℕ). list_after x ns list) laid lone-offsets))
       where
         Some : 0 < get_or sizes k 0
         Some = omega arith
@@ -288,28 +287,28 @@ module _ (row k : ℕ) where
         takes : plain_extent sizes k ≡ record { bytes = b; alignment = a }
         takes = rw (lt-ltb k 24 g) (ap₂ (λ (x y : ℕ). record { bytes = x; alignment = y }) (sym e) (let q = positive in omega arith))
 
-        laid : layout_in row (length list) lone ≡ A.Bytes b a
+        laid : layout_in row (length list) lone ≡ Ok (Some (b, a))
         laid = lone-answer ∙ rw (ne_eqb b 0 z, takes, le-leb b (max_size row) (small_size row b low), le-leb 0 (max_size row) (omega arith))
 
 -- ---- The call.
 
 module _ (row : ℕ) (words names list : List ℕ) where
-  pub layout-refused : {r : Refusal} → held words names ≡ refused r → (A.Refused r ≡ layout_answer row words names list) × (list ≡ layout_list row words names list)
+  pub layout-refused : {r : Refusal} → held words names ≡ refused r → (Err r ≡ layout_answer row words names list) × (list ≡ layout_list row words names list)
   unfolding layout_answer layout_list
-  layout-refused h = (answer-refused A.Refused words names (layout_in row (length list)) h, answer-refused (λ r. list) words names (λ t. list_in row t list) h)
+  layout-refused h = (answer-refused Err words names (layout_in row (length list)) h, answer-refused (λ r. list) words names (λ t. list_in row t list) h)
 
-  pub layout_code : {k : ℕ} → CodeIn words names k → {r : LaidOut} {after : List ℕ} → r ≡ layout_in row (length list) (node (primitive k) end end)
+  pub layout_code : {k : ℕ} → CodeIn words names k → {r : Result (Option (ℕ × ℕ)) Refusal} {after : List ℕ} → r ≡ layout_in row (length list) (node (primitive k) end end)
       → after ≡ list_in row (node (primitive k) end end) list → (r ≡ layout_answer row words names list) × (after ≡ layout_list row words names list)
   unfolding layout_answer layout_list
   layout_code h d e = (
-    d ∙ answer-held A.Refused words names (layout_in row (length list)) h.holds,
+    d ∙ answer-held Err words names (layout_in row (length list)) h.holds,
     e ∙ answer-held (λ r. list) words names (λ t. list_in row t list) h.holds,
   )
 
-  pub layout-nodes : {w : List ℕ} {n : ℕ} → NodesAre words names w n → {r : LaidOut} {after : List ℕ} → r ≡ layout_in row (length list) (trees names w n 0) → after ≡ list_in row (trees names w n 0) list
+  pub layout-nodes : {w : List ℕ} {n : ℕ} → NodesAre words names w n → {r : Result (Option (ℕ × ℕ)) Refusal} {after : List ℕ} → r ≡ layout_in row (length list) (trees names w n 0) → after ≡ list_in row (trees names w n 0) list
       → (r ≡ layout_answer row words names list) × (after ≡ layout_list row words names list)
   unfolding layout_answer layout_list
   layout-nodes h d e = (
-    d ∙ answer-held A.Refused words names (layout_in row (length list)) h.holds,
+    d ∙ answer-held Err words names (layout_in row (length list)) h.holds,
     e ∙ answer-held (λ r. list) words names (λ t. list_in row t list) h.holds,
   )

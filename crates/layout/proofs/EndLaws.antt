@@ -17,7 +17,7 @@ use Rattle.helper.specs.declared.Measured.{Measured}
 use Rattle.helper.specs.declared.Measured.TheVariants.{Nothing, Bytes, TooLarge}
 use Rattle.layout.specs.Answer.{all_within, list_after}
 use Rattle.layout.specs.Placing.{within_limit, finish_by, finished}
-use Rattle.layout.specs.declared.LaidOut.TheVariants as A
+use Rattle.std.specs.Prelude.{Some, Ok, Err}
 use Rattle.layout.specs.declared.place.Placed.{Placed}
 
 -- ---- The limit.
@@ -101,38 +101,38 @@ module _ (limit : ℕ) (x : Placed) (ns : List ℕ) where
   unfolding finished
   by_parts f b e d = ap₂ (finish_by limit x.alignment ns) e d
 
-  pub end-unfit : not x.fits ≡ true → finished limit x ns ≡ A.Refused SizeTooLarge
+  pub end-unfit : not x.fits ≡ true → finished limit x ns ≡ Err SizeTooLarge
   end-unfit e = by_parts false x.bytes (not-true _ e) refl
 
-  pub end_none : x.bytes ≡ Nothing → finished limit x ns ≡ A.Refused SizeTooLarge
+  pub end_none : x.bytes ≡ Nothing → finished limit x ns ≡ Err SizeTooLarge
   end_none e = by_parts x.fits Nothing refl e ∙ go x.fits
     where
-      go : (f : Bool) → finish_by limit x.alignment ns f Nothing ≡ A.Refused SizeTooLarge
+      go : (f : Bool) → finish_by limit x.alignment ns f Nothing ≡ Err SizeTooLarge
       go true = refl
       go false = refl
 
-  pub end-over : x.bytes ≡ TooLarge → finished limit x ns ≡ A.Refused SizeTooLarge
+  pub end-over : x.bytes ≡ TooLarge → finished limit x ns ≡ Err SizeTooLarge
   end-over e = by_parts x.fits TooLarge refl e ∙ go x.fits
     where
-      go : (f : Bool) → finish_by limit x.alignment ns f TooLarge ≡ A.Refused SizeTooLarge
+      go : (f : Bool) → finish_by limit x.alignment ns f TooLarge ≡ Err SizeTooLarge
       go true = refl
       go false = refl
 
-  pub end-above : (n : ℕ) → x.bytes ≡ Bytes n → (leb n limit && within_limit limit ns) ≡ false → finished limit x ns ≡ A.Refused SizeTooLarge
+  pub end-above : (n : ℕ) → x.bytes ≡ Bytes n → (leb n limit && within_limit limit ns) ≡ false → finished limit x ns ≡ Err SizeTooLarge
   end-above n e h = by_parts x.fits (Bytes n) refl e ∙ go x.fits
     where
-      go : (f : Bool) → finish_by limit x.alignment ns f (Bytes n) ≡ A.Refused SizeTooLarge
+      go : (f : Bool) → finish_by limit x.alignment ns f (Bytes n) ≡ Err SizeTooLarge
       go true = rw h
       go false = refl
 
-  pub end_fits : (n : ℕ) → x.bytes ≡ Bytes n → not x.fits ≡ false → n ≤ limit → within_limit limit ns ≡ true → finished limit x ns ≡ A.Bytes n x.alignment
+  pub end_fits : (n : ℕ) → x.bytes ≡ Bytes n → not x.fits ≡ false → n ≤ limit → within_limit limit ns ≡ true → finished limit x ns ≡ Ok (Some (n, x.alignment))
   end_fits n e f h w = by_parts true (Bytes n) (not-false _ f) e ∙ rw (le-leb n limit h, w)
 
   -- The answer, and the list after it.
-  pub refused-both : (list : List ℕ) → finished limit x ns ≡ A.Refused SizeTooLarge
-      → (A.Refused SizeTooLarge ≡ finished limit x ns) × (list ≡ list_after (finished limit x ns) ns list)
+  pub refused-both : (list : List ℕ) → finished limit x ns ≡ Err SizeTooLarge
+      → (Err SizeTooLarge ≡ finished limit x ns) × (list ≡ list_after (finished limit x ns) ns list)
   refused-both list e = (sym e, sym (ap (λ a. list_after a ns list) e))
 
-  pub written_both : (list after : List ℕ) (n a : ℕ) → finished limit x ns ≡ A.Bytes n x.alignment → a ≡ x.alignment → after ≡ ns ++ drop (length ns) list
-      → (A.Bytes n a ≡ finished limit x ns) × (after ≡ list_after (finished limit x ns) ns list)
-  written_both list after n a e d f = (ap (A.Bytes n) d ∙ sym e, f ∙ sym (ap (λ z. list_after z ns list) e))
+  pub written_both : (list after : List ℕ) (n a : ℕ) → finished limit x ns ≡ Ok (Some (n, x.alignment)) → a ≡ x.alignment → after ≡ ns ++ drop (length ns) list
+      → (Ok (Some (n, a)) ≡ finished limit x ns) × (after ≡ list_after (finished limit x ns) ns list)
+  written_both list after n a e d f = (ap (?Ok(Some) n) d ∙ sym e, f ∙ sym (ap (λ z. list_after z ns list) e))

@@ -9,8 +9,8 @@ use Rattle.kinds.specs.declared.Refusal.TheVariants.{ListTooShort, SizeTooLarge,
 use Rattle.helper.specs.Answer.{max_size}
 use Rattle.sheet.specs.Answer.{of_sheet}
 use Rattle.layout.specs.Layout.{Extent, laid_out, first_bit_field, any_sizeless, node_extent, extents, extent, others, offsets}
-use Rattle.layout.specs.declared.LaidOut.{LaidOut}
-use Rattle.layout.specs.declared.LaidOut.TheVariants as A
+use Rattle.std.specs.Prelude.{Result, Ok, Err}
+use Rattle.kinds.specs.declared.Refusal.{Refusal}
 
 -- The numbers of a tree's nodes in a row.
 unfoldable pub offsets_in : ℕ → Trees → List ℕ
@@ -21,33 +21,33 @@ all_within limit [] = true
 all_within limit (n ∷ ns) = leb n limit && all_within limit ns
 
 -- Refusal 6 covers the padded size of the whole tree and every offset.
-unfoldable pub fitted : ℕ → Extent → List ℕ → LaidOut
-fitted limit x ns = cond (leb x.bytes limit && all_within limit ns) (A.Bytes x.bytes x.alignment) (A.Refused SizeTooLarge)
+unfoldable pub fitted : ℕ → Extent → List ℕ → Result (Option (ℕ × ℕ)) Refusal
+fitted limit x ns = cond (leb x.bytes limit && all_within limit ns) (Ok (Some (x.bytes, x.alignment))) (Err SizeTooLarge)
 
 -- Refused by the first bitfield's number, or this.
-abbrev pub unless_bit_field : Option ℕ → LaidOut → LaidOut
-unless_bit_field (Some i) a = A.Refused (BitFieldInLayout i)
+abbrev pub unless_bit_field : Option ℕ → Result (Option (ℕ × ℕ)) Refusal → Result (Option (ℕ × ℕ)) Refusal
+unless_bit_field (Some i) a = Err (BitFieldInLayout i)
 unless_bit_field None a = a
 
 -- A tree's layout in a row: refusal 21, none, and refusal 6 in this order.
-unfoldable pub layout_of : ℕ → Trees → LaidOut
+unfoldable pub layout_of : ℕ → Trees → Result (Option (ℕ × ℕ)) Refusal
 layout_of row t =
     unless_bit_field (first_bit_field (laid_out Top 0 t))
-    (cond (any_sizeless (widths row) (laid_out Top 0 t)) A.Nothing (fitted (max_size row) (extent (widths row) t) (offsets_in row t)))
+    (cond (any_sizeless (widths row) (laid_out Top 0 t)) (Ok None) (fitted (max_size row) (extent (widths row) t) (offsets_in row t)))
 
 -- The same for a list of `room` offsets, before it refusals 20 and 2.
-unfoldable pub layout_in : ℕ → ℕ → Trees → LaidOut
-layout_in row room t = cond (is_row row) (cond (leb (count t) room) (layout_of row t) (A.Refused ListTooShort)) (A.Refused NoSuchRow)
+unfoldable pub layout_in : ℕ → ℕ → Trees → Result (Option (ℕ × ℕ)) Refusal
+layout_in row room t = cond (is_row row) (cond (leb (count t) room) (layout_of row t) (Err ListTooShort)) (Err NoSuchRow)
 
 -- `layout`: why the lists or the row are turned away, or the layout of the tree in them.
-unfoldable pub layout_answer : ℕ → List ℕ → List ℕ → List ℕ → LaidOut
-layout_answer row words names list = of_sheet A.Refused (layout_in row (length list)) words names
+unfoldable pub layout_answer : ℕ → List ℕ → List ℕ → List ℕ → Result (Option (ℕ × ℕ)) Refusal
+layout_answer row words names list = of_sheet Err (layout_in row (length list)) words names
 
 -- The list after an answer: the numbers stand in it where there is a layout, and else it is as it was.
-abbrev pub list_after : LaidOut → List ℕ → List ℕ → List ℕ
-list_after (A.Refused r) ns list = list
-list_after A.Nothing ns list = list
-list_after (A.Bytes n a) ns list = ns ++ drop (length ns) list
+abbrev pub list_after : Result (Option (ℕ × ℕ)) Refusal → List ℕ → List ℕ → List ℕ
+list_after (Err r) ns list = list
+list_after (Ok None) ns list = list
+list_after (Ok (Some (n, a))) ns list = ns ++ drop (length ns) list
 
 unfoldable pub list_in : ℕ → Trees → List ℕ → List ℕ
 list_in row t list = list_after (layout_in row (length list) t) (offsets_in row t) list

@@ -15,8 +15,8 @@ use Rattle.layout.specs.Answer.{all_within, fitted, list_after}
 use Rattle.layout.specs.Layout.{Part, laid_out, first_bit_field, any_sizeless, next_multiple, Extent, no_room, node_extent, extents, in_node, holds_inside, offsets}
 use Rattle.layout.specs.declared.find.Found.{Found}
 use Rattle.layout.specs.declared.find.Found.TheVariants as F
-use Rattle.layout.specs.declared.LaidOut.{LaidOut}
-use Rattle.layout.specs.declared.LaidOut.TheVariants as A
+use Rattle.std.specs.Prelude.{Result, Ok, Err}
+use Rattle.kinds.specs.declared.Refusal.{Refusal}
 use Rattle.layout.specs.declared.place.Placed.{Placed}
 
 -- ---- Extents.
@@ -156,32 +156,32 @@ unfoldable pub within_limit : ℕ → List ℕ → Bool
 within_limit limit ns = eqb limit max_u64 || all_within limit ns
 
 -- The answer for a whole tree and the numbers of its nodes.
-abbrev pub finish_by : ℕ → ℕ → List ℕ → Bool → Measured → LaidOut
-finish_by limit a ns false b = A.Refused SizeTooLarge
-finish_by limit a ns true Nothing = A.Refused SizeTooLarge
-finish_by limit a ns true (Bytes n) = cond (leb n limit && within_limit limit ns) (A.Bytes n a) (A.Refused SizeTooLarge)
-finish_by limit a ns true TooLarge = A.Refused SizeTooLarge
+abbrev pub finish_by : ℕ → ℕ → List ℕ → Bool → Measured → Result (Option (ℕ × ℕ)) Refusal
+finish_by limit a ns false b = Err SizeTooLarge
+finish_by limit a ns true Nothing = Err SizeTooLarge
+finish_by limit a ns true (Bytes n) = cond (leb n limit && within_limit limit ns) (Ok (Some (n, a))) (Err SizeTooLarge)
+finish_by limit a ns true TooLarge = Err SizeTooLarge
 
-unfoldable pub finished : ℕ → Placed → List ℕ → LaidOut
+unfoldable pub finished : ℕ → Placed → List ℕ → Result (Option (ℕ × ℕ)) Refusal
 finished limit x ns = finish_by limit x.alignment ns x.fits x.bytes
 
 -- The same of the tree of the nodes `w`, and the list after it.
 unfoldable pub numbers_at : Widths → List ℕ → List ℕ → List ℕ
 numbers_at m s w = 0 ∷ offsets_below m s w 0
 
-unfoldable pub fitted_at : Widths → List ℕ → List ℕ → ℕ → LaidOut
+unfoldable pub fitted_at : Widths → List ℕ → List ℕ → ℕ → Result (Option (ℕ × ℕ)) Refusal
 fitted_at m s w limit = fitted limit (extent_at m s w 0) (numbers_at m s w)
 
 unfoldable pub list_at : Widths → List ℕ → List ℕ → ℕ → List ℕ → List ℕ
 list_at m s w limit list = list_after (fitted_at m s w limit) (numbers_at m s w) list
 
 -- The same by what the pass found: the layout of any tree of the nodes `w`.
-abbrev pub by_found : Found → LaidOut → LaidOut
-by_found (F.BitField i) a = A.Refused (BitFieldInLayout i)
-by_found F.Nothing a = A.Nothing
+abbrev pub by_found : Found → Result (Option (ℕ × ℕ)) Refusal → Result (Option (ℕ × ℕ)) Refusal
+by_found (F.BitField i) a = Err (BitFieldInLayout i)
+by_found F.Nothing a = Ok None
 by_found F.Sized a = a
 
-unfoldable pub answer_at : Widths → List ℕ → List ℕ → ℕ → LaidOut
+unfoldable pub answer_at : Widths → List ℕ → List ℕ → ℕ → Result (Option (ℕ × ℕ)) Refusal
 answer_at m s w limit = by_found (found_in m false (laid_out Top 0 (trees s w (count_at w 0) 0))) (fitted_at m s w limit)
 
 unfoldable pub list_for : Widths → List ℕ → List ℕ → ℕ → List ℕ → List ℕ

@@ -13,7 +13,7 @@ mod taken;
 
 use kinds::{ROWS, Refusal, SIZES};
 use quick::nodes_layout;
-use sheet::{check};
+use sheet::{Found, check};
 use taken::nodes_extents;
 
 // The kind word of a primitive that is a pointer, by which a pointer's size is found in a row.
@@ -23,14 +23,6 @@ const STRING: usize = 18;
 const FLOAT_COMPLEX: usize = 13;
 
 const LONG_DOUBLE_COMPLEX: usize = 15;
-
-// What `layout` answers: a padded size with its alignment, none, or why not.
-#[derive(Clone, Copy)]
-pub enum LaidOut {
-    Refused(Refusal),
-    Nothing,
-    Bytes(u64, u64),
-}
 
 fn wide(x: u8) -> u64
     ensures { result ≡ x }
@@ -52,38 +44,37 @@ fn part_kind(kind: usize) -> usize
 }
 
 // The layout in a row of a tree that is one code.
-fn code_layout(row: u64, kind: u64, offsets: &mut [u64]) -> LaidOut
+fn code_layout(row: u64, kind: u64, offsets: &mut [u64]) -> Result<Option<(u64, u64)>, Refusal>
     requires { kind < 24 }
     ensures answers { result ≡ layout_in row (length offsets.old) (node (primitive kind) end end) }
     ensures fills { offsets.new ≡ list_in row (node (primitive kind) end end) offsets.old }
 {
     if ROWS <= row {
-        return LaidOut::Refused(Refusal::NoSuchRow);
+        return Err(Refusal::NoSuchRow);
     }
     if offsets.len() < 1 {
-        return LaidOut::Refused(Refusal::ListTooShort);
+        return Err(Refusal::ListTooShort);
     }
     let table = SIZES;
     let sizes = &table[row as usize];
     let k = kind as usize;
     let bytes = wide(sizes[k]);
     if bytes == 0 {
-        return LaidOut::Nothing;
+        return Ok(None);
     }
     let alignment = wide(sizes[part_kind(k)]);
     offsets[0] = 0;
-    LaidOut::Bytes(bytes, alignment)
+    Ok(Some((bytes, alignment)))
 }
 
 // The layout in a row of the tree in a sheet: the number of each node is put into the list, and with it come the padded size and the alignment of the whole.
-pub fn layout(words: &[u64], names: &[u8], row: u64, offsets: &mut [u64]) -> LaidOut
+pub fn layout(words: &[u64], names: &[u8], row: u64, offsets: &mut [u64]) -> Result<Option<(u64, u64)>, Refusal>
     ensures answers { result ≡ layout_answer row words.now names.now offsets.old }
     ensures fills { offsets.new ≡ layout_list row words.now names.now offsets.old }
 {
-    match check(words, names) {
-        Err(why) => LaidOut::Refused(why),
-        Ok(Found::Code(_, kind)) => code_layout(row, kind, offsets),
-        Ok(Found::Nodes(first, n)) => nodes_layout(row, &words[first..], n, offsets),
+    match check(words, names)? {
+        Found::Code(_, kind) => code_layout(row, kind, offsets),
+        Found::Nodes(first, n) => nodes_layout(row, &words[first..], n, offsets),
     }
 }
 

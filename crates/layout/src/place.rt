@@ -11,7 +11,7 @@ ghost use Rattle.layout.specs.Placing.{within_limit, finished, fitted_at, answer
 ghost use Rattle.layout.specs.Walking.{Sought};
 
 use super::find::{Found, find};
-use super::{LaidOut, STRING, part_kind, wide};
+use super::{STRING, part_kind, wide};
 use helper::Measured;
 use kinds::{ARRAY, ATOMIC, POINTER, PRIMITIVES, Refusal, STRUCT, UNION};
 
@@ -347,34 +347,34 @@ fn copy_numbers(numbers: &[u64], offsets: &mut [u64])
 }
 
 // The answer for a whole tree: its numbers are written where the size and each of them is at most `limit`.
-pub(crate) fn finish(whole: Placed, numbers: &[u64], limit: u64, offsets: &mut [u64]) -> LaidOut
+pub(crate) fn finish(whole: Placed, numbers: &[u64], limit: u64, offsets: &mut [u64]) -> Result<Option<(u64, u64)>, Refusal>
     requires { length numbers.now ≤ length offsets.old }
     ensures answers { result ≡ finished limit whole numbers.now }
     ensures fills { offsets.new ≡ list_after (finished limit whole numbers.now) numbers.now offsets.old }
 {
     if !whole.fits {
-        return LaidOut::Refused(Refusal::SizeTooLarge);
+        return Err(Refusal::SizeTooLarge);
     }
     let end = whole.bytes;
     match end {
-        Measured::Nothing => LaidOut::Refused(Refusal::SizeTooLarge),
-        Measured::TooLarge => LaidOut::Refused(Refusal::SizeTooLarge),
+        Measured::Nothing => Err(Refusal::SizeTooLarge),
+        Measured::TooLarge => Err(Refusal::SizeTooLarge),
         Measured::Bytes(bytes) => {
             if limit < bytes {
-                return LaidOut::Refused(Refusal::SizeTooLarge);
+                return Err(Refusal::SizeTooLarge);
             }
             if !within_limit(numbers, limit) {
-                return LaidOut::Refused(Refusal::SizeTooLarge);
+                return Err(Refusal::SizeTooLarge);
             }
             copy_numbers(numbers, offsets);
-            LaidOut::Bytes(bytes, wide(whole.alignment))
+            Ok(Some((bytes, wide(whole.alignment))))
         }
     }
 }
 
 // The layout of the `n` nodes of a tree in which each laid-out node has a size. Nothing is written before it is known that there is a layout: the numbers
 // are gathered in another list.
-fn lay_out(sizes: &[u8; 24], nodes: &[u64], n: usize, limit: u64, offsets: &mut [u64]) -> LaidOut
+fn lay_out(sizes: &[u8; 24], nodes: &[u64], n: usize, limit: u64, offsets: &mut [u64]) -> Result<Option<(u64, u64)>, Refusal>
     requires { NodeAt nodes.now 0 × (count_at nodes.now 0 ≡ n) × (n ≤ 2001) × (n ≤ length offsets.old) }
     ensures answers { (m : Widths) → RowOf sizes.now m → (s : List ℕ) → result ≡ fitted_at m s nodes.now limit }
     ensures fills { (m : Widths) → RowOf sizes.now m → (s : List ℕ) → offsets.new ≡ list_at m s nodes.now limit offsets.old }
@@ -392,14 +392,14 @@ pub(crate) fn lay_out_any(
     n: usize,
     limit: u64,
     offsets: &mut [u64],
-) -> LaidOut
+) -> Result<Option<(u64, u64)>, Refusal>
     requires { NodeAt nodes.now 0 × (count_at nodes.now 0 ≡ n) × (n ≤ 2001) × (n ≤ length offsets.old) × Sought sizes.now nodes.now n from false false }
     ensures answers { (m : Widths) → RowOf sizes.now m → (s : List ℕ) → result ≡ answer_at m s nodes.now limit }
     ensures fills { (m : Widths) → RowOf sizes.now m → (s : List ℕ) → offsets.new ≡ list_for m s nodes.now limit offsets.old }
 {
     match find(sizes, &nodes[0..], from, n) {
-        Found::BitField(i) => LaidOut::Refused(Refusal::BitFieldInLayout(i)),
-        Found::Nothing => LaidOut::Nothing,
+        Found::BitField(i) => Err(Refusal::BitFieldInLayout(i)),
+        Found::Nothing => Ok(None),
         Found::Sized => lay_out(sizes, &nodes[0..], n, limit, offsets),
     }
 }

@@ -11,7 +11,7 @@ ghost use Rattle.layout.specs.Placing.{Zeros, answer_at, list_for};
 ghost use Rattle.layout.specs.Walking.{Sought, IsPower, Powers, most, PlainRoom, SimpleRoom, EndedRoom, AddedRoom, Enters, Walking, Settled};
 
 use super::place::{Placed, finish, lay_out_any};
-use super::{FLOAT_COMPLEX, LONG_DOUBLE_COMPLEX, LaidOut, STRING, wide};
+use super::{FLOAT_COMPLEX, LONG_DOUBLE_COMPLEX, STRING, wide};
 use helper::{Measured, max_size};
 use kinds::{ARRAY, ATOMIC, POINTER, PRIMITIVES, ROWS, Refusal, SIZES, STRUCT, UNION};
 
@@ -354,7 +354,7 @@ fn lay_out_quick(
     limit: u64,
     numbers: &mut [u64],
     offsets: &mut [u64],
-) -> LaidOut
+) -> Result<Option<(u64, u64)>, Refusal>
     requires { Powers sizes.now × NodeAt nodes.now 0 × (count_at nodes.now 0 ≡ n) × (n ≤ 2001) × (n ≤ length offsets.old) × (length numbers.old ≡ n) × Zeros numbers.old 0 n }
     ensures answers { (m : Widths) → RowOf sizes.now m → (s : List ℕ) → result ≡ answer_at m s nodes.now limit }
     ensures fills { (m : Widths) → RowOf sizes.now m → (s : List ℕ) → offsets.new ≡ list_for m s nodes.now limit offsets.old }
@@ -372,7 +372,7 @@ fn lay_out_quick(
 }
 
 // The list for the numbers is no longer than the tree wants, since all of it is cleared.
-fn lay_out_32(sizes: &[u8; 24], nodes: &[u64], n: usize, limit: u64, offsets: &mut [u64]) -> LaidOut
+fn lay_out_32(sizes: &[u8; 24], nodes: &[u64], n: usize, limit: u64, offsets: &mut [u64]) -> Result<Option<(u64, u64)>, Refusal>
     requires { Powers sizes.now × NodeAt nodes.now 0 × (count_at nodes.now 0 ≡ n) × (n ≤ 32) × (n ≤ length offsets.old) }
     ensures answers { (m : Widths) → RowOf sizes.now m → (s : List ℕ) → result ≡ answer_at m s nodes.now limit }
     ensures fills { (m : Widths) → RowOf sizes.now m → (s : List ℕ) → offsets.new ≡ list_for m s nodes.now limit offsets.old }
@@ -387,7 +387,7 @@ fn lay_out_128(
     n: usize,
     limit: u64,
     offsets: &mut [u64],
-) -> LaidOut
+) -> Result<Option<(u64, u64)>, Refusal>
     requires { Powers sizes.now × NodeAt nodes.now 0 × (count_at nodes.now 0 ≡ n) × (n ≤ 128) × (n ≤ length offsets.old) }
     ensures answers { (m : Widths) → RowOf sizes.now m → (s : List ℕ) → result ≡ answer_at m s nodes.now limit }
     ensures fills { (m : Widths) → RowOf sizes.now m → (s : List ℕ) → offsets.new ≡ list_for m s nodes.now limit offsets.old }
@@ -402,7 +402,7 @@ fn lay_out_512(
     n: usize,
     limit: u64,
     offsets: &mut [u64],
-) -> LaidOut
+) -> Result<Option<(u64, u64)>, Refusal>
     requires { Powers sizes.now × NodeAt nodes.now 0 × (count_at nodes.now 0 ≡ n) × (n ≤ 512) × (n ≤ length offsets.old) }
     ensures answers { (m : Widths) → RowOf sizes.now m → (s : List ℕ) → result ≡ answer_at m s nodes.now limit }
     ensures fills { (m : Widths) → RowOf sizes.now m → (s : List ℕ) → offsets.new ≡ list_for m s nodes.now limit offsets.old }
@@ -417,7 +417,7 @@ fn lay_out_1024(
     n: usize,
     limit: u64,
     offsets: &mut [u64],
-) -> LaidOut
+) -> Result<Option<(u64, u64)>, Refusal>
     requires { Powers sizes.now × NodeAt nodes.now 0 × (count_at nodes.now 0 ≡ n) × (n ≤ 1024) × (n ≤ length offsets.old) }
     ensures answers { (m : Widths) → RowOf sizes.now m → (s : List ℕ) → result ≡ answer_at m s nodes.now limit }
     ensures fills { (m : Widths) → RowOf sizes.now m → (s : List ℕ) → offsets.new ≡ list_for m s nodes.now limit offsets.old }
@@ -432,7 +432,7 @@ fn lay_out_2001(
     n: usize,
     limit: u64,
     offsets: &mut [u64],
-) -> LaidOut
+) -> Result<Option<(u64, u64)>, Refusal>
     requires { Powers sizes.now × NodeAt nodes.now 0 × (count_at nodes.now 0 ≡ n) × (n ≤ 2001) × (n ≤ length offsets.old) }
     ensures answers { (m : Widths) → RowOf sizes.now m → (s : List ℕ) → result ≡ answer_at m s nodes.now limit }
     ensures fills { (m : Widths) → RowOf sizes.now m → (s : List ℕ) → offsets.new ≡ list_for m s nodes.now limit offsets.old }
@@ -448,7 +448,7 @@ fn lay_out_nodes(
     n: usize,
     limit: u64,
     offsets: &mut [u64],
-) -> LaidOut
+) -> Result<Option<(u64, u64)>, Refusal>
     requires { Powers sizes.now × NodeAt nodes.now 0 × (count_at nodes.now 0 ≡ n) × (n ≤ 2001) × (n ≤ length offsets.old) }
     ensures answers { (m : Widths) → RowOf sizes.now m → (s : List ℕ) → result ≡ answer_at m s nodes.now limit }
     ensures fills { (m : Widths) → RowOf sizes.now m → (s : List ℕ) → offsets.new ≡ list_for m s nodes.now limit offsets.old }
@@ -469,16 +469,16 @@ fn lay_out_nodes(
 }
 
 // The layout in a row of the tree of the nodes.
-pub(crate) fn nodes_layout(row: u64, nodes: &[u64], n: usize, offsets: &mut [u64]) -> LaidOut
+pub(crate) fn nodes_layout(row: u64, nodes: &[u64], n: usize, offsets: &mut [u64]) -> Result<Option<(u64, u64)>, Refusal>
     requires { NodeAt nodes.now 0 × (count_at nodes.now 0 ≡ n) × (n ≤ 2001) }
     ensures answers { (s : List ℕ) → result ≡ layout_in row (length offsets.old) (trees s nodes.now n 0) }
     ensures fills { (s : List ℕ) → offsets.new ≡ list_in row (trees s nodes.now n 0) offsets.old }
 {
     if ROWS <= row {
-        return LaidOut::Refused(Refusal::NoSuchRow);
+        return Err(Refusal::NoSuchRow);
     }
     if offsets.len() < n {
-        return LaidOut::Refused(Refusal::ListTooShort);
+        return Err(Refusal::ListTooShort);
     }
     let table = SIZES;
     let sizes = &table[row as usize];

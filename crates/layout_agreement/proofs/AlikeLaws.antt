@@ -18,8 +18,8 @@ use Rattle.kinds.specs.declared.Refusal.TheVariants.{SizeTooLarge}
 use Rattle.helper.specs.Answer.{max_size}
 use Rattle.layout.specs.Answer.{offsets_in, all_within, fitted, unless_bit_field, layout_of}
 use Rattle.layout.specs.Layout.{Extent, is_pointer, laid_out, first_bit_field, sizeless, any_sizeless, node_extent, extents, extent, only_extent, Side, others, in_node, begins, holds_inside, offsets}
-use Rattle.layout.specs.declared.LaidOut.{LaidOut}
-use Rattle.layout.specs.declared.LaidOut.TheVariants as A
+use Rattle.std.specs.Prelude.{Result, Ok, Err}
+use Rattle.kinds.specs.declared.Refusal.{Refusal}
 use Rattle.layout_agreement.specs.Shown.{shown_only, shown_numbers, number_in}
 use Rattle.layout_agreement.proofs.OffsetLaws.{below}
 use Rattle.layout_agreement.proofs.PartLaws.{neither, sized-parts}
@@ -91,22 +91,22 @@ number-none ns (Some k) e = let z : ◌≡◌ {A = ℕ} 0 1 = cc in absurd (omeg
 none-shown : (t : Trees) → first_bit_field (laid_out Top 0 t) ≡ None → first_bit_field (laid_out Top 0 (shown Top t)) ≡ None
 none-shown t e = number-none (shown_numbers t) (first_bit_field (laid_out Top 0 (shown Top t))) (sym (bits-shown t) ∙ e)
 
-fit : ℕ → Extent → Bool → LaidOut
-fit m x b = cond (leb x.bytes m && b) (A.Bytes x.bytes x.alignment) (A.Refused SizeTooLarge)
+fit : ℕ → Extent → Bool → Result (Option (ℕ × ℕ)) Refusal
+fit m x b = cond (leb x.bytes m && b) (Ok (Some (x.bytes, x.alignment))) (Err SizeTooLarge)
 
 layout-shown : (row : ℕ) (t : Trees) → first_bit_field (laid_out Top 0 t) ≡ None → layout_of row (shown Top t) ≡ layout_of row t
 unfolding layout_of fitted extent offsets_in fit
 layout-shown row t o =
-    ap₂ (λ x b. unless_bit_field x (cond b A.Nothing (fit (max_size row) (extent w (shown Top t)) (all_within (max_size row) (offsets w others 0 (shown Top t)))))) (none-shown t o) (sizeless-shown w Top 0 0 t)
+    ap₂ (λ x b. unless_bit_field x (cond b (Ok None) (fit (max_size row) (extent w (shown Top t)) (all_within (max_size row) (offsets w others 0 (shown Top t)))))) (none-shown t o) (sizeless-shown w Top 0 0 t)
     ∙ go (any_sizeless w (laid_out Top 0 t)) refl
-    ∙ ap (λ x. unless_bit_field x (cond (any_sizeless w (laid_out Top 0 t)) A.Nothing (fit (max_size row) (extent w t) (all_within (max_size row) (offsets w others 0 t))))) (sym o)
+    ∙ ap (λ x. unless_bit_field x (cond (any_sizeless w (laid_out Top 0 t)) (Ok None) (fit (max_size row) (extent w t) (all_within (max_size row) (offsets w others 0 t))))) (sym o)
   where
     w : Widths
     w = widths row
 
     go : (b : Bool) → any_sizeless w (laid_out Top 0 t) ≡ b
-        → cond b A.Nothing (fit (max_size row) (extent w (shown Top t)) (all_within (max_size row) (offsets w others 0 (shown Top t))))
-        ≡ cond b A.Nothing (fit (max_size row) (extent w t) (all_within (max_size row) (offsets w others 0 t)))
+        → cond b (Ok None) (fit (max_size row) (extent w (shown Top t)) (all_within (max_size row) (offsets w others 0 (shown Top t))))
+        ≡ cond b (Ok None) (fit (max_size row) (extent w t) (all_within (max_size row) (offsets w others 0 t)))
     go true a = refl
     go false a = ap₂ (fit (max_size row)) (ap only_extent (extents-shown w Top 0 t a)) (within-shown (max_size row) w Top 0 others 0 t a)
 

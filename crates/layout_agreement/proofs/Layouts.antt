@@ -17,10 +17,9 @@ use Rattle.kinds.specs.declared.Refusal.{Refusal}
 use Rattle.kinds.specs.declared.Refusal.TheVariants as R
 use Rattle.sheet.specs.Answer.{held, refused, holding}
 use Rattle.helper.specs.Answer.{sized_in, size_answer}
-use Rattle.helper.specs.declared.Sized.TheVariants as S
+use Rattle.std.specs.Prelude.{Ok, Err}
 use Rattle.layout.specs.Answer.{layout_of, layout_in, layout_answer, layout_list}
 use Rattle.layout.specs.Layout.{laid_out, first_bit_field, any_sizeless, next_multiple, alignments, fields_end, members_end, node_extent, extents, extent, Side, fields, others, holds_inside, in_node, offsets}
-use Rattle.layout.specs.declared.LaidOut.TheVariants.{Refused, Nothing, Bytes}
 use Rattle.layout.proofs.FillLaws.{offsets-length, alignments-positive}
 use Rattle.layout.proofs.MultipleLaws as M
 use Rattle.layout_agreement.specs.Cases.{AllHold, cases}
@@ -222,58 +221,58 @@ module _ (t : Trees) where
 
 module _ (row : ℕ) (words names list : List ℕ) where
   -- Refusals 3 and 4 go first, whatever the row number and the lent list.
-  pub lists-first : {r : Refusal} → held words names ≡ refused r → layout_answer row words names list ≡ Refused r
+  pub lists-first : {r : Refusal} → held words names ≡ refused r → layout_answer row words names list ≡ Err r
   lists-first = refused-answer row words names list
 
   -- Refusal 20 comes exactly where the lists hold a tree and no row has this number.
-  pub no-such-row : (layout_answer row words names list ≡ Refused R.NoSuchRow) ↔ ((t : Trees) × (held words names ≡ holding t) × (is_row row ≡ false))
+  pub no-such-row : (layout_answer row words names list ≡ Err R.NoSuchRow) ↔ ((t : Trees) × (held words names ≡ holding t) × (is_row row ≡ false))
   no-such-row = answer-no-row row words names list
 
   module _ {t : Trees} (h : held words names ≡ holding t) (r : is_row row ≡ true) where
     -- In a row that there is, refusal 2 comes exactly where the lent list has fewer numbers than the tree has nodes.
-    pub list-too-short : (layout_answer row words names list ≡ Refused R.ListTooShort) ↔ (length list < count t)
+    pub list-too-short : (layout_answer row words names list ≡ Err R.ListTooShort) ↔ (length list < count t)
     list-too-short = answer-short row words names list h r
 
     module _ (m : count t ≤ length list) where
       -- Where the list is long enough, refusal 21 comes exactly where a bitfield is laid out, and carries the number of the first.
-      pub bit-field : (i : ℕ) → (layout_answer row words names list ≡ Refused (R.BitFieldInLayout i)) ↔ (first_bit_field (laid_out Top 0 t) ≡ Some i)
+      pub bit-field : (i : ℕ) → (layout_answer row words names list ≡ Err (R.BitFieldInLayout i)) ↔ (first_bit_field (laid_out Top 0 t) ≡ Some i)
       bit-field = answer-bits row words names list h r m
 
       module _ (o : first_bit_field (laid_out Top 0 t) ≡ None) where
         -- Where none is, there is no layout exactly if a node that is laid out has no size.
-        pub no-layout : (layout_answer row words names list ≡ Nothing) ↔ (any_sizeless (widths row) (laid_out Top 0 t) ≡ true)
+        pub no-layout : (layout_answer row words names list ≡ Ok None) ↔ (any_sizeless (widths row) (laid_out Top 0 t) ≡ true)
         no-layout = answer-nothing row words names list h r m o
 
         module _ (b : any_sizeless (widths row) (laid_out Top 0 t) ≡ false) where
           -- Where all have one, the padded size and the alignment are told exactly if that size and every offset fit the row; else refusal 6 comes.
-          pub in_bytes : (n a : ℕ) → (layout_answer row words names list ≡ Bytes n a) ↔ (((extent (widths row) t).bytes ≡ n) × ((extent (widths row) t).alignment ≡ a) × Fits row t)
+          pub in_bytes : (n a : ℕ) → (layout_answer row words names list ≡ Ok (Some (n, a))) ↔ (((extent (widths row) t).bytes ≡ n) × ((extent (widths row) t).alignment ≡ a) × Fits row t)
           in_bytes = answer-bytes row words names list h r m o b
 
-          pub too_large_lem : (layout_answer row words names list ≡ Refused R.SizeTooLarge) ↔ (Fits row t → ⊥)
+          pub too_large_lem : (layout_answer row words names list ≡ Err R.SizeTooLarge) ↔ (Fits row t → ⊥)
           too_large_lem = answer-large row words names list h r m o b
 
   -- The lent list keeps its length. A refusal and no layout leave it as it was.
   pub length-kept : length (layout_list row words names list) ≡ length list
   length-kept = list_length row words names list
 
-  pub refusal-writes-nothing : {r : Refusal} → layout_answer row words names list ≡ Refused r → layout_list row words names list ≡ list
+  pub refusal-writes-nothing : {r : Refusal} → layout_answer row words names list ≡ Err r → layout_list row words names list ≡ list
   refusal-writes-nothing = list-refused row words names list
 
-  pub none-writes-nothing : layout_answer row words names list ≡ Nothing → layout_list row words names list ≡ list
+  pub none-writes-nothing : layout_answer row words names list ≡ Ok None → layout_list row words names list ≡ list
   none-writes-nothing = list-nothing row words names list
 
   -- A layout writes the numbers of the nodes, one for each, and leaves what is beyond them as it was.
-  pub layout-writes : {n a : ℕ} → layout_answer row words names list ≡ Bytes n a
+  pub layout-writes : {n a : ℕ} → layout_answer row words names list ≡ Ok (Some (n, a))
       → (t : Trees) × (held words names ≡ holding t) × (take (count t) (layout_list row words names list) ≡ offsets (widths row) others 0 t)
       × (drop (count t) (layout_list row words names list) ≡ drop (count t) list)
   layout-writes = list-bytes row words names list
 
   -- Where the call tells a padded size, `size` tells one in the same row, and it is not above it.
-  pub size-too : {b a : ℕ} → layout_answer row words names list ≡ Bytes b a → (n : ℕ) × (size_answer row words names ≡ S.Bytes n) × (n ≤ b)
+  pub size-too : {b a : ℕ} → layout_answer row words names list ≡ Ok (Some (b, a)) → (n : ℕ) × (size_answer row words names ≡ Ok (Some n)) × (n ≤ b)
   size-too = answer-below row words names list
 
 -- The same of a tree.
-pub tree-size-too : (row room : ℕ) (t : Trees) → is_one t ≡ true → valid t ≡ true → {b a : ℕ} → layout_in row room t ≡ Bytes b a → (n : ℕ) × (sized_in row t ≡ S.Bytes n) × (n ≤ b)
+pub tree-size-too : (row room : ℕ) (t : Trees) → is_one t ≡ true → valid t ≡ true → {b a : ℕ} → layout_in row room t ≡ Ok (Some (b, a)) → (n : ℕ) × (sized_in row t ≡ Ok (Some n)) × (n ≤ b)
 tree-size-too = sized-below
 
 -- Two sheets whose trees have equal shown parts are answered alike in a row that there is, if each list is long enough and no bitfield is laid out.

@@ -20,11 +20,10 @@ use Rattle.kinds.proofs.TableLaws.{both}
 use Rattle.sheet.specs.Answer.{Held, held, refused, holding}
 use Rattle.sheet.proofs.GivenLaws.{held-says, answer-held}
 use Rattle.helper.specs.Answer.{max_size, sized, sized_in, size_answer}
-use Rattle.helper.specs.declared.Sized.TheVariants as S
+use Rattle.std.specs.Prelude.{Ok, Err}
 use Rattle.layout.specs.Answer.{layout_in, layout_answer}
 use Rattle.layout.specs.Layout.{Extent, is_pointer, laid_out, is_bit_field, first_bit_field, sizeless, any_sizeless, next_multiple, primitive_extent, alignments, fields_end, members_end}
 use Rattle.layout.specs.Layout.{only_extent, node_extent, extents, extent}
-use Rattle.layout.specs.declared.LaidOut.TheVariants as A
 use Rattle.layout.proofs.MultipleLaws.{at_or_after}
 use Rattle.layout_agreement.specs.Fields.{Positive}
 use Rattle.layout_agreement.proofs.AnswerLaws.{layout-laid}
@@ -136,7 +135,7 @@ module _ (w : Widths) (p : Positive w) where
 
 -- ---- The call.
 
-pub sized-below : (row room : ℕ) (t : Trees) → is_one t ≡ true → valid t ≡ true → {b a : ℕ} → layout_in row room t ≡ A.Bytes b a → (n : ℕ) × (sized_in row t ≡ S.Bytes n) × (n ≤ b)
+pub sized-below : (row room : ℕ) (t : Trees) → is_one t ≡ true → valid t ≡ true → {b a : ℕ} → layout_in row room t ≡ Ok (Some (b, a)) → (n : ℕ) × (sized_in row t ≡ Ok (Some n)) × (n ≤ b)
 unfolding sized_in sized
 sized-below row room t one g e =
     let p = in_bytes row room t e in
@@ -148,14 +147,14 @@ sized-below row room t one g e =
     let m : s.0 ≤ max_size row = omega arith in
     (s.0, rw (p.0, s.1, le-leb s.0 (max_size row) m), omega arith)
 
-pub answer-below : (row : ℕ) (words names list : List ℕ) {b a : ℕ} → layout_answer row words names list ≡ A.Bytes b a → (n : ℕ) × (size_answer row words names ≡ S.Bytes n) × (n ≤ b)
+pub answer-below : (row : ℕ) (words names list : List ℕ) {b a : ℕ} → layout_answer row words names list ≡ Ok (Some (b, a)) → (n : ℕ) × (size_answer row words names ≡ Ok (Some n)) × (n ≤ b)
 unfolding size_answer
 answer-below row words names list {b} {a} e = go (held words names) refl
   where
-    go : (x : Held) → held words names ≡ x → (n : ℕ) × (size_answer row words names ≡ S.Bytes n) × (n ≤ b)
+    go : (x : Held) → held words names ≡ x → (n : ℕ) × (size_answer row words names ≡ Ok (Some n)) × (n ≤ b)
     go (refused why) h = let d = sym (refused-answer row words names list h) ∙ e in let z : ◌≡◌ {A = ℕ} 0 1 = cc in absurd (omega arith)
     go (holding t) h =
         let k = held-says words names h in
         let g = rw k.tree at (test-holds words names k.sheet) in
         let s = sized-below row _ t g.one g.valid-tree (sym (held-answer row words names list h) ∙ e) in
-        (s.0, sym (answer-held S.Refused words names (sized_in row) h) ∙ s.1, s.2)
+        (s.0, sym (answer-held Err words names (sized_in row) h) ∙ s.1, s.2)

@@ -6,8 +6,8 @@ use Rattle.kinds.specs.Parse.{Whole, tree, refusal, from_str}
 use Rattle.kinds.specs.Refusal.{number, place}
 use Rattle.kinds.specs.Tree.{end, node, count}
 use Rattle.layout.specs.Answer.{layout_in, list_in}
-use Rattle.layout.specs.declared.LaidOut.{LaidOut}
-use Rattle.layout.specs.declared.LaidOut.TheVariants as A
+use Rattle.std.specs.Prelude.{Result, Ok, Err}
+use Rattle.kinds.specs.declared.Refusal.{Refusal}
 
 -- No layout; a padded size, an alignment and the lent list after; or a refusal by its number and place; or the text is not read.
 pub data Told : Type 0 where
@@ -29,10 +29,10 @@ no_row = refused 20 None
 abbrev pub bits : ℕ → Told
 bits i = refused 21 (Some i)
 
-abbrev pub told : LaidOut → List ℕ → Told
-told (A.Refused r) after = refused (number r) (place r)
-told A.Nothing after = nothing
-told (A.Bytes n a) after = laid n a after
+abbrev pub told : Result (Option (ℕ × ℕ)) Refusal → List ℕ → Told
+told (Err r) after = refused (number r) (place r)
+told (Ok None) after = nothing
+told (Ok (Some (n, a))) after = laid n a after
 
 -- What is told of a text in a row with this list lent, and the list after.
 unfoldable pub told_with : ℕ → List ℕ → Whole → Told

@@ -13,34 +13,31 @@ use Rattle.kinds.proofs.ListLaws.{unread, unread-end}
 use Rattle.kinds.specs.Byte.{is_digit}
 use Rattle.lines.specs.Answer.{grown, decimals, is_decimals, decimals_answer}
 use Rattle.lines.specs.Steps.{step_grown, stepped, step_words}
-use Rattle.lines.specs.declared.Decoded.TheVariants.{Items, Bad}
-use Rattle.lines.specs.declared.Grown.{Grown}
-use Rattle.lines.specs.declared.Grown.TheVariants as G
-use Rattle.lines.specs.declared.Step.TheVariants as S
+use Rattle.std.specs.Prelude.{Option, Some, None}
 
 -- ---- One digit more.
 
-pub grown-low : (n b : ℕ) → b < 48 → G.Bad ≡ grown n b
+pub grown-low : (n b : ℕ) → b < 48 → None ≡ grown n b
 unfolding grown is_digit
 grown-low n b h = sym (rw (lt-leb 48 b h))
 
-pub grown-high : (n b : ℕ) → 57 < b → G.Bad ≡ grown n b
+pub grown-high : (n b : ℕ) → 57 < b → None ≡ grown n b
 unfolding grown is_digit
 grown-high n b h = let j : 48 ≤ b = omega arith in sym (rw (le-leb 48 b j, lt-leb b 57 h))
 
-pub grown-large : (n b : ℕ) → 48 ≤ b → b ≤ 57 → 18446744073709551615 < 10 * n + (b - 48) → G.Bad ≡ grown n b
+pub grown-large : (n b : ℕ) → 48 ≤ b → b ≤ 57 → 18446744073709551615 < 10 * n + (b - 48) → None ≡ grown n b
 unfolding grown is_digit
 grown-large n b h k j = sym (rw (le-leb 48 b h, le-leb b 57 k, lt-leb (10 * n + (b - 48)) 18446744073709551615 j))
 
-pub grown-value : (n b : ℕ) → 48 ≤ b → b ≤ 57 → 10 * n + (b - 48) ≤ 18446744073709551615 → G.Value (10 * n + (b - 48)) ≡ grown n b
+pub grown-value : (n b : ℕ) → 48 ≤ b → b ≤ 57 → 10 * n + (b - 48) ≤ 18446744073709551615 → Some (10 * n + (b - 48)) ≡ grown n b
 unfolding grown is_digit
 grown-value n b h k j = sym (rw (le-leb 48 b h, le-leb b 57 k, le-leb (10 * n + (b - 48)) 18446744073709551615 j))
 
-pub step-comma : (n v b : ℕ) → b ≡ 44 → S.To (n + 1) 0 ≡ stepped n v b
+pub step-comma : (n v b : ℕ) → b ≡ 44 → Some (n + 1, 0) ≡ stepped n v b
 unfolding stepped
 step-comma n v b e = sym (rw (eq-eqb b 44 e))
 
-pub step-grown : (n v b : ℕ) (g : Grown) → (b ≡ 44 → ⊥) → g ≡ grown v b → step_grown n g ≡ stepped n v b
+pub step-grown : (n v b : ℕ) (g : Option ℕ) → (b ≡ 44 → ⊥) → g ≡ grown v b → step_grown n g ≡ stepped n v b
 unfolding stepped
 step-grown n v b g e q = sym (rw (ne_eqb b 44 e, sym q))
 
@@ -91,7 +88,7 @@ module _ {list before words : List ℕ} {i n v : ℕ} where
         same = length-set words n v ∙ r.same;
       }
 
-  on-digit : (x : ℕ) → i < length list → eqb (get_or list i 0) 44 ≡ false → grown v (get_or list i 0) ≡ G.Value x → Scan list before words i n v
+  on-digit : (x : ℕ) → i < length list → eqb (get_or list i 0) 44 ≡ false → grown v (get_or list i 0) ≡ Some x → Scan list before words i n v
       → Scan list before words (i + 1) n x
   unfolding decimals is_decimals
   on-digit x h e g r =
@@ -110,40 +107,40 @@ module _ {list before words : List ℕ} {i n v : ℕ} where
         same = r.same;
       }
 
-  pub scan-more : (m w : ℕ) (words' : List ℕ) → i < length list → Scan list before words i n v → S.To m w ≡ stepped n v (get_or list i 0) → words'
+  pub scan-more : (m w : ℕ) (words' : List ℕ) → i < length list → Scan list before words i n v → Some (m, w) ≡ stepped n v (get_or list i 0) → words'
       ≡ step_words words n v (get_or list i 0) → Scan list before words' (i + 1) m w
   unfolding stepped step_grown step_words
   scan-more m w words' h r e o = go (eqb (get_or list i 0) 44) refl
     where
-      digit : (g : Grown) → eqb (get_or list i 0) 44 ≡ false → grown v (get_or list i 0) ≡ g → S.To m w ≡ step_grown n g → words' ≡ words
+      digit : (g : Option ℕ) → eqb (get_or list i 0) 44 ≡ false → grown v (get_or list i 0) ≡ g → Some (m, w) ≡ step_grown n g → words' ≡ words
           → Scan list before words' (i + 1) m w
-      digit (G.Value x) c q k z = let p : m ≡ n = cc in let y : w ≡ x = cc in moved p y z (on-digit x h c q r)
-      digit G.Bad c q k z = let f : ◌≡◌ {A = ℕ} 0 1 = cc in absurd (omega arith)
+      digit (Some x) c q k z = let p : m ≡ n = cc in let y : w ≡ x = cc in moved p y z (on-digit x h c q r)
+      digit None c q k z = let f : ◌≡◌ {A = ℕ} 0 1 = cc in absurd (omega arith)
 
       go : (y : Bool) → eqb (get_or list i 0) 44 ≡ y → Scan list before words' (i + 1) m w
       go true c =
-          let k : S.To m w ≡ S.To (n + 1) 0 = e ∙ rw c in
+          let k : Some (m, w) ≡ Some (n + 1, 0) = e ∙ rw c in
           let p : m ≡ n + 1 = cc in
           let q : w ≡ 0 = cc in
           moved p q (o ∙ rw c) (on-comma h c r)
       go false c = digit (grown v (get_or list i 0)) c refl (e ∙ rw c) (o ∙ rw c)
 
-  pub scan-bad : (room : ℕ) (words' : List ℕ) → i < length list → Scan list before words i n v → S.Bad ≡ stepped n v (get_or list i 0) → words'
-      ≡ step_words words n v (get_or list i 0) → (Bad ≡ decimals_answer list room) × (words' ≡ sets before 0 (decimals 0 list))
+  pub scan-bad : (room : ℕ) (words' : List ℕ) → i < length list → Scan list before words i n v → None ≡ stepped n v (get_or list i 0) → words'
+      ≡ step_words words n v (get_or list i 0) → (None ≡ decimals_answer list room) × (words' ≡ sets before 0 (decimals 0 list))
   unfolding stepped step_grown step_words decimals is_decimals decimals_answer
   scan-bad room words' h r e o = go (eqb (get_or list i 0) 44) refl
     where
-      digit : (g : Grown) → eqb (get_or list i 0) 44 ≡ false → grown v (get_or list i 0) ≡ g → S.Bad ≡ step_grown n g → words' ≡ words
-          → (Bad ≡ decimals_answer list room) × (words' ≡ sets before 0 (decimals 0 list))
-      digit (G.Value x) c q k z = let f : ◌≡◌ {A = ℕ} 0 1 = cc in absurd (omega arith)
-      digit G.Bad c q k z =
+      digit : (g : Option ℕ) → eqb (get_or list i 0) 44 ≡ false → grown v (get_or list i 0) ≡ g → None ≡ step_grown n g → words' ≡ words
+          → (None ≡ decimals_answer list room) × (words' ≡ sets before 0 (decimals 0 list))
+      digit (Some x) c q k z = let f : ◌≡◌ {A = ℕ} 0 1 = cc in absurd (omega arith)
+      digit None c q k z =
           let u = unread list i h in
           let d : decimals v (drop i list) ≡ [] = ap (decimals v) u ∙ rw (c, q) in
           let g : is_decimals 0 list ≡ false = sym r.good ∙ ap (is_decimals v) u ∙ rw (c, q) in
           (sym (rw g), z ∙ sym (ap (sets words n) d) ∙ r.fills)
 
-      go : (y : Bool) → eqb (get_or list i 0) 44 ≡ y → (Bad ≡ decimals_answer list room) × (words' ≡ sets before 0 (decimals 0 list))
-      go true c = let k : S.Bad ≡ S.To (n + 1) 0 = e ∙ rw c in let f : ◌≡◌ {A = ℕ} 0 1 = cc in absurd (omega arith)
+      go : (y : Bool) → eqb (get_or list i 0) 44 ≡ y → (None ≡ decimals_answer list room) × (words' ≡ sets before 0 (decimals 0 list))
+      go true c = let k : None ≡ Some (n + 1, 0) = e ∙ rw c in let f : ◌≡◌ {A = ℕ} 0 1 = cc in absurd (omega arith)
       go false c = digit (grown v (get_or list i 0)) c refl (e ∙ rw c) (o ∙ rw c)
 
   last : length list ≤ i → Scan list before words i n v → (is_decimals 0 list ≡ true) ×
@@ -157,7 +154,7 @@ module _ {list before words : List ℕ} {i n v : ℕ} where
       (sym r.good ∙ ap (is_decimals v) u, (omega arith, sym (ap (sets words n) d) ∙ r.fills))
 
   pub scan-short : (words' : List ℕ) → length list ≤ i → Scan list before words i n v → words' ≡ set words n v → length words' ≤ n
-      → (Bad ≡ decimals_answer list (length before)) × (words' ≡ sets before 0 (decimals 0 list))
+      → (None ≡ decimals_answer list (length before)) × (words' ≡ sets before 0 (decimals 0 list))
   unfolding decimals_answer
   scan-short words' h r o k =
       let w = last h r in
@@ -165,9 +162,9 @@ module _ {list before words : List ℕ} {i n v : ℕ} where
       (sym (rw (w.0, lt-leb (length (decimals 0 list)) (length before) j)), o ∙ w.1.1)
 
   pub scan-items : (words' : List ℕ) → length list ≤ i → Scan list before words i n v → words' ≡ set words n v → n < length words'
-      → (Items (n + 1) ≡ decimals_answer list (length before)) × (words' ≡ sets before 0 (decimals 0 list))
+      → (Some (n + 1) ≡ decimals_answer list (length before)) × (words' ≡ sets before 0 (decimals 0 list))
   unfolding decimals_answer
   scan-items words' h r o k =
       let w = last h r in
       let j : length (decimals 0 list) ≤ length before = let s = r.same in let c = w.1.0 in let l = ap length o ∙ length-set words n v in omega arith in
-      (sym (rw (w.0, le-leb (length (decimals 0 list)) (length before) j) (ap Items w.1.0)), o ∙ w.1.1)
+      (sym (rw (w.0, le-leb (length (decimals 0 list)) (length before) j) (ap Some w.1.0)), o ∙ w.1.1)

@@ -12,7 +12,7 @@ use borrow.Author.Tests.{le-leb, lt-leb, lt-ltb, le-ltb}
 use Rattle.kinds.proofs.ListLaws.{unread, unread-end}
 use Rattle.kinds.specs.Byte.{is_digit}
 use Rattle.lines.specs.Answer.{hex_digit, is_pair, hex_bytes, is_hex, hex_answer, hex_glyph, hex_pair}
-use Rattle.lines.specs.declared.Decoded.TheVariants.{Items, Bad}
+use Rattle.std.specs.Prelude.{Some, None}
 
 pub digit_low : (b : ℕ) → b < 48 → hex_digit b ≡ 16
 unfolding hex_digit is_digit
@@ -126,7 +126,7 @@ module _ {hex before out : List ℕ} {i n : ℕ} where
         same = m;
       }
 
-  pub answer-bad : (room : ℕ) → Read hex before out i n → Stopped hex i → (Bad ≡ hex_answer hex room) × (out ≡ sets before 0 (hex_bytes hex))
+  pub answer-bad : (room : ℕ) → Read hex before out i n → Stopped hex i → (None ≡ hex_answer hex room) × (out ≡ sets before 0 (hex_bytes hex))
   unfolding hex_answer
   answer-bad room r s = (sym (rw (sym r.good ∙ s.bad)), sym (ap (sets out n) s.none) ∙ r.fills)
 
@@ -137,17 +137,17 @@ module _ {hex before out : List ℕ} {i n : ℕ} where
       let c = r.count in
       (sym r.good ∙ e.1, (omega arith, sym (ap (sets out n) e.0) ∙ r.fills))
 
-  pub answer-short : length hex ≤ i → Read hex before out i n → length out < n → (Bad ≡ hex_answer hex (length before)) × (out ≡ sets before 0 (hex_bytes hex))
+  pub answer-short : length hex ≤ i → Read hex before out i n → length out < n → (None ≡ hex_answer hex (length before)) × (out ≡ sets before 0 (hex_bytes hex))
   unfolding hex_answer
   answer-short h r k =
       let w = whole h r in
       let j : length before < length (hex_bytes hex) = let s = r.same in let c = w.1.0 in omega arith in
       (sym (rw (w.0, lt-leb (length (hex_bytes hex)) (length before) j)), w.1.1)
 
-  pub answer-items : length hex ≤ i → Read hex before out i n → n ≤ length out → (Items n ≡ hex_answer hex (length before)) ×
+  pub answer-items : length hex ≤ i → Read hex before out i n → n ≤ length out → (Some n ≡ hex_answer hex (length before)) ×
       (out ≡ sets before 0 (hex_bytes hex))
   unfolding hex_answer
   answer-items h r k =
       let w = whole h r in
       let j : length (hex_bytes hex) ≤ length before = let s = r.same in let c = w.1.0 in omega arith in
-      (sym (rw (w.0, le-leb (length (hex_bytes hex)) (length before) j) (ap Items w.1.0)), w.1.1)
+      (sym (rw (w.0, le-leb (length (hex_bytes hex)) (length before) j) (ap Some w.1.0)), w.1.1)

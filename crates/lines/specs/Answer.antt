@@ -7,10 +7,7 @@ use Rattle.kinds.specs.Parse.{max_u64}
 use Rattle.kinds.specs.Print.{decimal}
 use Rattle.kinds.specs.Refusal.{number, values}
 use Rattle.kinds.specs.declared.Refusal.{Refusal}
-use Rattle.lines.specs.declared.Decoded.{Decoded}
-use Rattle.lines.specs.declared.Decoded.TheVariants.{Items, Bad}
-use Rattle.lines.specs.declared.Grown.{Grown}
-use Rattle.lines.specs.declared.Grown.TheVariants as G
+use Rattle.std.specs.Prelude.{Option, Some, None}
 
 -- ---- The fields of a line: parts of the lent text itself, and no copies.
 
@@ -46,8 +43,8 @@ is_hex (a ∷ []) = false
 is_hex (a ∷ b ∷ s) = is_pair a b && is_hex s
 
 -- What reading hex into a list of `room` bytes answers.
-unfoldable pub hex_answer : List ℕ → ℕ → Decoded
-hex_answer s room = cond (is_hex s && leb (length (hex_bytes s)) room) (Items (length (hex_bytes s))) Bad
+unfoldable pub hex_answer : List ℕ → ℕ → Option ℕ
+hex_answer s room = cond (is_hex s && leb (length (hex_bytes s)) room) (Some (length (hex_bytes s))) None
 
 unfoldable pub hex_glyph : ℕ → ℕ
 hex_glyph d = cond (ltb d 10) (byte "0" + d) (87 + d)
@@ -59,22 +56,22 @@ hex_pair b = hex_glyph (b / 16) ∷ hex_glyph (b % 16) ∷ []
 -- ---- Numbers in decimal with commas between.
 
 -- `n` with the digit `b` after it.
-unfoldable pub grown : ℕ → ℕ → Grown
-grown n b = cond (is_digit b && leb (10 * n + (b - byte "0")) max_u64) (G.Value (10 * n + (b - byte "0"))) G.Bad
+unfoldable pub grown : ℕ → ℕ → Option ℕ
+grown n b = cond (is_digit b && leb (10 * n + (b - byte "0")) max_u64) (Some (10 * n + (b - byte "0"))) None
 
 -- The numbers, the first of which goes on from `n`, up to the first bad byte.
 unfoldable pub decimals : ℕ → List ℕ → List ℕ
 decimals n [] = n ∷ []
-decimals n (b ∷ s) = cond (eqb b (byte ",")) (n ∷ decimals 0 s) (elim (grown n b) [ G.Value v ↦ decimals v s | G.Bad ↦ [] ])
+decimals n (b ∷ s) = cond (eqb b (byte ",")) (n ∷ decimals 0 s) (elim (grown n b) [ Some v ↦ decimals v s | None ↦ [] ])
 
 -- No byte is bad.
 unfoldable pub is_decimals : ℕ → List ℕ → Bool
 is_decimals n [] = true
-is_decimals n (b ∷ s) = cond (eqb b (byte ",")) (is_decimals 0 s) (elim (grown n b) [ G.Value v ↦ is_decimals v s | G.Bad ↦ false ])
+is_decimals n (b ∷ s) = cond (eqb b (byte ",")) (is_decimals 0 s) (elim (grown n b) [ Some v ↦ is_decimals v s | None ↦ false ])
 
 -- What reading numbers into a list of `room` words answers.
-unfoldable pub decimals_answer : List ℕ → ℕ → Decoded
-decimals_answer s room = cond (is_decimals 0 s && leb (length (decimals 0 s)) room) (Items (length (decimals 0 s))) Bad
+unfoldable pub decimals_answer : List ℕ → ℕ → Option ℕ
+decimals_answer s room = cond (is_decimals 0 s && leb (length (decimals 0 s)) room) (Some (length (decimals 0 s))) None
 
 -- ---- Text put into a lent output, as much of it as there is room for.
 

@@ -14,27 +14,6 @@ use kinds::Refusal;
 use put::put_byte;
 pub use put::{put_bytes, put_marked, put_number};
 
-// How many items were read, or that the text is bad or the list too short.
-#[derive(Clone, Copy)]
-pub enum Decoded {
-    Items(usize),
-    Bad,
-}
-
-// A number with one digit more, or that the byte is no digit or the number too large.
-#[derive(Clone, Copy)]
-enum Grown {
-    Value(u64),
-    Bad,
-}
-
-// The place of the number that is read and what is read of it, or that a byte is bad.
-#[derive(Clone, Copy)]
-enum Step {
-    To(usize, u64),
-    Bad,
-}
-
 fn wide(b: u8) -> u64
     ensures { result ≡ b }
 {
@@ -134,7 +113,7 @@ fn put_word(words: &mut [u64], at: usize, n: u64)
 }
 
 // Reads bytes from two hex digits each.
-pub fn decode_hex(hex: &[u8], out: &mut [u8]) -> Decoded
+pub fn decode_hex(hex: &[u8], out: &mut [u8]) -> Option<usize>
     ensures answers { result ≡ hex_answer hex.now (length out.old) }
     ensures fills { out.new ≡ sets out.old 0 (hex_bytes hex.now) }
 {
@@ -142,63 +121,63 @@ pub fn decode_hex(hex: &[u8], out: &mut [u8]) -> Decoded
     let mut n = 0;
     while i < hex.len() {
         if hex.len() - i == 1 {
-            return Decoded::Bad;
+            return None;
         }
         let high = digit_of(hex[i]);
         if 16 <= high {
-            return Decoded::Bad;
+            return None;
         }
         let low = digit_of(hex[i + 1]);
         if 16 <= low {
-            return Decoded::Bad;
+            return None;
         }
         put_byte(out, n, 16 * high + low);
         n += 1;
         i += 2;
     }
     if out.len() < n {
-        return Decoded::Bad;
+        return None;
     }
-    Decoded::Items(n)
+    Some(n)
 }
 
-fn grow(n: u64, b: u8) -> Grown
+fn grow(n: u64, b: u8) -> Option<u64>
     ensures { result ≡ grown n b }
 {
     if b < b'0' {
-        return Grown::Bad;
+        return None;
     }
     if b'9' < b {
-        return Grown::Bad;
+        return None;
     }
     let d = wide(b - b'0');
     if 1844674407370955161 < n {
-        return Grown::Bad;
+        return None;
     }
     if u64::MAX - 10 * n < d {
-        return Grown::Bad;
+        return None;
     }
-    Grown::Value(10 * n + d)
+    Some(10 * n + d)
 }
 
 // One byte more of numbers with commas between: a comma ends the number at `n`.
-fn advance(words: &mut [u64], n: usize, value: u64, b: u8) -> Step
+fn advance(words: &mut [u64], n: usize, value: u64, b: u8) -> Option<(usize, u64)>
     requires { n < max_u64 }
     ensures answers { result ≡ stepped n value b }
     ensures fills { words.new ≡ step_words words.old n value b }
 {
     if b == b',' {
         put_word(words, n, value);
-        return Step::To(n + 1, 0);
+        return Some((n + 1, 0));
     }
     match grow(value, b) {
-        Grown::Value(v) => Step::To(n, v),
-        Grown::Bad => Step::Bad,
+        Some(v) => Some((n, v)),
+        None => None,
     }
 }
 
 // Reads numbers in decimal with commas between. An empty number counts as 0.
-pub fn decode_words(list: &[u8], words: &mut [u64]) -> Decoded
+pub fn decode_words(list: &[u8], words: &mut [u64]) -> Option<usize>
     ensures answers { result ≡ decimals_answer list.now (length words.old) }
     ensures fills { words.new ≡ sets words.old 0 (decimals 0 list.now) }
 {
@@ -206,8 +185,8 @@ pub fn decode_words(list: &[u8], words: &mut [u64]) -> Decoded
     let mut n = 0;
     let mut value = 0;
     while i < list.len() {
-        let Step::To(m, v) = advance(words, n, value, list[i]) else {
-            return Decoded::Bad;
+        let Some((m, v)) = advance(words, n, value, list[i]) else {
+            return None;
         };
         n = m;
         value = v;
@@ -215,9 +194,9 @@ pub fn decode_words(list: &[u8], words: &mut [u64]) -> Decoded
     }
     put_word(words, n, value);
     if words.len() <= n {
-        return Decoded::Bad;
+        return None;
     }
-    Decoded::Items(n + 1)
+    Some(n + 1)
 }
 
 fn hex_glyph(d: u8) -> u8

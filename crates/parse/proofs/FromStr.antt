@@ -24,8 +24,7 @@ use Rattle.parse.specs.Answer.{used, turned_away, filled, sheet_words, sheet_nam
 use Rattle.parse.specs.Answer.{start_tree, start_reading, start_rest, from_start_rest, from_start_answer, from_start_words, from_start_names}
 use Rattle.parse.specs.Out.{cleared, none_sheet}
 use Rattle.parse.specs.Strictly.{encoded_by, whole_by, whole_answer, whole_words, whole_names}
-use Rattle.parse.specs.declared.Reading.{Reading}
-use Rattle.parse.specs.declared.Reading.TheVariants.{Tree, Refused}
+use Rattle.std.specs.Prelude.{Result, Ok, Err}
 use Rattle.parse.proofs.StrictlyLaws.{ordinary-encoded, ordinary-whole, strict-whole}
 use Rattle.parse.proofs.Entry.{emptied, beyond, mid-rest, none-stored}
 use Rattle.parse.proofs.Cycle.{none-names}
@@ -56,11 +55,11 @@ place text to h = omega (arith, length-drop to text)
 
 -- ---- Whole-text reading.
 
-abbrev pub Whole : (strict : Bool) (text w ns : List ℕ) (r : Reading) (w' ns' : List ℕ) → Type 0
+abbrev pub Whole : (strict : Bool) (text w ns : List ℕ) (r : Result (Unit {0}) Refusal) (w' ns' : List ℕ) → Type 0
 Whole strict text w ns r w' ns' = (r ≡ whole_answer strict text w ns) × ((w' ≡ whole_words strict text w ns) × (ns' ≡ whole_names strict text w ns))
 
 pub whole-away : (strict : Bool) (text w ns w' ns' : List ℕ) (why : Refusal) → turned_away text w ns ≡ Some why → w' ≡ w → ns' ≡ ns
-    → Whole strict text w ns (Refused why) w' ns'
+    → Whole strict text w ns (Err why) w' ns'
 unfolding answer_or
 whole-away strict text w ns w' ns' why e x y = (
   sym (ap (λ (o : Option Refusal). answer_or o (whole_reading (whole_by strict text))) e),
@@ -88,7 +87,7 @@ from-str-is : (strict : Bool) (text : List ℕ) (q : Encoded) → encoded_by str
 from-str-is strict text q e = sym (whole_is strict text) ∙ ap (whole (length text)) e
 
 pub whole-refused : (strict : Bool) (text w ns : List ℕ) (a : Lists) (why : ErrorKind) (to : ℕ) → NoTree strict text (lists w ns) a why to
-    → Whole strict text w ns (Refused (Parse why to)) a.words a.names
+    → Whole strict text w ns (Err (Parse why to)) a.words a.names
 unfolding whole whole_reading whole_tree sheet_words sheet_names
 whole-refused strict text w ns a why to r =
     whole-read strict text w ns a.words a.names (P.refusal why to) r.away
@@ -97,7 +96,7 @@ whole-refused strict text w ns a why to r =
 
 -- Bytes remain: the lists are cleared again.
 pub whole-rest : (strict : Bool) (text w ns : List ℕ) (a : Lists) (to : ℕ) (w' ns' : List ℕ) → TreeAt strict text (lists w ns) a to → to < length text
-    → w' ≡ cleared (used (length text)) a.words → ns' ≡ cleared (length text) a.names → Whole strict text w ns (Refused (Parse NotAllConsumed to)) w' ns'
+    → w' ≡ cleared (used (length text)) a.words → ns' ≡ cleared (length text) a.names → Whole strict text w ns (Err (Parse NotAllConsumed to)) w' ns'
 unfolding whole whole_reading whole_tree sheet_words sheet_names
 whole-rest strict text w ns a to w' ns' r h x y =
     let t : Trees = node r.label r.children end in
@@ -110,7 +109,7 @@ whole-rest strict text w ns a to w' ns' r h x y =
     (y ∙ emptied (length text) ns a.names (ap (drop (length text)) r.names-are ∙ beyond (length text) ns (names_of t) r.names-fit))
 
 pub whole-tree : (strict : Bool) (text w ns : List ℕ) (a : Lists) (to : ℕ) → TreeAt strict text (lists w ns) a to → length text ≤ to
-    → Whole strict text w ns Tree a.words a.names
+    → Whole strict text w ns (Ok tt) a.words a.names
 unfolding whole whole_reading whole_tree sheet_words sheet_names
 whole-tree strict text w ns a to r h =
     whole-read strict text w ns a.words a.names (P.tree r.label r.children) r.away
@@ -142,7 +141,7 @@ Start text w ns rest answer w' ns' =
     (rest ≡ from_start_rest text w ns) × ((answer ≡ answer_words (from_start_answer text w ns)) ×
     ((w' ≡ from_start_words text w ns) × (ns' ≡ from_start_names text w ns)))
 
-pub start-away : (text w ns answer w' ns' : List ℕ) (why : Refusal) → turned_away text w ns ≡ Some why → w' ≡ w → ns' ≡ ns → answer ≡ answer_words (Refused why)
+pub start-away : (text w ns answer w' ns' : List ℕ) (why : Refusal) → turned_away text w ns ≡ Some why → w' ≡ w → ns' ≡ ns → answer ≡ answer_words (Err why)
     → Start text w ns text answer w' ns'
 unfolding from_start_rest from_start_answer from_start_words from_start_names answer_or unless_away
 start-away text w ns answer w' ns' why e x y z = (
@@ -200,7 +199,7 @@ start-digit text w ns a why to w' r d x =
     (r.names-are ∙ sym (ap (λ (v : List ℕ). filled (length text) v ns) none-names)))
 
 pub start-refused : (text w ns answer : List ℕ) (a : Lists) (why : ErrorKind) (to : ℕ) → NoTree false text (lists w ns) a why to → unknown_digit why ≡ false
-    → answer ≡ answer_words (Refused (Parse why to))
+    → answer ≡ answer_words (Err (Parse why to))
     → Start text w ns text answer a.words a.names
 unfolding from_start start_reading start_tree start_rest sheet_words sheet_names
 start-refused text w ns answer a why to r d z =
@@ -209,11 +208,11 @@ start-refused text w ns answer a why to r d z =
     r.words_are r.names-are
 
 -- A refusal leaves the rest equal to the text.
-pub refused-rest : (text w ns : List ℕ) (why : Refusal) → from_start_answer text w ns ≡ Refused why → from_start_rest text w ns ≡ text
+pub refused-rest : (text w ns : List ℕ) (why : Refusal) → from_start_answer text w ns ≡ Err why → from_start_rest text w ns ≡ text
 unfolding from_start_answer from_start_rest answer_or unless_away start_reading start_rest
 refused-rest text w ns why = go (turned_away text w ns) (from_start_of_str text)
   where
-    go : (o : Option Refusal) (q : P.FromStart) → answer_or o (start_reading q) ≡ Refused why → unless_away o text (start_rest text q) ≡ text
+    go : (o : Option Refusal) (q : P.FromStart) → answer_or o (start_reading q) ≡ Err why → unless_away o text (start_rest text q) ≡ text
     go (Some r) q e = refl
     go None (P.tree_then l cs t) e = cc
     go None (P.FromStart.refusal x at) e = refl

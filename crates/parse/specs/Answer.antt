@@ -10,8 +10,7 @@ use Rattle.kinds.specs.Tree.{Trees, end, node}
 use Rattle.kinds.specs.declared.ContainerKind.{ContainerKind}
 use Rattle.kinds.specs.declared.Refusal.{Refusal}
 use Rattle.kinds.specs.declared.Refusal.TheVariants.{TextTooLong, ListTooShort, Parse}
-use Rattle.parse.specs.declared.Reading.{Reading}
-use Rattle.parse.specs.declared.Reading.TheVariants.{Tree, Refused}
+use Rattle.std.specs.Prelude.{Result, Ok, Err}
 
 -- ---- Refusals 1 and 2, before reading.
 
@@ -63,16 +62,16 @@ unfoldable pub whole_tree : Whole → Option Trees
 whole_tree (tree l cs) = Some (node l cs end)
 whole_tree (refusal e place) = None
 
-unfoldable pub whole_reading : Whole → Reading
-whole_reading (tree l cs) = Tree
-whole_reading (refusal e place) = Refused (Parse e place)
+unfoldable pub whole_reading : Whole → Result (Unit {0}) Refusal
+whole_reading (tree l cs) = Ok tt
+whole_reading (refusal e place) = Err (Parse e place)
 
-unfoldable pub answer_or : Option Refusal → Reading → Reading
-answer_or (Some r) a = Refused r
+unfoldable pub answer_or : Option Refusal → Result (Unit {0}) Refusal → Result (Unit {0}) Refusal
+answer_or (Some r) a = Err r
 answer_or None a = a
 
 -- The answer of `from_str`.
-unfoldable pub from_str_answer : List ℕ → List ℕ → List ℕ → Reading
+unfoldable pub from_str_answer : List ℕ → List ℕ → List ℕ → Result (Unit {0}) Refusal
 from_str_answer text words names = answer_or (turned_away text words names) (whole_reading (from_str text))
 
 -- The words after `from_str`.
@@ -86,7 +85,7 @@ from_str_names text words names = names_after text words names (whole_tree (from
 -- ---- Strict whole-text reading (02, N3).
 
 -- The answer of `from_str_strict`.
-unfoldable pub from_str_strict_answer : List ℕ → List ℕ → List ℕ → Reading
+unfoldable pub from_str_strict_answer : List ℕ → List ℕ → List ℕ → Result (Unit {0}) Refusal
 from_str_strict_answer text words names = answer_or (turned_away text words names) (whole_reading (from_str_strict text))
 
 -- The words after `from_str_strict`.
@@ -103,12 +102,12 @@ unfoldable pub start_tree : FromStart → Option Trees
 start_tree (tree_then l cs t) = Some (node l cs end)
 start_tree (refusal e place) = None
 
-unfoldable pub start_reading : FromStart → Reading
-start_reading (tree_then l cs t) = Tree
-start_reading (refusal e place) = Refused (Parse e place)
+unfoldable pub start_reading : FromStart → Result (Unit {0}) Refusal
+start_reading (tree_then l cs t) = Ok tt
+start_reading (refusal e place) = Err (Parse e place)
 
 -- The answer of `from_start_of_str`.
-unfoldable pub from_start_answer : List ℕ → List ℕ → List ℕ → Reading
+unfoldable pub from_start_answer : List ℕ → List ℕ → List ℕ → Result (Unit {0}) Refusal
 from_start_answer text words names = answer_or (turned_away text words names) (start_reading (from_start_of_str text))
 
 -- The words after `from_start_of_str`.
@@ -141,6 +140,6 @@ abbrev pub kind_word : ContainerKind → ℕ
 kind_word k = R.container_word (Some k)
 
 -- 0 for a tree, else the refusal's number; its place; its byte; the kind word of its container; 0 for what it does not carry.
-abbrev pub answer_words : Reading → List ℕ
-answer_words Tree = 0 ∷ 0 ∷ 0 ∷ 0 ∷ []
-answer_words (Refused r) = R.number r ∷ R.values r
+abbrev pub answer_words : Result (Unit {0}) Refusal → List ℕ
+answer_words (Ok tt) = 0 ∷ 0 ∷ 0 ∷ 0 ∷ []
+answer_words (Err r) = R.number r ∷ R.values r

@@ -12,7 +12,8 @@ use Rattle.codes.specs.declared.BitsDigits.{BitsDigits}
 use Rattle.codes.specs.declared.Token.{Token}
 use Rattle.codes.specs.declared.Token.TheVariants as T
 use Rattle.parse.specs.Answer.{turned_away, answer_or, words_after, names_after, whole_reading, whole_tree}
-use Rattle.parse.specs.declared.Reading.{Reading}
+use Rattle.std.specs.Prelude.{Result}
+use Rattle.kinds.specs.declared.Refusal.{Refusal}
 
 unfoldable pub or_surplus : Option (List ℕ) → Parsed → Parsed
 or_surplus (Some t) q = refused SurplusZero t
@@ -78,7 +79,7 @@ abbrev pub whole_by : Bool → List ℕ → Whole
 whole_by false s = from_str s
 whole_by true s = from_str_strict s
 
-abbrev pub whole_answer : Bool → List ℕ → List ℕ → List ℕ → Reading
+abbrev pub whole_answer : Bool → List ℕ → List ℕ → List ℕ → Result (Unit {0}) Refusal
 whole_answer strict text words names = answer_or (turned_away text words names) (whole_reading (whole_by strict text))
 
 abbrev pub whole_words : Bool → List ℕ → List ℕ → List ℕ → List ℕ

@@ -56,13 +56,6 @@ enum Encoded {
     Refused(ErrorKind, usize),
 }
 
-// What whole-text reading answers.
-#[derive(Clone, Copy)]
-pub enum Reading {
-    Tree,
-    Refused(Refusal),
-}
-
 // The place after a container's closer, and the nodes and name bytes written so far.
 #[derive(Clone, Copy)]
 enum Items {
@@ -673,28 +666,28 @@ fn parse_encoding_or_none(text: &[u8], strict: bool, words: &mut [u64], names: &
 }
 
 // Whole-text reading, strict or not.
-fn read_whole(text: &[u8], strict: bool, words: &mut [u64], names: &mut [u8]) -> Reading
+fn read_whole(text: &[u8], strict: bool, words: &mut [u64], names: &mut [u8]) -> Result<(), Refusal>
     ensures answers { result ≡ whole_answer strict text.now words.old names.old }
     ensures fills { words.new ≡ whole_words strict text.now words.old names.old }
     ensures names { names.new ≡ whole_names strict text.now words.old names.old }
 {
     let n = text.len();
     match parse_encoding_or_none(text, strict, words, names) {
-        Encoded::Away(why) => Reading::Refused(why),
-        Encoded::Refused(why, to) => Reading::Refused(Refusal::Parse(why, to)),
+        Encoded::Away(why) => Err(why),
+        Encoded::Refused(why, to) => Err(Refusal::Parse(why, to)),
         Encoded::Tree(to) => {
             if to < n {
                 clear_sheet(n, words, names);
-                Reading::Refused(Refusal::Parse(ErrorKind::NotAllConsumed, to))
+                Err(Refusal::Parse(ErrorKind::NotAllConsumed, to))
             } else {
-                Reading::Tree
+                Ok(())
             }
         }
     }
 }
 
 // Whole-text reading: `EncodingBox::from_str`.
-pub fn from_str(text: &[u8], words: &mut [u64], names: &mut [u8]) -> Reading
+pub fn from_str(text: &[u8], words: &mut [u64], names: &mut [u8]) -> Result<(), Refusal>
     ensures answers { result ≡ from_str_answer text.now words.old names.old }
     ensures fills { words.new ≡ from_str_words text.now words.old names.old }
     ensures names { names.new ≡ from_str_names text.now words.old names.old }
@@ -703,7 +696,7 @@ pub fn from_str(text: &[u8], words: &mut [u64], names: &mut [u8]) -> Reading
 }
 
 // Strict whole-text reading: a number with a surplus zero is refused where it is met.
-pub fn from_str_strict(text: &[u8], words: &mut [u64], names: &mut [u8]) -> Reading
+pub fn from_str_strict(text: &[u8], words: &mut [u64], names: &mut [u8]) -> Result<(), Refusal>
     ensures answers { result ≡ from_str_strict_answer text.now words.old names.old }
     ensures fills { words.new ≡ from_str_strict_words text.now words.old names.old }
     ensures names { names.new ≡ from_str_strict_names text.now words.old names.old }
@@ -713,7 +706,7 @@ pub fn from_str_strict(text: &[u8], words: &mut [u64], names: &mut [u8]) -> Read
 
 // The number of a refusal, its place, its byte and the kind word of its container; 0 for what it does not carry.
 pub fn refusal_words(refusal: Refusal) -> [u64; 4]
-    ensures { result ≡ answer_words (Reading.Refused refusal) }
+    ensures { result ≡ answer_words (Err refusal) }
 {
     refusal.words()
 }

@@ -14,14 +14,14 @@ use Rattle.kinds.proofs.ParseLaws.{strip-shorter}
 use borrow.Author.Tests.{lt-ltb, le-ltb}
 use Rattle.parser.specs.Place.{end_of, remaining_at, peek_at, advance_at, strip_at}
 use Rattle.parser.specs.Answer.{new_parser, remaining, strip_qualifiers, skip_qualifiers}
-use Rattle.parser.specs.declared.Peek.TheVariants.{Byte, End}
+use Rattle.std.specs.Prelude.{Some, None}
 use Rattle.parser.proofs.TextLaws.{strip-more}
 
-pub peek-byte : (s : List ℕ) (at : ℕ) → at < length s → peek_at s at ≡ Byte (get_or s at 0)
+pub peek-byte : (s : List ℕ) (at : ℕ) → at < length s → peek_at s at ≡ Some (get_or s at 0)
 unfolding peek_at
 peek-byte s at h = rw (lt-ltb at (length s) h, peek_at) refl
 
-pub peek-end : (s : List ℕ) (at : ℕ) → length s ≤ at → peek_at s at ≡ End
+pub peek-end : (s : List ℕ) (at : ℕ) → length s ≤ at → peek_at s at ≡ None
 unfolding peek_at
 peek-end s at h = rw (le-ltb at (length s) h, peek_at) refl
 

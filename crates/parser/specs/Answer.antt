@@ -4,7 +4,7 @@ use Rattle.std.specs.Borrow.{Bor}
 use Rattle.kinds.specs.Parse.{strip_leading_qualifiers}
 use Rattle.parser.specs.Place.{end_of, remaining_at, peek_at, is_empty_at, advance_at, strip_at}
 use Rattle.parser.specs.declared.Parser.{Parser}
-use Rattle.parser.specs.declared.Peek.{Peek}
+use Rattle.std.specs.Prelude.{Option}
 
 abbrev pub new_parser : Bor (List ℕ) → Parser
 new_parser s = record { «data» = s; split_point = 0 }
@@ -12,7 +12,7 @@ new_parser s = record { «data» = s; split_point = 0 }
 abbrev pub remaining : Parser → (ℕ × ℕ) × List ℕ
 remaining p = remaining_at p.«data» p.split_point
 
-abbrev pub peek : Parser → Peek
+abbrev pub peek : Parser → Option ℕ
 peek p = peek_at p.«data».now p.split_point
 
 abbrev pub is_empty : Parser → Bool

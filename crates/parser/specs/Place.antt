@@ -2,8 +2,7 @@
 use Rattle.std.specs.Prelude.{ℕ, ◌+◌, ◌-◌, Bool, true, false, List, leb, ltb, length, drop, get_or}
 use Rattle.std.specs.Borrow.{Bor}
 use Rattle.kinds.specs.Parse.{strip_leading_qualifiers}
-use Rattle.parser.specs.declared.Peek.{Peek}
-use Rattle.parser.specs.declared.Peek.TheVariants.{Byte, End}
+use Rattle.std.specs.Prelude.{Option, Some, None}
 
 -- A lent text as its lender knows it: where it begins, and its bytes.
 abbrev pub lent : Bor (List ℕ) → (ℕ × ℕ) × List ℕ
@@ -21,8 +20,8 @@ place_of text rest = length text - length rest
 unfoldable pub remaining_at : Bor (List ℕ) → ℕ → (ℕ × ℕ) × List ℕ
 remaining_at s at = end_of s (drop at s.now)
 
-unfoldable pub peek_at : List ℕ → ℕ → Peek
-peek_at s at = elim (ltb at (length s)) [ true ↦ Byte (get_or s at 0) | false ↦ End ]
+unfoldable pub peek_at : List ℕ → ℕ → Option ℕ
+peek_at s at = elim (ltb at (length s)) [ true ↦ Some (get_or s at 0) | false ↦ None ]
 
 unfoldable pub is_empty_at : List ℕ → ℕ → Bool
 is_empty_at s at = leb (length s) at

@@ -14,20 +14,13 @@ pub struct Parser<'a> {
     split_point: usize,
 }
 
-// The next byte, or that the text ended.
-#[derive(Clone, Copy)]
-pub enum Peek {
-    Byte(u8),
-    End,
-}
-
-fn peek_at(text: &[u8], at: usize) -> Peek
+fn peek_at(text: &[u8], at: usize) -> Option<u8>
     ensures { result ≡ peek_at text.now at }
 {
     if at < text.len() {
-        Peek::Byte(text[at])
+        Some(text[at])
     } else {
-        Peek::End
+        None
     }
 }
 
@@ -107,7 +100,7 @@ impl<'a> Parser<'a> {
         remaining_at(self.data, self.split_point)
     }
 
-    pub fn peek(self) -> Peek
+    pub fn peek(self) -> Option<u8>
         ensures { result ≡ peek self.entry }
     {
         peek_at(self.data, self.split_point)

@@ -43,18 +43,19 @@ use Rattle.reason.specs.declared.find.Aspect.{Aspect}
 use Rattle.reason.specs.declared.find.Aspect.TheVariants as A
 use Rattle.reason.specs.declared.find.Found.{Found}
 use Rattle.reason.specs.declared.find.Found.TheVariants as F
-use Rattle.reason.specs.declared.Reasoned.{Reasoned}
-use Rattle.reason.specs.declared.Reasoned.TheVariants.{Refused, Yes, Bytes}
+use Rattle.std.specs.Prelude.{Ok, Err}
+use Rattle.sheet.specs.declared.FoundBoth.{FoundBoth}
+use Rattle.sheet.specs.declared.FoundBoth.TheVariants as FoundBoth
 use Rattle.reason.proofs.ValueLaws.{short-name, reason-length}
 
 -- ---- The answers, by the first difference; `n` is the length that the code has counted.
 
 module _ {d : Option Reason} (e : d ≡ None) where
-  pub yes-measured : Yes ≡ measured d
+  pub yes-measured : (Ok None) ≡ measured d
   unfolding measured
   yes-measured = sym (ap measured e)
 
-  pub yes-fitted : (room : ℕ) → Yes ≡ fitted_reason room d
+  pub yes-fitted : (room : ℕ) → Ok None ≡ fitted_reason room d
   unfolding fitted_reason
   yes-fitted room = sym (ap (fitted_reason room) e)
 
@@ -63,12 +64,12 @@ module _ {d : Option Reason} (e : d ≡ None) where
   yes-placed out = sym (ap (placed_reason out) e)
 
 module _ {d : Option Reason} (r : Reason) (e : d ≡ Some r) {n : ℕ} (l : n ≡ length (reason_text r)) where
-  pub bytes-measured : Bytes n ≡ measured d
+  pub bytes-measured : Ok (Some n) ≡ measured d
   unfolding measured
-  bytes-measured = ap Bytes l ∙ sym (ap measured e)
+  bytes-measured = ap Ok (Some l) ∙ sym (ap measured e)
 
   module _ (out : List ℕ) where
-    pub short-fitted : length out < n → Refused R.OutputTooShort ≡ fitted_reason (length out) d
+    pub short-fitted : length out < n → Err R.OutputTooShort ≡ fitted_reason (length out) d
     unfolding fitted_reason
     short-fitted h = sym (ap (fitted_reason (length out)) e ∙ rw (lt-leb (length (reason_text r)) (length out) (omega arith)))
 
@@ -76,9 +77,9 @@ module _ {d : Option Reason} (r : Reason) (e : d ≡ Some r) {n : ℕ} (l : n �
     unfolding placed_reason placed
     short-placed h = sym (ap (placed_reason out) e ∙ rw (lt-leb (length (reason_text r)) (length out) (omega arith)))
 
-    pub bytes-fitted : n ≤ length out → Bytes n ≡ fitted_reason (length out) d
+    pub bytes-fitted : n ≤ length out → Ok (Some n) ≡ fitted_reason (length out) d
     unfolding fitted_reason
-    bytes-fitted h = ap Bytes l ∙ sym (ap (fitted_reason (length out)) e ∙ rw (le-leb (length (reason_text r)) (length out) (omega arith)))
+    bytes-fitted h = ap Ok (Some l) ∙ sym (ap (fitted_reason (length out)) e ∙ rw (le-leb (length (reason_text r)) (length out) (omega arith)))
 
     pub bytes-placed : {after : List ℕ} {next : ℕ} → n ≤ length out → Put out 0 (reason_text r) after next → after ≡ placed_reason out d
     unfolding placed_reason placed
@@ -88,8 +89,8 @@ module _ {d : Option Reason} (r : Reason) (e : d ≡ Some r) {n : ℕ} (l : n �
         ∙ ap (λ (k : ℕ). reason_text r ++ drop k out) z
         ∙ sym (ap (placed_reason out) e ∙ rw (le-leb (length (reason_text r)) (length out) (omega arith)))
 
-    pub put-fitted : {after : List ℕ} {next : ℕ} → n ≤ length out → Put out 0 (reason_text r) after next → Bytes next ≡ fitted_reason (length out) d
-    put-fitted {after} {next} h p = let q = p.place in let e : next ≡ n = omega arith in ap Bytes e ∙ bytes-fitted h
+    pub put-fitted : {after : List ℕ} {next : ℕ} → n ≤ length out → Put out 0 (reason_text r) after next → Ok (Some next) ≡ fitted_reason (length out) d
+    put-fitted {after} {next} h p = let q = p.place in let e : next ≡ n = omega arith in ap Ok (Some e) ∙ bytes-fitted h
 
 -- ---- Two codes.
 
@@ -381,45 +382,45 @@ pub rooted : {words names w : List ℕ} {n : ℕ} → NodesAre words names w n �
 rooted h = record { Some = h.some; few = h.few; count = h.count; root = h.root; whole = h.whole; lent-names = h.lent-names; short-names = h.short-names }
 
 module _ (all : Bool) (aw an bw bn : List ℕ) where
-  pub len-refused : {r : Refusal} → held_both aw an bw bn ≡ refused_both r → Refused r ≡ reason_len all aw an bw bn
+  pub len-refused : {r : Refusal} → held_both aw an bw bn ≡ refused_both r → Err r ≡ reason_len all aw an bw bn
   unfolding reason_len
-  len-refused h = answer-refused-both Refused (λ t u. measured (first_difference all Top t u)) aw an bw bn h
+  len-refused h = answer-refused-both Err (λ t u. measured (first_difference all Top t u)) aw an bw bn h
 
-  pub len-codes : {k j : ℕ} → CodeIn aw an k × CodeIn bw bn j → {r : Reasoned} → r ≡ measured (codes_difference all k j) → r ≡ reason_len all aw an bw bn
+  pub len-codes : {k j : ℕ} → CodeIn aw an k × CodeIn bw bn j → {r : Result (Option ℕ) Refusal} → r ≡ measured (codes_difference all k j) → r ≡ reason_len all aw an bw bn
   unfolding reason_len codes_difference
-  len-codes h e = e ∙ answer-held-both Refused (λ t u. measured (first_difference all Top t u)) aw an bw bn h.0.holds h.1.holds
+  len-codes h e = e ∙ answer-held-both Err (λ t u. measured (first_difference all Top t u)) aw an bw bn h.0.holds h.1.holds
 
   pub len-nodes : {v u : List ℕ} {n m : ℕ} → NodesAre aw an v n → NodesAre bw bn u m
-      → {r : Reasoned} → r ≡ measured (first_difference all Top (trees an v n 0) (trees bn u m 0)) → r ≡ reason_len all aw an bw bn
+      → {r : Result (Option ℕ) Refusal} → r ≡ measured (first_difference all Top (trees an v n 0) (trees bn u m 0)) → r ≡ reason_len all aw an bw bn
   unfolding reason_len
-  len-nodes g h e = e ∙ answer-held-both Refused (λ t u. measured (first_difference all Top t u)) aw an bw bn g.holds h.holds
+  len-nodes g h e = e ∙ answer-held-both Err (λ t u. measured (first_difference all Top t u)) aw an bw bn g.holds h.holds
 
   module _ (out : List ℕ) where
-    abbrev answer : Trees → Trees → Reasoned
+    abbrev answer : Trees → Trees → Result (Option ℕ) Refusal
     answer t u = fitted_reason (length out) (first_difference all Top t u)
 
     abbrev output : Trees → Trees → List ℕ
     output t u = placed_reason out (first_difference all Top t u)
 
     pub write-refused : {r : Refusal} → held_both aw an bw bn ≡ refused_both r
-        → (Refused r ≡ reason_answer all aw an bw bn (length out)) × (out ≡ reason_output all aw an bw bn out)
+        → (Err r ≡ reason_answer all aw an bw bn (length out)) × (out ≡ reason_output all aw an bw bn out)
     unfolding reason_answer reason_output
-    write-refused h = (answer-refused-both Refused answer aw an bw bn h, answer-refused-both (λ (r : Refusal). out) output aw an bw bn h)
+    write-refused h = (answer-refused-both Err answer aw an bw bn h, answer-refused-both (λ (r : Refusal). out) output aw an bw bn h)
 
     pub write-codes : {k j : ℕ} → CodeIn aw an k × CodeIn bw bn j
-        → {r : Reasoned} {after : List ℕ} → r ≡ fitted_reason (length out) (codes_difference all k j) → after ≡ placed_reason out (codes_difference all k j)
+        → {r : Result (Option ℕ) Refusal} {after : List ℕ} → r ≡ fitted_reason (length out) (codes_difference all k j) → after ≡ placed_reason out (codes_difference all k j)
         → (r ≡ reason_answer all aw an bw bn (length out)) × (after ≡ reason_output all aw an bw bn out)
     unfolding reason_answer reason_output codes_difference
     write-codes h e f = (
-      e ∙ answer-held-both Refused answer aw an bw bn h.0.holds h.1.holds,
+      e ∙ answer-held-both Err answer aw an bw bn h.0.holds h.1.holds,
       f ∙ answer-held-both (λ (r : Refusal). out) output aw an bw bn h.0.holds h.1.holds,
     )
 
     pub write-nodes : {v u : List ℕ} {n m : ℕ} → NodesAre aw an v n → NodesAre bw bn u m
-        → {r : Reasoned} {after : List ℕ} → r ≡ answer (trees an v n 0) (trees bn u m 0) → after ≡ output (trees an v n 0) (trees bn u m 0)
+        → {r : Result (Option ℕ) Refusal} {after : List ℕ} → r ≡ answer (trees an v n 0) (trees bn u m 0) → after ≡ output (trees an v n 0) (trees bn u m 0)
         → (r ≡ reason_answer all aw an bw bn (length out)) × (after ≡ reason_output all aw an bw bn out)
     unfolding reason_answer reason_output
     write-nodes g h e f = (
-      e ∙ answer-held-both Refused answer aw an bw bn g.holds h.holds,
+      e ∙ answer-held-both Err answer aw an bw bn g.holds h.holds,
       f ∙ answer-held-both (λ (r : Refusal). out) output aw an bw bn g.holds h.holds,
     )

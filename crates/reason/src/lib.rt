@@ -13,27 +13,17 @@ ghost use Rattle.reason.specs.Spot.{Rooted, codes_difference};
 use find::{Found, first_difference};
 use kinds::{NestingLevel, Refusal, equivalent_kinds};
 use lines::put_bytes;
-use sheet::{both_of, check, code_alone};
+use sheet::{FoundBoth, both_of, check, code_alone};
 use words::{difference_len, number_len, path_len, put_number_value, put_reason, reason_fits};
 
-// A yes, or the count of bytes of the reason for a no; or why there is neither.
-#[derive(Clone, Copy)]
-pub enum Reasoned {
-    Refused(Refusal),
-    Yes,
-    Bytes(usize),
-}
-
 // The length of the reason of two trees of `n` and `m` nodes.
-fn nodes_len(a: &[u64], an: &[u8], n: usize, b: &[u64], bn: &[u8], m: usize, all: bool) -> Reasoned
+fn nodes_len(a: &[u64], an: &[u8], n: usize, b: &[u64], bn: &[u8], m: usize, all: bool) -> Result<Option<usize>, Refusal>
     requires { Rooted an.now a.now n × Rooted bn.now b.now m }
     ensures { result ≡ measured (first_difference all NestingLevel.Top (trees an.now a.now n 0) (trees bn.now b.now m 0)) }
 {
     match first_difference(a, an, 0, n, b, bn, 0, m, NestingLevel::new(), all) {
-        Found::Same => Reasoned::Yes,
-        Found::At(x, _, aspect, k, j) => Reasoned::Bytes(
-            path_len(a, x) + difference_len(aspect, k, j),
-        ),
+        Found::Same => Ok(None),
+        Found::At(x, _, aspect, k, j) => Ok(Some(path_len(a, x) + difference_len(aspect, k, j))),
     }
 }
 
@@ -47,57 +37,56 @@ fn write_nodes(
     m: usize,
     all: bool,
     out: &mut [u8],
-) -> Reasoned
+) -> Result<Option<usize>, Refusal>
     requires { Rooted an.now a.now n × Rooted bn.now b.now m }
     ensures answers { result ≡ fitted_reason (length out.old) (first_difference all NestingLevel.Top (trees an.now a.now n 0) (trees bn.now b.now m 0)) }
     ensures writes { out.new ≡ placed_reason out.old (first_difference all NestingLevel.Top (trees an.now a.now n 0) (trees bn.now b.now m 0)) }
 {
     match first_difference(a, an, 0, n, b, bn, 0, m, NestingLevel::new(), all) {
-        Found::Same => Reasoned::Yes,
+        Found::Same => Ok(None),
         Found::At(x, y, aspect, k, j) => {
             if !reason_fits(a, x, aspect, k, j, out.len()) {
-                return Reasoned::Refused(Refusal::OutputTooShort);
+                return Err(Refusal::OutputTooShort);
             }
-            Reasoned::Bytes(put_reason(out, a, an, x, b, bn, y, aspect, k, j))
+            Ok(Some(put_reason(out, a, an, x, b, bn, y, aspect, k, j)))
         }
     }
 }
 
 // The length of the reason of two codes.
-fn codes_len(k: u64, j: u64) -> Reasoned
+fn codes_len(k: u64, j: u64) -> Result<Option<usize>, Refusal>
     ensures { (all : Bool) → result ≡ measured (codes_difference all k j) }
 {
     if equivalent_kinds(k, j) {
-        return Reasoned::Yes;
+        return Ok(None);
     }
-    Reasoned::Bytes(5 + number_len(k) + number_len(j))
+    Ok(Some(5 + number_len(k) + number_len(j)))
 }
 
 // Writes the reason of two codes at the front of the output.
-fn write_codes(k: u64, j: u64, out: &mut [u8]) -> Reasoned
+fn write_codes(k: u64, j: u64, out: &mut [u8]) -> Result<Option<usize>, Refusal>
     ensures answers { (all : Bool) → result ≡ fitted_reason (length out.old) (codes_difference all k j) }
     ensures writes { (all : Bool) → out.new ≡ placed_reason out.old (codes_difference all k j) }
 {
     if equivalent_kinds(k, j) {
-        return Reasoned::Yes;
+        return Ok(None);
     }
     let len = 5 + number_len(k) + number_len(j);
     if out.len() < len {
-        return Reasoned::Refused(Refusal::OutputTooShort);
+        return Err(Refusal::OutputTooShort);
     }
     let word = put_bytes(out, 0, b":kind");
     let first = put_number_value(out, word, k);
     put_number_value(out, first, j);
-    Reasoned::Bytes(len)
+    Ok(Some(len))
 }
 
-fn sheets_len(aw: &[u64], an: &[u8], bw: &[u64], bn: &[u8], all: bool) -> Reasoned
+fn sheets_len(aw: &[u64], an: &[u8], bw: &[u64], bn: &[u8], all: bool) -> Result<Option<usize>, Refusal>
     ensures { result ≡ reason_len all aw.now an.now bw.now bn.now }
 {
-    match both_of(check(&aw[0..], &an[0..]), check(&bw[0..], &bn[0..])) {
-        Err(why) => Reasoned::Refused(why),
-        Ok(FoundBoth::Codes(k, j)) => codes_len(k, j),
-        Ok(FoundBoth::Nodes(f, n, g, m)) => nodes_len(
+    match both_of(check(&aw[0..], &an[0..]), check(&bw[0..], &bn[0..]))? {
+        FoundBoth::Codes(k, j) => codes_len(k, j),
+        FoundBoth::Nodes(f, n, g, m) => nodes_len(
             &aw[f..],
             &an[0..],
             n,
@@ -110,7 +99,7 @@ fn sheets_len(aw: &[u64], an: &[u8], bw: &[u64], bn: &[u8], all: bool) -> Reason
 }
 
 // The length of the reason why the trees in two sheets do not match, by levels or with `all` fields. Two codes are told before the check.
-pub fn reason_len(aw: &[u64], an: &[u8], bw: &[u64], bn: &[u8], all: bool) -> Reasoned
+pub fn reason_len(aw: &[u64], an: &[u8], bw: &[u64], bn: &[u8], all: bool) -> Result<Option<usize>, Refusal>
     ensures { result ≡ reason_len all aw.now an.now bw.now bn.now }
 {
     if let Some(k) = code_alone(aw) {
@@ -122,14 +111,13 @@ pub fn reason_len(aw: &[u64], an: &[u8], bw: &[u64], bn: &[u8], all: bool) -> Re
 }
 
 // Writes the reason why the trees in two sheets do not match, by levels or with `all` fields, at the front of the output.
-pub fn reason(aw: &[u64], an: &[u8], bw: &[u64], bn: &[u8], all: bool, out: &mut [u8]) -> Reasoned
+pub fn reason(aw: &[u64], an: &[u8], bw: &[u64], bn: &[u8], all: bool, out: &mut [u8]) -> Result<Option<usize>, Refusal>
     ensures answers { result ≡ reason_answer all aw.now an.now bw.now bn.now (length out.old) }
     ensures writes { out.new ≡ reason_output all aw.now an.now bw.now bn.now out.old }
 {
-    match both_of(check(&aw[0..], &an[0..]), check(&bw[0..], &bn[0..])) {
-        Err(why) => Reasoned::Refused(why),
-        Ok(FoundBoth::Codes(k, j)) => write_codes(k, j, out),
-        Ok(FoundBoth::Nodes(f, n, g, m)) => write_nodes(
+    match both_of(check(&aw[0..], &an[0..]), check(&bw[0..], &bn[0..]))? {
+        FoundBoth::Codes(k, j) => write_codes(k, j, out),
+        FoundBoth::Nodes(f, n, g, m) => write_nodes(
             &aw[f..],
             &an[0..],
             n,

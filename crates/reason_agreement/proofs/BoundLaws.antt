@@ -28,8 +28,7 @@ use Rattle.sheet.specs.Answer.{Held, refused, holding, held, paired, held_both, 
 use Rattle.static_str.proofs.NumberLaws.{digits-below, decimal-few, decimal-fits}
 use Rattle.reason.specs.Answer.{measured, reason_len, reason_answer}
 use Rattle.reason.specs.Reason.{Difference, kind, size, offset, length, name, count, Reason, offset_of, length_of, items, first_difference, dotted, path_text, value_text, values_text, difference_text, reason_text}
-use Rattle.reason.specs.declared.Reasoned.{Reasoned}
-use Rattle.reason.specs.declared.Reasoned.TheVariants.{Refused, Yes, Bytes}
+use Rattle.std.specs.Prelude.{Result, Ok, Err}
 use Rattle.reason.proofs.PathLaws.{dotted-length}
 use Rattle.bounds.proofs.HeldLaws.{held-refused, held-holds}
 use Rattle.reason_agreement.specs.Along.{item_at, follow, NodesDiffer, Differ}
@@ -219,7 +218,7 @@ tree-bound all v aw an bw bn t u a b r h =
         let s = p.short in
         omega (arith, length-append (path_text r.path) (byte ":" ∷ difference_text r.differs), difference-length r.differs l cs m ds p.here q.here d)
 
-pub most : (all : Bool) (aw an bw bn : List ℕ) (n : ℕ) → reason_len all aw an bw bn ≡ Bytes n → n ≤ max_reason
+pub most : (all : Bool) (aw an bw bn : List ℕ) (n : ℕ) → reason_len all aw an bw bn ≡ Ok (Some n) → n ≤ max_reason
 most all aw an bw bn n h =
     let m = length-says all aw an bw bn h in
     let l = m.long in
@@ -229,34 +228,34 @@ most all aw an bw bn n h =
 pub enough : (all : Bool) (aw an bw bn out : List ℕ) → max_reason ≤ N.length out → reason_answer all aw an bw bn (N.length out) ≡ reason_len all aw an bw bn
 enough all aw an bw bn out l = go (reason_len all aw an bw bn) refl
   where
-    go : (x : Reasoned) → reason_len all aw an bw bn ≡ x → reason_answer all aw an bw bn (N.length out) ≡ reason_len all aw an bw bn
-    go (Bytes n) e = (whole all aw an bw bn out n e (omega (arith, most all aw an bw bn n e))).answer ∙ sym e
-    go Yes e = (nothing all aw an bw bn out (λ n h. let z : true ≡ false = cc in true≢false z)).0
-    go (Refused r) e = (nothing all aw an bw bn out (λ n h. let z : true ≡ false = cc in true≢false z)).0
+    go : (x : Result (Option ℕ) Refusal) → reason_len all aw an bw bn ≡ x → reason_answer all aw an bw bn (N.length out) ≡ reason_len all aw an bw bn
+    go (Ok (Some n)) e = (whole all aw an bw bn out n e (omega (arith, most all aw an bw bn n e))).answer ∙ sym e
+    go (Ok None) e = (nothing all aw an bw bn out (λ n h. let z : true ≡ false = cc in true≢false z)).0
+    go (Err r) e = (nothing all aw an bw bn out (λ n h. let z : true ≡ false = cc in true≢false z)).0
 
 -- The length itself is refused by 3 or 4 alone.
-other-refusal : {r : Refusal} → (r ≡ R.NotASheet) ⊎ (r ≡ R.BadName) → Refused r ≡ Refused R.OutputTooShort → ⊥
+other-refusal : {r : Refusal} → (r ≡ R.NotASheet) ⊎ (r ≡ R.BadName) → Err r ≡ Err R.OutputTooShort → ⊥
 other-refusal (inl e) h = let z : true ≡ false = cc in true≢false z
 other-refusal (inr e) h = let z : true ≡ false = cc in true≢false z
 
-length-never : (all : Bool) (aw an bw bn : List ℕ) → reason_len all aw an bw bn ≡ Refused R.OutputTooShort → ⊥
+length-never : (all : Bool) (aw an bw bn : List ℕ) → reason_len all aw an bw bn ≡ Err R.OutputTooShort → ⊥
 unfolding reason_len of_sheets held_both measured
 length-never all aw an bw bn = go (held aw an) refl (held bw bn) refl
   where
-    either : {r q : Refusal} → (r ≡ R.NotASheet) ⊎ (r ≡ R.BadName) → (q ≡ R.NotASheet) ⊎ (q ≡ R.BadName) → (b : Bool) → Refused (cond b r q) ≡ Refused R.OutputTooShort → ⊥
+    either : {r q : Refusal} → (r ≡ R.NotASheet) ⊎ (r ≡ R.BadName) → (q ≡ R.NotASheet) ⊎ (q ≡ R.BadName) → (b : Bool) → Err (cond b r q) ≡ Err R.OutputTooShort → ⊥
     either x y true h = other-refusal x h
     either x y false h = other-refusal y h
 
-    answer : (o : Option Reason) → measured o ≡ Refused R.OutputTooShort → ⊥
+    answer : (o : Option Reason) → measured o ≡ Err R.OutputTooShort → ⊥
     answer None h = let z : true ≡ false = cc in true≢false z
     answer (Some r) h = let z : true ≡ false = cc in true≢false z
 
     go : (h : Held) → held aw an ≡ h → (k : Held) → held bw bn ≡ k
-        → of_held_both Refused (λ t u. measured (first_difference all Top t u)) (paired h k) ≡ Refused R.OutputTooShort → ⊥
+        → of_held_both Err (λ t u. measured (first_difference all Top t u)) (paired h k) ≡ Err R.OutputTooShort → ⊥
     go (refused r) e (refused q) f h = either (held-refused aw an e) (held-refused bw bn f) (leb (number r) (number q)) h
     go (refused r) e (holding u) f h = other-refusal (held-refused aw an e) h
     go (holding t) e (refused q) f h = other-refusal (held-refused bw bn f) h
     go (holding t) e (holding u) f h = answer (first_difference all Top t u) h
 
-pub never-short : (all : Bool) (aw an bw bn out : List ℕ) → max_reason ≤ N.length out → reason_answer all aw an bw bn (N.length out) ≡ Refused R.OutputTooShort → ⊥
+pub never-short : (all : Bool) (aw an bw bn out : List ℕ) → max_reason ≤ N.length out → reason_answer all aw an bw bn (N.length out) ≡ Err R.OutputTooShort → ⊥
 never-short all aw an bw bn out l h = length-never all aw an bw bn (sym (enough all aw an bw bn out l) ∙ h)

@@ -20,7 +20,6 @@ use Rattle.helper.specs.Answer.{compare_answer}
 use Rattle.bounds.proofs.HeldLaws.{held-holds}
 use Rattle.reason.specs.Answer.{measured, fitted_reason, placed_reason, reason_len, reason_answer, reason_output}
 use Rattle.reason.specs.Reason.{Reason, first_difference, reason_text}
-use Rattle.reason.specs.declared.Reasoned.TheVariants.{Refused, Bytes}
 use Rattle.reason_agreement.specs.Along.{is_none}
 use Rattle.reason_agreement.specs.Calls.{decided_by, Written}
 use Rattle.reason_agreement.proofs.GoodLaws.{found-good}
@@ -41,7 +40,7 @@ module _ (all : Bool) (aw an bw bn : List ℕ) where
   compared = go (held aw an) refl (held bw bn) refl
     where
       go : (h : Held) → held aw an ≡ h → (k : Held) → held bw bn ≡ k
-          → of_held_both Err (λ t u. Ok (compare_encodings all Top t u)) (paired h k) ≡ decided_by (of_held_both Refused (λ t u. measured (first_difference all Top t u)) (paired h k))
+          → of_held_both Err (λ t u. Ok (compare_encodings all Top t u)) (paired h k) ≡ decided_by (of_held_both Err (λ t u. measured (first_difference all Top t u)) (paired h k))
       go (refused r) e (refused q) f = refl
       go (refused r) e (holding u) f = refl
       go (holding t) e (refused q) f = refl
@@ -74,23 +73,23 @@ module _ (all : Bool) (aw an bw bn : List ℕ) where
     pub found : first_difference all Top first second ≡ Some reason
     pub long : length (reason_text reason) ≡ n
 
-  pub length-says : {n : ℕ} → reason_len all aw an bw bn ≡ Bytes n → Measured n
+  pub length-says : {n : ℕ} → reason_len all aw an bw bn ≡ Ok (Some n) → Measured n
   unfolding reason_len of_sheets measured
   length-says {n} h = go (held_both aw an bw bn) refl h
     where
-      of-trees : (t u : Trees) → held_both aw an bw bn ≡ holding_both t u → (o : Option Reason) → first_difference all Top t u ≡ o → measured o ≡ Bytes n → Measured n
+      of-trees : (t u : Trees) → held_both aw an bw bn ≡ holding_both t u → (o : Option Reason) → first_difference all Top t u ≡ o → measured o ≡ Ok (Some n) → Measured n
       of-trees t u e None f k = let z : true ≡ false = cc in absurd (true≢false z)
       of-trees t u e (Some r) f k =
           let b = both-held e in
           let m : length (reason_text r) ≡ n = cc in
           record { first = t; second = u; reason = r; both = e; first-held = b.first; second-held = b.second; found = f; long = m }
 
-      go : (h : HeldBoth) → held_both aw an bw bn ≡ h → of_held_both Refused (λ t u. measured (first_difference all Top t u)) h ≡ Bytes n → Measured n
+      go : (h : HeldBoth) → held_both aw an bw bn ≡ h → of_held_both Err (λ t u. measured (first_difference all Top t u)) h ≡ Ok (Some n) → Measured n
       go (refused_both r) e k = let z : true ≡ false = cc in absurd (true≢false z)
       go (holding_both t u) e k = of-trees t u e (first_difference all Top t u) refl k
 
   module _ (out : List ℕ) where
-    pub whole : (n : ℕ) → reason_len all aw an bw bn ≡ Bytes n → n ≤ length out → Written all aw an bw bn out n
+    pub whole : (n : ℕ) → reason_len all aw an bw bn ≡ Ok (Some n) → n ≤ length out → Written all aw an bw bn out n
     unfolding reason_answer reason_output of_sheets fitted_reason placed_reason placed
     whole n h l =
         let m = length-says h in
@@ -114,8 +113,8 @@ module _ (all : Bool) (aw an bw bn : List ℕ) where
           output = rw (m.both, m.found, fits, q);
         }
 
-    pub short : (n : ℕ) → reason_len all aw an bw bn ≡ Bytes n → length out < n
-        → (reason_answer all aw an bw bn (length out) ≡ Refused R.OutputTooShort) × (reason_output all aw an bw bn out ≡ out)
+    pub short : (n : ℕ) → reason_len all aw an bw bn ≡ Ok (Some n) → length out < n
+        → (reason_answer all aw an bw bn (length out) ≡ Err R.OutputTooShort) × (reason_output all aw an bw bn out ≡ out)
     unfolding reason_answer reason_output of_sheets fitted_reason placed_reason placed
     short n h l =
         let m = length-says h in
@@ -123,17 +122,17 @@ module _ (all : Bool) (aw an bw bn : List ℕ) where
         let fits = lt-leb (length (reason_text m.reason)) (length out) (omega arith) in
         (rw (m.both, m.found, fits), rw (m.both, m.found, fits))
 
-    pub nothing : ((n : ℕ) → reason_len all aw an bw bn ≡ Bytes n → ⊥)
+    pub nothing : ((n : ℕ) → reason_len all aw an bw bn ≡ Ok (Some n) → ⊥)
         → (reason_answer all aw an bw bn (length out) ≡ reason_len all aw an bw bn) × (reason_output all aw an bw bn out ≡ out)
     unfolding reason_len reason_answer reason_output of_sheets measured fitted_reason placed_reason
     nothing h = go (held_both aw an bw bn) refl h
       where
-        of-trees : (o : Option Reason) → ((n : ℕ) → measured o ≡ Bytes n → ⊥) → (fitted_reason (length out) o ≡ measured o) × (placed_reason out o ≡ out)
+        of-trees : (o : Option Reason) → ((n : ℕ) → measured o ≡ Ok (Some n) → ⊥) → (fitted_reason (length out) o ≡ measured o) × (placed_reason out o ≡ out)
         of-trees None k = (refl, refl)
         of-trees (Some r) k = absurd (k (length (reason_text r)) refl)
 
-        go : (b : HeldBoth) → held_both aw an bw bn ≡ b → ((n : ℕ) → of_held_both Refused (λ t u. measured (first_difference all Top t u)) b ≡ Bytes n → ⊥)
-            → (of_held_both Refused (λ t u. fitted_reason (length out) (first_difference all Top t u)) b ≡ of_held_both Refused (λ t u. measured (first_difference all Top t u)) b)
+        go : (b : HeldBoth) → held_both aw an bw bn ≡ b → ((n : ℕ) → of_held_both Err (λ t u. measured (first_difference all Top t u)) b ≡ Ok (Some n) → ⊥)
+            → (of_held_both Err (λ t u. fitted_reason (length out) (first_difference all Top t u)) b ≡ of_held_both Err (λ t u. measured (first_difference all Top t u)) b)
             × (of_held_both (λ r. out) (λ t u. placed_reason out (first_difference all Top t u)) b ≡ out)
         go (refused_both r) e k = (refl, refl)
         go (holding_both t u) e k = of-trees (first_difference all Top t u) k

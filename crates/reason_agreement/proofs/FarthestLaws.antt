@@ -25,7 +25,7 @@ use Rattle.bounds.proofs.LongestLaws.{name-good}
 use Rattle.reason.specs.Answer.{measured, reason_len}
 use Rattle.reason.specs.Reason.{Difference, name, Reason, or_else, unless, offset_of, length_of, own_difference, items, items_compared, count_difference, here, under, node_difference, items_difference, first_difference}
 use Rattle.reason.specs.Reason.{dotted, path_text, value_text, values_text, difference_text, reason_text}
-use Rattle.reason.specs.declared.Reasoned.TheVariants.{Bytes}
+use Rattle.std.specs.Prelude.{Ok}
 use Rattle.reason_agreement.specs.Limits.{max_reason, pointers_to, far_struct, most_pointers, farthest_r, farthest_s}
 use Rattle.reason_agreement.proofs.AlongLaws.{reason}
 use Rattle.reason_agreement.proofs.KindLaws.{one-items}
@@ -168,10 +168,10 @@ unfolding farthest_s
 held-S = holds-held (sheet_of (far_struct most_pointers 2000 (byte "S"))) (names_of (far_struct most_pointers 2000 (byte "S"))) (far_struct most_pointers 2000 (byte "S"))
     (far-holds most_pointers 2000 (byte "S") (omega arith) (omega arith)) (far-good most_pointers 1998 (byte "S") letters_named.1)
 
-farthest : (all : Bool) → measured (first_difference all Top farthest_r farthest_s) ≡ Bytes max_reason
+farthest : (all : Bool) → measured (first_difference all Top farthest_r farthest_s) ≡ Ok (Some max_reason)
 unfolding farthest_r farthest_s measured
-farthest all = ap measured (far-found all most_pointers 1999) ∙ ap Bytes (far-length 1999 2000 (byte "R") (byte "S") 4 four_digits)
+farthest all = ap measured (far-found all most_pointers 1999) ∙ ap Ok (Some (far-length 1999 2000 (byte "R") (byte "S") 4 four_digits))
 
-pub reaches : (all : Bool) → reason_len all (sheet_of farthest_r) (names_of farthest_r) (sheet_of farthest_s) (names_of farthest_s) ≡ Bytes max_reason
+pub reaches : (all : Bool) → reason_len all (sheet_of farthest_r) (names_of farthest_r) (sheet_of farthest_s) (names_of farthest_s) ≡ Ok (Some max_reason)
 unfolding reason_len of_sheets held_both
 reaches all = rw (held-R, held-S) (farthest all)

@@ -14,7 +14,7 @@ use Rattle.kinds.specs.declared.Refusal.TheVariants as R
 use Rattle.helper.specs.Answer.{compare_answer}
 use Rattle.reason.specs.Answer.{reason_len, reason_answer, reason_output}
 use Rattle.reason.specs.Reason.{Reason, GoodValues, first_difference, reason_text}
-use Rattle.reason.specs.declared.Reasoned.TheVariants.{Refused, Bytes}
+use Rattle.std.specs.Prelude.{Ok, Err}
 use Rattle.reason_agreement.specs.Along.{follow, before, difference_along, Differ, swapped, is_none}
 use Rattle.reason_agreement.specs.Cases.{AllHold, cases}
 use Rattle.reason_agreement.specs.Calls.{decided_by, Written}
@@ -78,16 +78,16 @@ module _ (all : Bool) (aw an bw bn : List ℕ) where
 
   module _ (out : List ℕ) where
     -- With room for it, the reason is written, which is right of the trees that the lists hold, and the answer is its length.
-    pub written : (n : ℕ) → reason_len all aw an bw bn ≡ Bytes n → n ≤ length out → Written all aw an bw bn out n
+    pub written : (n : ℕ) → reason_len all aw an bw bn ≡ Ok (Some n) → n ≤ length out → Written all aw an bw bn out n
     written = whole all aw an bw bn out
 
     -- With less room it is refusal 5, and nothing is written.
-    pub refused-short : (n : ℕ) → reason_len all aw an bw bn ≡ Bytes n → length out < n
-        → (reason_answer all aw an bw bn (length out) ≡ Refused R.OutputTooShort) × (reason_output all aw an bw bn out ≡ out)
+    pub refused-short : (n : ℕ) → reason_len all aw an bw bn ≡ Ok (Some n) → length out < n
+        → (reason_answer all aw an bw bn (length out) ≡ Err R.OutputTooShort) × (reason_output all aw an bw bn out ≡ out)
     refused-short = short all aw an bw bn out
 
     -- Without a reason any room serves: the answer is the length's, and nothing is written.
-    pub not_written : ((n : ℕ) → reason_len all aw an bw bn ≡ Bytes n → ⊥)
+    pub not_written : ((n : ℕ) → reason_len all aw an bw bn ≡ Ok (Some n) → ⊥)
         → (reason_answer all aw an bw bn (length out) ≡ reason_len all aw an bw bn) × (reason_output all aw an bw bn out ≡ out)
     not_written = nothing all aw an bw bn out
 

@@ -9,15 +9,14 @@ use Rattle.kinds.specs.declared.NestingLevel.TheVariants.{Top}
 use Rattle.sheet.specs.Answer.{held, holding}
 use Rattle.reason.specs.Answer.{reason_answer, reason_output}
 use Rattle.reason.specs.Reason.{Reason, GoodValues, first_difference, reason_text}
-use Rattle.reason.specs.declared.Reasoned.{Reasoned}
-use Rattle.reason.specs.declared.Reasoned.TheVariants.{Refused, Yes, Bytes}
+use Rattle.std.specs.Prelude.{Option, None}
 use Rattle.reason_agreement.specs.Along.{follow, Differ}
 
 -- What comparing answers where the reason's call answers this.
-abbrev pub decided_by : Reasoned → Result Bool Refusal
-decided_by (Refused r) = Err r
-decided_by Yes = Ok true
-decided_by (Bytes n) = Ok false
+abbrev pub decided_by : Result (Option ℕ) Refusal → Result Bool Refusal
+decided_by (Err r) = Err r
+decided_by (Ok None) = Ok true
+decided_by (Ok (Some n)) = Ok false
 
 -- The lists hold trees with a reason of `n` bytes, which is right and stands at the front of the output, with what was behind it left as it was.
 pub record Written (all : Bool) (aw an bw bn out : List ℕ) (n : ℕ) : Type 0 where
@@ -32,5 +31,5 @@ pub record Written (all : Bool) (aw an bw bn out : List ℕ) (n : ℕ) : Type 0 
   pub right : Differ reason.differs (follow reason.path first) (follow reason.path second)
   pub good : GoodValues reason.differs
   pub long : length (reason_text reason) ≡ n
-  pub answer : reason_answer all aw an bw bn (length out) ≡ Bytes n
+  pub answer : reason_answer all aw an bw bn (length out) ≡ Ok (Some n)
   pub output : reason_output all aw an bw bn out ≡ reason_text reason ++ drop n out

@@ -2,16 +2,9 @@
 // (oracle/README.md). At most 524,288 bytes of questions are read, and an answer has at most 65,536 bytes.
 #![tactic(auto)]
 
-use helper::Sized;
 use input::{read_full, zeros};
 use kinds::{MAX_TEXT, Refusal};
-use layout::LaidOut;
-use lines::Decoded;
-use parse::Reading;
-use reason::Reasoned;
 use sheet::MAX_WORDS;
-use signature::SignatureReading;
-use static_str::Printed;
 use std::io;
 
 // The most bytes of questions, of a text in one, which may be longer than any that is read, and of an answer.
@@ -30,19 +23,19 @@ enum Loaded {
 }
 
 // A text: `t:` and its bytes in hex.
-fn load_text(argument: &[u8], text: &mut [u8]) -> Decoded {
+fn load_text(argument: &[u8], text: &mut [u8]) -> Option<usize> {
     if !matches!(lines::field(argument, b':'), b"t") {
-        return Decoded::Bad;
+        return None;
     }
     lines::decode_hex(lines::rest(argument, b':'), text)
 }
 
 // A sheet: its words in decimal with commas, `:`, its name bytes in hex.
 fn load_sheet(sheet: &[u8], words: &mut [u64], names: &mut [u8]) -> Loaded {
-    let Decoded::Items(_) = lines::decode_words(lines::field(sheet, b':'), words) else {
+    let Some(_) = lines::decode_words(lines::field(sheet, b':'), words) else {
         return Loaded::Bad;
     };
-    let Decoded::Items(_) = lines::decode_hex(lines::rest(sheet, b':'), names) else {
+    let Some(_) = lines::decode_hex(lines::rest(sheet, b':'), names) else {
         return Loaded::Bad;
     };
     Loaded::Tree
@@ -53,12 +46,12 @@ fn load_tree(argument: &[u8], text: &mut [u8], words: &mut [u64], names: &mut [u
     if matches!(lines::field(argument, b':'), b"s") {
         return load_sheet(lines::rest(argument, b':'), words, names);
     }
-    let Decoded::Items(n) = load_text(argument, text) else {
+    let Some(n) = load_text(argument, text) else {
         return Loaded::Bad;
     };
     match encoding_box::from_str(lines::front(text, n), words, names) {
-        Reading::Tree => Loaded::Tree,
-        Reading::Refused(why) => Loaded::Unread(why),
+        Ok(()) => Loaded::Tree,
+        Err(why) => Loaded::Unread(why),
     }
 }
 
@@ -102,10 +95,10 @@ fn put_compared(out: &mut [u8], at: usize, compared: Result<bool, Refusal>) -> u
     }
 }
 
-fn answer_read(reading: Reading, words: &[u64], names: &[u8], out: &mut [u8]) -> usize {
+fn answer_read(reading: Result<(), Refusal>, words: &[u64], names: &[u8], out: &mut [u8]) -> usize {
     match reading {
-        Reading::Refused(why) => put_refused(out, b"no ", why),
-        Reading::Tree => {
+        Err(why) => put_refused(out, b"no ", why),
+        Ok(()) => {
             let at = lines::put_bytes(out, 0, b"ok ");
             lines::put_sheet(out, at, words, names)
         }
@@ -149,8 +142,8 @@ fn put_entries(out: &mut [u8], at: usize, list: &[u64], n: u16) -> usize {
 
 fn answer_signature(text: &[u8], list: &mut [u64], out: &mut [u8]) -> usize {
     match signature::parse_signature(text, list) {
-        SignatureReading::Refused(why) => put_refused(out, b"no ", why),
-        SignatureReading::Entries(n) => {
+        Err(why) => put_refused(out, b"no ", why),
+        Ok(n) => {
             let at = lines::put_bytes(out, 0, b"ok");
             put_entries(out, at, list, (n % 65536) as u16)
         }
@@ -160,9 +153,9 @@ fn answer_signature(text: &[u8], list: &mut [u64], out: &mut [u8]) -> usize {
 // The size in a row; a refusal begins with `word`.
 fn answer_size(row: u64, word: &[u8], words: &[u64], names: &[u8], out: &mut [u8]) -> usize {
     match encoding::size(words, names, row) {
-        Sized::Refused(why) => put_refused(out, word, why),
-        Sized::Nothing => lines::put_bytes(out, 0, b"none"),
-        Sized::Bytes(n) => {
+        Err(why) => put_refused(out, word, why),
+        Ok(None) => lines::put_bytes(out, 0, b"none"),
+        Ok(Some(n)) => {
             let at = lines::put_bytes(out, 0, b"bytes ");
             lines::put_number(out, at, n)
         }
@@ -186,9 +179,9 @@ fn answer_layout(
     out: &mut [u8],
 ) -> usize {
     match layout::layout(words, names, row, offsets) {
-        LaidOut::Refused(why) => put_refused(out, b"no ", why),
-        LaidOut::Nothing => lines::put_bytes(out, 0, b"none"),
-        LaidOut::Bytes(n, alignment) => {
+        Err(why) => put_refused(out, b"no ", why),
+        Ok(None) => lines::put_bytes(out, 0, b"none"),
+        Ok(Some((n, alignment))) => {
             let at = lines::put_bytes(out, 0, b"ok");
             let bytes = lines::put_marked(out, at, b' ', n);
             let to = lines::put_marked(out, bytes, b' ', alignment);
@@ -199,15 +192,15 @@ fn answer_layout(
 
 fn answer_length(words: &[u64], names: &[u8], out: &mut [u8]) -> usize {
     match static_str::static_encoding_str_len(words, names) {
-        Printed::Refused(why) => put_refused(out, b"refused ", why),
-        Printed::Bytes(n) => lines::put_number(out, 0, n as u64),
+        Err(why) => put_refused(out, b"refused ", why),
+        Ok(n) => lines::put_number(out, 0, n as u64),
     }
 }
 
 fn answer_print(words: &[u64], names: &[u8], text: &mut [u8], out: &mut [u8]) -> usize {
     match static_str::static_encoding_str_array(words, names, text) {
-        Printed::Refused(why) => put_refused(out, b"refused ", why),
-        Printed::Bytes(n) => {
+        Err(why) => put_refused(out, b"refused ", why),
+        Ok(n) => {
             let at = lines::put_bytes(out, 0, b"t:");
             lines::put_hex(out, at, lines::front(text, n))
         }
@@ -236,9 +229,9 @@ fn answer_reason(
     out: &mut [u8],
 ) -> usize {
     match reason::reason(aw, an, bw, bn, all, text) {
-        Reasoned::Refused(why) => put_refused(out, b"refused ", why),
-        Reasoned::Yes => put_yes_no(out, 0, true),
-        Reasoned::Bytes(n) => {
+        Err(why) => put_refused(out, b"refused ", why),
+        Ok(None) => put_yes_no(out, 0, true),
+        Ok(Some(n)) => {
             let at = lines::put_bytes(out, 0, b"no ");
             lines::put_hex(out, at, lines::front(text, n))
         }
@@ -257,7 +250,7 @@ fn answer_reading(
     names: &mut [u8],
     out: &mut [u8],
 ) -> usize {
-    let Decoded::Items(n) = load_text(argument, text) else {
+    let Some(n) = load_text(argument, text) else {
         return put_bad_line(out);
     };
     let given = lines::front(text, n);
@@ -286,7 +279,7 @@ fn answer_matching(
         Loaded::Unread(why) => put_refused(out, b"unread ", why),
         Loaded::Bad => put_bad_line(out),
         Loaded::Tree => {
-            let Decoded::Items(n) = load_text(lines::rest(arguments, b' '), text) else {
+            let Some(n) = load_text(lines::rest(arguments, b' '), text) else {
                 return put_bad_line(out);
             };
             answer_text(words, names, lines::front(text, n), out)
@@ -343,7 +336,7 @@ fn answer_by_row(
     if digits.len() == 0 {
         return put_bad_line(out);
     }
-    let Decoded::Items(_) = lines::decode_words(digits, &mut row) else {
+    let Some(_) = lines::decode_words(digits, &mut row) else {
         return put_bad_line(out);
     };
     match load_tree(lines::rest(arguments, b' '), text, words, names) {

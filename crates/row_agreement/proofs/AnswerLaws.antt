@@ -19,8 +19,7 @@ use Rattle.kinds.specs.declared.Refusal.{Refusal}
 use Rattle.kinds.specs.declared.Refusal.TheVariants as R
 use Rattle.sheet.specs.Answer.{Held, held, refused, holding, of_held, of_sheet}
 use Rattle.helper.specs.Answer.{max_size, sized, sized_in, size_answer}
-use Rattle.helper.specs.declared.Sized.{Sized}
-use Rattle.helper.specs.declared.Sized.TheVariants as S
+use Rattle.std.specs.Prelude.{Result, Ok, Err}
 use Rattle.row_agreement.specs.Lacking.{size_from, one_none, no_long_double, no_long, ints_for_longs}
 use Rattle.row_agreement.proofs.CodeLaws.{without-long-double, without-long, ints-for-longs}
 use Rattle.row_agreement.proofs.NoneLaws.{size_none, struct-none, zero-items, none_is}
@@ -28,44 +27,44 @@ use Rattle.row_agreement.proofs.NoneLaws.{size_none, struct-none, zero-items, no
 -- ---- What is answered in a row.
 
 module _ (limit : ℕ) where
-  sized-nothing : (x : Option ℕ) → sized limit x ≡ S.Nothing → x ≡ None
+  sized-nothing : (x : Option ℕ) → sized limit x ≡ Ok None → x ≡ None
   unfolding sized
   sized-nothing None e = refl
   sized-nothing (Some n) e = go (leb n limit) e
     where
-      go : (b : Bool) → cond b (S.Bytes n) (S.Refused R.SizeTooLarge) ≡ S.Nothing → Some n ≡ None
+      go : (b : Bool) → cond b (Ok (Some n)) (Err R.SizeTooLarge) ≡ Ok None → Some n ≡ None
       go true e = cc
       go false e = cc
 
-  sized-bytes : (x : Option ℕ) (n : ℕ) → sized limit x ≡ S.Bytes n → (x ≡ Some n) × (n ≤ limit)
+  sized-bytes : (x : Option ℕ) (n : ℕ) → sized limit x ≡ Ok (Some n) → (x ≡ Some n) × (n ≤ limit)
   unfolding sized
   sized-bytes None n e = let z : ◌≡◌ {A = ℕ} 0 1 = cc in absurd (omega arith)
   sized-bytes (Some m) n e = go (leb m limit) refl e
     where
-      go : (b : Bool) → leb m limit ≡ b → cond b (S.Bytes m) (S.Refused R.SizeTooLarge) ≡ S.Bytes n → (Some m ≡ Some n) × (n ≤ limit)
+      go : (b : Bool) → leb m limit ≡ b → cond b (Ok (Some m)) (Err R.SizeTooLarge) ≡ Ok (Some n) → (Some m ≡ Some n) × (n ≤ limit)
       go true d e = let q : m ≡ n = cc in (ap Some q, omega (arith, leb-true m limit d))
       go false d e = let z : ◌≡◌ {A = ℕ} 0 1 = cc in absurd (omega arith)
 
-  sized-large : (x : Option ℕ) → sized limit x ≡ S.Refused R.SizeTooLarge → (n : ℕ) × (x ≡ Some n) × (limit < n)
+  sized-large : (x : Option ℕ) → sized limit x ≡ Err R.SizeTooLarge → (n : ℕ) × (x ≡ Some n) × (limit < n)
   unfolding sized
   sized-large None e = let z : ◌≡◌ {A = ℕ} 0 1 = cc in absurd (omega arith)
   sized-large (Some m) e = go (leb m limit) refl e
     where
-      go : (b : Bool) → leb m limit ≡ b → cond b (S.Bytes m) (S.Refused R.SizeTooLarge) ≡ S.Refused R.SizeTooLarge → (n : ℕ) × (Some m ≡ Some n) × (limit < n)
+      go : (b : Bool) → leb m limit ≡ b → cond b (Ok (Some m)) (Err R.SizeTooLarge) ≡ Err R.SizeTooLarge → (n : ℕ) × (Some m ≡ Some n) × (limit < n)
       go true d e = let z : ◌≡◌ {A = ℕ} 0 1 = cc in absurd (omega arith)
       go false d e = (m, refl, leb-false m limit d)
 
-  sized-no-row : (x : Option ℕ) → sized limit x ≡ S.Refused R.NoSuchRow → ⊥
+  sized-no-row : (x : Option ℕ) → sized limit x ≡ Err R.NoSuchRow → ⊥
   unfolding sized
   sized-no-row None e = let z : ◌≡◌ {A = ℕ} 0 1 = cc in omega arith
   sized-no-row (Some m) e = go (leb m limit) e
     where
-      go : (b : Bool) → cond b (S.Bytes m) (S.Refused R.SizeTooLarge) ≡ S.Refused R.NoSuchRow → ⊥
+      go : (b : Bool) → cond b (Ok (Some m)) (Err R.SizeTooLarge) ≡ Err R.NoSuchRow → ⊥
       go true e = let z : ◌≡◌ {A = ℕ} 0 1 = cc in omega arith
       go false e = let z : ◌≡◌ {A = ℕ} 0 1 = cc in omega arith
 
 module _ (row : ℕ) (words names : List ℕ) where
-  pub refused-answer : {r : Refusal} → held words names ≡ refused r → size_answer row words names ≡ S.Refused r
+  pub refused-answer : {r : Refusal} → held words names ≡ refused r → size_answer row words names ≡ Err r
   unfolding size_answer of_sheet
   refused-answer e = rw e
 
@@ -73,17 +72,17 @@ module _ (row : ℕ) (words names : List ℕ) where
   unfolding size_answer of_sheet
   held-answer e = rw e
 
-  pub no_row : {t : Trees} → held words names ≡ holding t → is_row row ≡ false → size_answer row words names ≡ S.Refused R.NoSuchRow
+  pub no_row : {t : Trees} → held words names ≡ holding t → is_row row ≡ false → size_answer row words names ≡ Err R.NoSuchRow
   unfolding sized_in
   no_row h e = held-answer h ∙ rw e
 
-  pub from-no-row : size_answer row words names ≡ S.Refused R.NoSuchRow → (t : Trees) × (held words names ≡ holding t) × (is_row row ≡ false)
+  pub from-no-row : size_answer row words names ≡ Err R.NoSuchRow → (t : Trees) × (held words names ≡ holding t) × (is_row row ≡ false)
   unfolding size_answer of_sheet held sized_in
   from-no-row e = go (is_sheet words names) refl (good_names (tree_of words names)) refl (is_row row) refl e
     where
       go : (x : Bool) → is_sheet words names ≡ x → (y : Bool) → good_names (tree_of words names) ≡ y → (z : Bool) → is_row row ≡ z
-          → of_held S.Refused (λ t. cond z (sized (max_size row) (size (widths row) t)) (S.Refused R.NoSuchRow))
-          (cond x (cond y (holding (tree_of words names)) (refused R.BadName)) (refused R.NotASheet)) ≡ S.Refused R.NoSuchRow
+          → of_held Err (λ t. cond z (sized (max_size row) (size (widths row) t)) (Err R.NoSuchRow))
+          (cond x (cond y (holding (tree_of words names)) (refused R.BadName)) (refused R.NotASheet)) ≡ Err R.NoSuchRow
           → (t : Trees) × (held words names ≡ holding t) × (is_row row ≡ false)
       go true a true b true c e = absurd (sized-no-row (max_size row) (size (widths row) (tree_of words names)) e)
       go true a true b false c e = (tree_of words names, rw (a, b), c)
@@ -95,18 +94,18 @@ module _ (row : ℕ) (words names : List ℕ) where
     unfolding sized_in
     row-answer = held-answer h ∙ rw r
 
-    pub answer-nothing : (size_answer row words names ≡ S.Nothing) ↔ (size (widths row) t ≡ None)
+    pub answer-nothing : (size_answer row words names ≡ Ok None) ↔ (size (widths row) t ≡ None)
     unfolding sized
     answer-nothing = (λ e. sized-nothing (max_size row) (size (widths row) t) (sym row-answer ∙ e), λ e. row-answer ∙ ap (sized (max_size row)) e)
 
-    pub answer-bytes : (n : ℕ) → (size_answer row words names ≡ S.Bytes n) ↔ ((size (widths row) t ≡ Some n) × (n ≤ max_size row))
+    pub answer-bytes : (n : ℕ) → (size_answer row words names ≡ Ok (Some n)) ↔ ((size (widths row) t ≡ Some n) × (n ≤ max_size row))
     unfolding sized
     answer-bytes n = (
       λ e. sized-bytes (max_size row) (size (widths row) t) n (sym row-answer ∙ e),
       λ e. row-answer ∙ ap (sized (max_size row)) e.0 ∙ rw (le-leb n (max_size row) e.1),
     )
 
-    pub answer-large : (size_answer row words names ≡ S.Refused R.SizeTooLarge) ↔ ((n : ℕ) × (size (widths row) t ≡ Some n) × (max_size row < n))
+    pub answer-large : (size_answer row words names ≡ Err R.SizeTooLarge) ↔ ((n : ℕ) × (size (widths row) t ≡ Some n) × (max_size row < n))
     unfolding sized
     answer-large = (
       λ e. sized-large (max_size row) (size (widths row) t) (sym row-answer ∙ e),
@@ -117,23 +116,23 @@ module _ (row : ℕ) (words names : List ℕ) where
 
 module _ (words names : List ℕ) where
   -- Where one machine has no size for the tree, every row that there is answers so.
-  none-answer : (row : ℕ) (u : Widths) {t : Trees} → held words names ≡ holding t → is_row row ≡ true → is_none (size_from u Top t) ≡ true → size_answer row words names ≡ S.Nothing
+  none-answer : (row : ℕ) (u : Widths) {t : Trees} → held words names ≡ holding t → is_row row ≡ true → is_none (size_from u Top t) ≡ true → size_answer row words names ≡ Ok None
   unfolding size
   none-answer row u {t} h r e = (answer-nothing row words names h r).1 (none_is (size_from (widths row) Top t) (size_none (widths row) u Top t ∙ e))
 
-  pub other-answer : (row other : ℕ) → is_row row ≡ true → is_row other ≡ true → size_answer row words names ≡ S.Nothing → size_answer other words names ≡ S.Nothing
+  pub other-answer : (row other : ℕ) → is_row row ≡ true → is_row other ≡ true → size_answer row words names ≡ Ok None → size_answer other words names ≡ Ok None
   unfolding size is_none
   other-answer row other r q e = go (held words names) refl
     where
-      go : (x : Held) → held words names ≡ x → size_answer other words names ≡ S.Nothing
-      go (refused why) h = let z : ◌≡◌ {A = Sized} S.Nothing (S.Refused why) = sym e ∙ refused-answer row words names h in refused-answer other words names h ∙ sym z
+      go : (x : Held) → held words names ≡ x → size_answer other words names ≡ Ok None
+      go (refused why) h = let z : ◌≡◌ {A = (Result (Option ℕ) Refusal)} (Ok None) (Err why) = sym e ∙ refused-answer row words names h in refused-answer other words names h ∙ sym z
       go (holding t) h = none-answer other (widths row) h q (ap is_none ((answer-nothing row words names h r).0 e))
 
   pub struct-answer : (row : ℕ) (u : Widths) (s : List ℕ) (cs : Trees) → held words names ≡ holding (node (struct s) cs end) → one_none (sizes u Within cs) ≡ true → is_row row ≡ true
-      → size_answer row words names ≡ S.Nothing
+      → size_answer row words names ≡ Ok None
   struct-answer row u s cs h e r = none-answer row u h r (struct-none u Top refl s cs end ∙ e)
 
-  pub zero-answer : (row : ℕ) (u : Widths) (t : Trees) → held words names ≡ holding (node (array 0) t end) → is_none (size u t) ≡ false → is_row row ≡ true → size_answer row words names ≡ S.Bytes 0
+  pub zero-answer : (row : ℕ) (u : Widths) (t : Trees) → held words names ≡ holding (node (array 0) t end) → is_none (size u t) ≡ false → is_row row ≡ true → size_answer row words names ≡ Ok (Some 0)
   unfolding size
   zero-answer row u t h e r = (answer-bytes row words names h r 0).1 (zero-items (widths row) u Top t end e, omega arith)
 

@@ -17,7 +17,7 @@ use Rattle.kinds.specs.declared.Refusal.{Refusal}
 use Rattle.kinds.specs.declared.Refusal.TheVariants as R
 use Rattle.sheet.specs.Answer.{held, refused, holding}
 use Rattle.helper.specs.Answer.{max_size, sized_in, size_answer}
-use Rattle.helper.specs.declared.Sized.TheVariants.{Refused, Nothing, Bytes}
+use Rattle.std.specs.Prelude.{Ok, Err}
 use Rattle.row_agreement.specs.Cases.{AllHold, cases, table}
 use Rattle.row_agreement.specs.Lacking.{size_from, one_none, all_none, no_long_double, no_long, ints_for_longs}
 use Rattle.row_agreement.proofs.AnswerLaws.{refused-answer, no_row, from-no-row, answer-nothing, answer-bytes, answer-large, other-answer, struct-answer, zero-answer, intel-alike, guide-alike, guide-ints}
@@ -61,36 +61,36 @@ module _ (w u : Widths) where
 module _ (words names : List ℕ) where
   module _ (row : ℕ) where
     -- Refusals 3 and 4 go first, whatever the row number.
-    pub lists-first : {r : Refusal} → held words names ≡ refused r → size_answer row words names ≡ Refused r
+    pub lists-first : {r : Refusal} → held words names ≡ refused r → size_answer row words names ≡ Err r
     lists-first = refused-answer row words names
 
     -- Refusal 20 comes exactly where the lists hold a tree and no row has this number.
-    pub no-such-row : (size_answer row words names ≡ Refused R.NoSuchRow) ↔ ((t : Trees) × (held words names ≡ holding t) × (is_row row ≡ false))
+    pub no-such-row : (size_answer row words names ≡ Err R.NoSuchRow) ↔ ((t : Trees) × (held words names ≡ holding t) × (is_row row ≡ false))
     no-such-row = (from-no-row row words names, λ e. no_row row words names e.1 e.2)
 
     -- In a row that there is, the exact size decides: none, at most the row's largest, or refusal 6.
     module _ {t : Trees} (h : held words names ≡ holding t) (r : is_row row ≡ true) where
-      pub without-size : (size_answer row words names ≡ Nothing) ↔ (size (widths row) t ≡ None)
+      pub without-size : (size_answer row words names ≡ Ok None) ↔ (size (widths row) t ≡ None)
       without-size = answer-nothing row words names h r
 
-      pub in_bytes : (n : ℕ) → (size_answer row words names ≡ Bytes n) ↔ ((size (widths row) t ≡ Some n) × (n ≤ max_size row))
+      pub in_bytes : (n : ℕ) → (size_answer row words names ≡ Ok (Some n)) ↔ ((size (widths row) t ≡ Some n) × (n ≤ max_size row))
       in_bytes = answer-bytes row words names h r
 
-      pub too_large_lem : (size_answer row words names ≡ Refused R.SizeTooLarge) ↔ ((n : ℕ) × (size (widths row) t ≡ Some n) × (max_size row < n))
+      pub too_large_lem : (size_answer row words names ≡ Err R.SizeTooLarge) ↔ ((n : ℕ) × (size (widths row) t ≡ Some n) × (max_size row < n))
       too_large_lem = answer-large row words names h r
 
   -- No size in one row, no size in any.
-  pub without-size-anywhere : (row other : ℕ) → is_row row ≡ true → is_row other ≡ true → size_answer row words names ≡ Nothing → size_answer other words names ≡ Nothing
+  pub without-size-anywhere : (row other : ℕ) → is_row row ≡ true → is_row other ≡ true → size_answer row words names ≡ Ok None → size_answer other words names ≡ Ok None
   without-size-anywhere = other-answer words names
 
   -- None goes before too large: a struct with a field that has none has none in every row, however large the others are.
   pub none-before-large : (row : ℕ) (u : Widths) (s : List ℕ) (cs : Trees) → held words names ≡ holding (node (struct s) cs end) → one_none (sizes u Within cs) ≡ true → is_row row ≡ true
-      → size_answer row words names ≡ Nothing
+      → size_answer row words names ≡ Ok None
   none-before-large = struct-answer words names
 
   -- 0 times too large is 0: an array of no items has 0 bytes in every row if an item has a size on some machine, however large.
   pub zero-times-large : (row : ℕ) (u : Widths) (t : Trees) → held words names ≡ holding (node (array 0) t end) → is_none (size u t) ≡ false → is_row row ≡ true
-      → size_answer row words names ≡ Bytes 0
+      → size_answer row words names ≡ Ok (Some 0)
   zero-times-large = zero-answer words names
 
   -- Rows 0 and 1 answer alike for trees without long double.

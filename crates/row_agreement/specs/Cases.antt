@@ -6,8 +6,8 @@ use Rattle.kinds.specs.Parse.{Whole, tree, refusal, from_str}
 use Rattle.kinds.specs.Refusal.{number}
 use Rattle.kinds.specs.Tree.{end, node}
 use Rattle.helper.specs.Answer.{sized_in}
-use Rattle.helper.specs.declared.Sized.{Sized}
-use Rattle.helper.specs.declared.Sized.TheVariants as S
+use Rattle.std.specs.Prelude.{Option, Some, None, Result, Ok, Err}
+use Rattle.kinds.specs.declared.Refusal.{Refusal}
 
 -- No size, a size, or a refusal by its number; or the text is not read.
 pub data Told : Type 0 where
@@ -16,10 +16,10 @@ pub data Told : Type 0 where
   size : ℕ → Told
   refused : ℕ → Told
 
-abbrev pub told : Sized → Told
-told (S.Refused r) = refused (number r)
-told S.Nothing = nothing
-told (S.Bytes n) = size n
+abbrev pub told : Result (Option ℕ) Refusal → Told
+told (Err r) = refused (number r)
+told (Ok None) = nothing
+told (Ok (Some n)) = size n
 
 unfoldable pub told_of : ℕ → Whole → Told
 told_of row (tree l cs) = told (sized_in row (node l cs end))

@@ -318,25 +318,25 @@ module _ (words names : List ℕ) {c : Result Found Refusal} (g : Gives words na
   pub given-refused : {r : Refusal} → c ≡ Err r → held words names ≡ refused r
   given-refused e = subst (Gives words names) e g
 
-  pub given-code : {first k : ℕ} → c ≡ Ok (Found.Code first k) → CodeIn words names k
-  given-code e = (subst (Gives words names) e g).0
+  pub given-code : {x : Found} {first k : ℕ} → c ≡ Ok x → x ≡ Found.Code first k → CodeIn words names k
+  given-code d e = (subst (Gives words names) (d ∙ ap Ok e) g).0
 
   -- a code is one node
-  pub given-node : {first k : ℕ} → c ≡ Ok (Found.Code first k) → NodesIn words names first 1
-  given-node e = (subst (Gives words names) e g).1
+  pub given-node : {x : Found} {first k : ℕ} → c ≡ Ok x → x ≡ Found.Code first k → NodesIn words names first 1
+  given-node d e = (subst (Gives words names) (d ∙ ap Ok e) g).1
 
-  pub given-nodes : {first n : ℕ} → c ≡ Ok (Found.Nodes first n) → NodesIn words names first n
-  given-nodes e = subst (Gives words names) e g
+  pub given-nodes : {x : Found} {first n : ℕ} → c ≡ Ok x → x ≡ Found.Nodes first n → NodesIn words names first n
+  given-nodes d e = subst (Gives words names) (d ∙ ap Ok e) g
 
 module _ (aw an bw bn : List ℕ) {c : Result FoundBoth Refusal} (g : GivesBoth aw an bw bn c) where
   pub given-refused-both : {r : Refusal} → c ≡ Err r → held_both aw an bw bn ≡ refused_both r
   given-refused-both e = subst (GivesBoth aw an bw bn) e g
 
-  pub given-codes : {k j : ℕ} → c ≡ Ok (FoundBoth.Codes k j) → CodeIn aw an k × CodeIn bw bn j
-  given-codes e = subst (GivesBoth aw an bw bn) e g
+  pub given-codes : {x : FoundBoth} {k j : ℕ} → c ≡ Ok x → x ≡ FoundBoth.Codes k j → CodeIn aw an k × CodeIn bw bn j
+  given-codes d e = subst (GivesBoth aw an bw bn) (d ∙ ap Ok e) g
 
-  pub given-nodes-both : {f n h m : ℕ} → c ≡ Ok (FoundBoth.Nodes f n h m) → NodesIn aw an f n × NodesIn bw bn h m
-  given-nodes-both e = subst (GivesBoth aw an bw bn) e g
+  pub given-nodes-both : {x : FoundBoth} {f n h m : ℕ} → c ≡ Ok x → x ≡ FoundBoth.Nodes f n h m → NodesIn aw an f n × NodesIn bw bn h m
+  given-nodes-both d e = subst (GivesBoth aw an bw bn) (d ∙ ap Ok e) g
 
 -- The nodes as the code takes them out of the words, `&words[first..]`.
 pub nodes-part : {words names : List ℕ} {first n : ℕ} → NodesIn words names first n → NodesAre words names (take (length words - first) (drop first words)) n

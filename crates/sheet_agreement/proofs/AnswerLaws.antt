@@ -21,7 +21,6 @@ use Rattle.sheet.specs.Answer.{Held, refused, holding, held, of_held, of_sheet, 
 use Rattle.expect.specs.Answer.{compared}
 use Rattle.helper.specs.Answer.{sized_in, size_answer, compare_answer}
 use Rattle.static_str.specs.Answer.{fitted, placed, encoding_len, encoding_array, encoding_output}
-use Rattle.static_str.specs.declared.Printed.TheVariants.{Bytes}
 use Rattle.agreement.specs.ShownAlike.{ShownAlike}
 use Rattle.agreement.proofs.Agreement.{shown-alike}
 use Rattle.bounds.proofs.HeldLaws.{held-holds}
@@ -36,7 +35,7 @@ abbrev against : (Trees → Bool) → Held → Result Bool Refusal
 against answer h = of_held Err (λ u. Ok (answer u)) h
 
 module _ {w s : List ℕ} {t : Trees} (h : SheetOf w s t) where
-  length-answer : encoding_len w s ≡ Bytes (length (print Top t))
+  length-answer : encoding_len w s ≡ Ok (length (print Top t))
   unfolding encoding_len of_sheet
   length-answer = rw h.holds
 
@@ -106,7 +105,7 @@ module _ {aw an bw bn : List ℕ} {t u : Trees} (a : SheetOf aw an t) (b : Sheet
   pub answers-alike : SheetsAlike aw an bw bn
   unfolding equivalent_to
   answers-alike = record {
-    lengths = length-answer a ∙ ap (λ (x : List ℕ). Bytes (length x)) alike.prints ∙ sym (length-answer b);
+    lengths = length-answer a ∙ ap (λ (x : List ℕ). Ok (length x)) alike.prints ∙ sym (length-answer b);
     prints = λ room. print-answer a room ∙ ap (λ (x : List ℕ). fitted x room) alike.prints ∙ sym (print-answer b room);
     outputs = λ out. print-output a out ∙ ap (λ (x : List ℕ). placed x out) alike.prints ∙ sym (print-output b out);
     sizes = λ row. size-answer a row ∙ same_size row ∙ sym (size-answer b row);

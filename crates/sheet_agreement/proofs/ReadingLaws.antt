@@ -22,10 +22,8 @@ use Rattle.kinds.proofs.HoldsLaws.{sheet-length}
 use Rattle.kinds.proofs.TableLaws.{both}
 use Rattle.parse.specs.Answer.{has_room, turned_away, padded, filled, used, sheet_words, sheet_names, unless_away, words_after, names_after}
 use Rattle.parse.specs.Answer.{whole_tree, whole_reading, answer_or, from_str_answer, from_str_words, from_str_names, start_tree, start_reading, from_start_answer, from_start_words, from_start_names}
-use Rattle.parse.specs.declared.Reading.TheVariants.{Tree, Refused}
+use Rattle.std.specs.Prelude.{Ok, Err}
 use Rattle.static_str.specs.Answer.{fitted, placed, encoding_array, encoding_output}
-use Rattle.static_str.specs.declared.Printed.TheVariants as N
-use Rattle.static_str.specs.declared.Printed.TheVariants.{Bytes}
 use Rattle.bounds.proofs.HeldLaws.{holds-held}
 use Rattle.agreement.specs.Readable.{Readable}
 use Rattle.agreement.specs.ReadTree.{trees, read_tree}
@@ -84,24 +82,24 @@ module _ (text words names : List ℕ) where
   Left o = (t : Trees) × (o ≡ Some t) × SheetOf (words_after text words names o) (names_after text words names o) t
 
   pub whole-left : (q : Whole) → ((l : Label) (cs : Trees) → q ≡ tree l cs → Readable (length text) (node l cs end)) → (a : Option Refusal)
-      → turned_away text words names ≡ a → answer_or a (whole_reading q) ≡ Tree → Left (whole_tree q)
+      → turned_away text words names ≡ a → answer_or a (whole_reading q) ≡ Ok tt → Left (whole_tree q)
   unfolding Left answer_or whole_reading whole_tree
   whole-left q r (Some why) e h = let z : ◌≡◌ {A = ℕ} 0 1 = cc in absurd (omega arith)
   whole-left (tree l cs) r None e h = (node l cs end, refl, left text words names (node l cs end) (r l cs refl) e)
   whole-left (P.Whole.refusal x at) r None e h = let z : ◌≡◌ {A = ℕ} 0 1 = cc in absurd (omega arith)
 
-  pub whole-leaves : from_str_answer text words names ≡ Tree → (t : Trees) × (whole_tree (from_str text) ≡ Some t) × SheetOf (from_str_words text words names) (from_str_names text words names) t
+  pub whole-leaves : from_str_answer text words names ≡ Ok tt → (t : Trees) × (whole_tree (from_str text) ≡ Some t) × SheetOf (from_str_words text words names) (from_str_names text words names) t
   unfolding from_str_answer from_str_words from_str_names Left
   whole-leaves = whole-left (from_str text) (reads-readable text) (turned_away text words names) refl
 
   start_left : (q : FromStart) → ((l : Label) (cs : Trees) (s : List ℕ) → q ≡ tree_then l cs s → Readable (length text) (node l cs end)) → (a : Option Refusal)
-      → turned_away text words names ≡ a → answer_or a (start_reading q) ≡ Tree → Left (start_tree q)
+      → turned_away text words names ≡ a → answer_or a (start_reading q) ≡ Ok tt → Left (start_tree q)
   unfolding Left answer_or start_reading start_tree
   start_left q r (Some why) e h = let z : ◌≡◌ {A = ℕ} 0 1 = cc in absurd (omega arith)
   start_left (tree_then l cs s) r None e h = (node l cs end, refl, left text words names (node l cs end) (r l cs s refl) e)
   start_left (P.FromStart.refusal x at) r None e h = let z : ◌≡◌ {A = ℕ} 0 1 = cc in absurd (omega arith)
 
-  pub start-leaves : from_start_answer text words names ≡ Tree → (t : Trees) × (start_tree (from_start_of_str text) ≡ Some t) × SheetOf (from_start_words text words names) (from_start_names text words names) t
+  pub start-leaves : from_start_answer text words names ≡ Ok tt → (t : Trees) × (start_tree (from_start_of_str text) ≡ Some t) × SheetOf (from_start_words text words names) (from_start_names text words names) t
   unfolding from_start_answer from_start_words from_start_names Left
   start-leaves = start_left (from_start_of_str text) (starts-readable text) (turned_away text words names) refl
 
@@ -111,7 +109,7 @@ same_some : {a b : Trees} → Some a ≡ Some b → a ≡ b
 same_some e = cc
 
 module _ (text w n : List ℕ) (l : length text ≤ max_text) (a : used (length text) ≤ length w) (b : length text ≤ length n) where
-  answered : whole_reading (from_str text) ≡ Tree → from_str_answer text w n ≡ Tree
+  answered : whole_reading (from_str text) ≡ Ok tt → from_str_answer text w n ≡ Ok tt
   unfolding from_str_answer answer_or turned_away has_room
   answered h = rw (le-ltb max_text (length text) l, le-leb (used (length text)) (length w) a, le-leb (length text) (length n) b) h
 
@@ -122,32 +120,32 @@ shown-one (node l cs end) h = refl
 shown-one (node l cs (node m ds us)) h = h
 
 -- The text of a sound sheet is read as its shown part.
-text-read : (t : Trees) → sound t ≡ true → (whole_tree (from_str (print Top t)) ≡ Some (shown Top t)) × (whole_reading (from_str (print Top t)) ≡ Tree)
+text-read : (t : Trees) → sound t ≡ true → (whole_tree (from_str (print Top t)) ≡ Some (shown Top t)) × (whole_reading (from_str (print Top t)) ≡ Ok tt)
 unfolding sound read_tree trees is_one whole_tree whole_reading
 text-read t h = go (from_str (print Top t)) (reads-back t h) (shown-one t (both (is_one t) _ h).0)
   where
-    go : (q : Whole) → trees q ≡ shown Top t → is_one (shown Top t) ≡ true → (whole_tree q ≡ Some (shown Top t)) × (whole_reading q ≡ Tree)
+    go : (q : Whole) → trees q ≡ shown Top t → is_one (shown Top t) ≡ true → (whole_tree q ≡ Some (shown Top t)) × (whole_reading q ≡ Ok tt)
     go (tree l cs) e o = (ap Some e, refl)
     go (P.Whole.refusal x at) e o = absurd (false≢true (ap is_one e ∙ o))
 
-bytes-are : {a b : ℕ} → Bytes a ≡ Bytes b → a ≡ b
+bytes-are : {a b : ℕ} → Ok a ≡ Ok b → a ≡ b
 bytes-are e = cc
 
-not-bytes : {b : ℕ} → N.Refused OutputTooShort ≡ Bytes b → ⊥
+not-bytes : {b : ℕ} → Err OutputTooShort ≡ Ok b → ⊥
 not-bytes e = let z : ◌≡◌ {A = ℕ} 0 1 = cc in omega arith
 
 -- What printing wrote is the text of the tree.
 module _ (words names out : List ℕ) (t : Trees) (h : SheetOf words names t) (k : ℕ) where
-  written-fits : encoding_array words names (length out) ≡ Bytes k → (length (print Top t) ≡ k) × (k ≤ length out)
+  written-fits : encoding_array words names (length out) ≡ Ok k → (length (print Top t) ≡ k) × (k ≤ length out)
   unfolding fitted
   written-fits e = go (leb (length (print Top t)) (length out)) refl (sym (print-answer h (length out)) ∙ e)
     where
       go : (x : Bool) → leb (length (print Top t)) (length out) ≡ x
-          → cond (leb (length (print Top t)) (length out)) (Bytes (length (print Top t))) (N.Refused OutputTooShort) ≡ Bytes k → (length (print Top t) ≡ k) × (k ≤ length out)
+          → cond (leb (length (print Top t)) (length out)) (Ok (length (print Top t))) (Err OutputTooShort) ≡ Ok k → (length (print Top t) ≡ k) × (k ≤ length out)
       go true q g = let z : length (print Top t) ≡ k = bytes-are (rw q at g) in (z, omega (arith, leb-true (length (print Top t)) (length out) q))
       go false q g = absurd (not-bytes (rw q at g))
 
-  pub written-text : encoding_array words names (length out) ≡ Bytes k → take k (encoding_output words names out) ≡ print Top t
+  pub written-text : encoding_array words names (length out) ≡ Ok k → take k (encoding_output words names out) ≡ print Top t
   unfolding placed
   written-text e =
       let f = written-fits e in
@@ -155,8 +153,8 @@ module _ (words names out : List ℕ) (t : Trees) (h : SheetOf words names t) (k
       let o : encoding_output words names out ≡ s ++ drop (length s) out = print-output h out ∙ rw (le-leb (length s) (length out) (omega arith)) in
       rw (o, ← f.0) (take-append_seam s (drop (length s) out))
 
-pub back : (words names out w n : List ℕ) (t : Trees) (k : ℕ) → SoundSheet words names t → encoding_array words names (length out) ≡ Bytes k → k ≤ max_text → used k ≤ length w → k ≤ length n
-    → (from_str_answer (take k (encoding_output words names out)) w n ≡ Tree)
+pub back : (words names out w n : List ℕ) (t : Trees) (k : ℕ) → SoundSheet words names t → encoding_array words names (length out) ≡ Ok k → k ≤ max_text → used k ≤ length w → k ≤ length n
+    → (from_str_answer (take k (encoding_output words names out)) w n ≡ Ok tt)
     × SheetOf (from_str_words (take k (encoding_output words names out)) w n) (from_str_names (take k (encoding_output words names out)) w n) (shown Top t)
 back words names out w n t k h e l a b =
     let q = written-text words names out t h.sheet k e in
@@ -164,8 +162,8 @@ back words names out w n t k h e l a b =
     rw q (of-text (print Top t) (omega arith) (omega arith) (omega arith) (text-read t h.sound-tree))
   where
     of-text : (text : List ℕ) → length text ≤ max_text → used (length text) ≤ length w → length text ≤ length n
-        → (whole_tree (from_str text) ≡ Some (shown Top t)) × (whole_reading (from_str text) ≡ Tree)
-        → (from_str_answer text w n ≡ Tree) × SheetOf (from_str_words text w n) (from_str_names text w n) (shown Top t)
+        → (whole_tree (from_str text) ≡ Some (shown Top t)) × (whole_reading (from_str text) ≡ Ok tt)
+        → (from_str_answer text w n ≡ Ok tt) × SheetOf (from_str_words text w n) (from_str_names text w n) (shown Top t)
     of-text text i j m r =
         let x = whole-leaves text w n (answered text w n i j m r.1) in
         let d : x.0 ≡ shown Top t = same_some (sym x.1 ∙ r.0) in

@@ -15,7 +15,6 @@ use Rattle.kinds.specs.declared.NestingLevel.TheVariants.{Top}
 use Rattle.expect.specs.Answer.{compared}
 use Rattle.helper.specs.Answer.{compare_answer}
 use Rattle.static_str.specs.Answer.{fitted, placed, encoding_array, encoding_output}
-use Rattle.static_str.specs.declared.Printed.TheVariants.{Bytes}
 use Rattle.agreement.proofs.Agreement.{prints-alike, compares-alike}
 use Rattle.sheet_agreement.specs.Sheets.{SheetOf, SoundSheet, Answered, SheetsAlike}
 use Rattle.sheet_agreement.proofs.AnswerLaws.{print-answer, print-output, text-decided, answers, answers-alike}
@@ -30,7 +29,7 @@ sheets-alike aw an bw bn t u a b e = answers-alike a b e
 
 -- The printed text is what printing writes into an output with room: these bytes at the front and nothing beyond.
 pub printed-text : (words names out : List ℕ) (t : Trees) → SheetOf words names t → length (print Top t) ≤ length out
-    → (encoding_array words names (length out) ≡ Bytes (length (print Top t))) × (encoding_output words names out ≡ print Top t ++ drop (length (print Top t)) out)
+    → (encoding_array words names (length out) ≡ Ok (length (print Top t))) × (encoding_output words names out ≡ print Top t ++ drop (length (print Top t)) out)
 unfolding fitted placed
 printed-text words names out t h room = (rw (print-answer h (length out), le-leb _ _ room), rw (print-output h out, le-leb _ _ room))
 

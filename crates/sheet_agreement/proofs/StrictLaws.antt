@@ -15,9 +15,8 @@ use Rattle.kinds.specs.declared.NestingLevel.TheVariants.{Top}
 use Rattle.kinds.specs.declared.Refusal.{Refusal}
 use Rattle.parse.specs.Answer.{used, turned_away, sheet_words, sheet_names, unless_away, words_after, names_after, whole_tree, whole_reading, answer_or, from_str_answer, from_str_words, from_str_names}
 use Rattle.parse.specs.Answer.{from_str_strict_answer, from_str_strict_words, from_str_strict_names}
-use Rattle.parse.specs.declared.Reading.TheVariants.{Tree}
+use Rattle.std.specs.Prelude.{Ok}
 use Rattle.static_str.specs.Answer.{encoding_array, encoding_output}
-use Rattle.static_str.specs.declared.Printed.TheVariants.{Bytes}
 use Rattle.agreement.proofs.Agreement.{reads-readable}
 use Rattle.strict_agreement.specs.Surplus.{NoneMet, FirstMet}
 use Rattle.strict_agreement.proofs.Strict.{strict-or-whole, reads-prints}
@@ -35,7 +34,7 @@ strict_tree text l cs = go (first_surplus (numbers_met text))
     go None e = e
 
 module _ (text words names : List ℕ) where
-  pub strict-leaves : from_str_strict_answer text words names ≡ Tree
+  pub strict-leaves : from_str_strict_answer text words names ≡ Ok tt
       → (t : Trees) × (whole_tree (from_str_strict text) ≡ Some t) × SheetOf (from_str_strict_words text words names) (from_str_strict_names text words names) t
   unfolding from_str_strict_answer from_str_strict_words from_str_strict_names Left
   strict-leaves = whole-left text words names (from_str_strict text) (λ l cs e. reads-readable text l cs (strict_tree text l cs e)) (turned_away text words names) refl
@@ -72,8 +71,8 @@ module _ (text words names : List ℕ) where
       go None e (inr m) = inr (refuses e m)
 
 -- A print is read strictly as it is read.
-pub strict-back : (words names out w n : List ℕ) (t : Trees) (k : ℕ) → SoundSheet words names t → encoding_array words names (length out) ≡ Bytes k → k ≤ max_text → used k ≤ length w → k ≤ length n
-    → (from_str_strict_answer (take k (encoding_output words names out)) w n ≡ Tree)
+pub strict-back : (words names out w n : List ℕ) (t : Trees) (k : ℕ) → SoundSheet words names t → encoding_array words names (length out) ≡ Ok k → k ≤ max_text → used k ≤ length w → k ≤ length n
+    → (from_str_strict_answer (take k (encoding_output words names out)) w n ≡ Ok tt)
     × SheetOf (from_str_strict_words (take k (encoding_output words names out)) w n) (from_str_strict_names (take k (encoding_output words names out)) w n) (shown Top t)
 strict-back words names out w n t k h e l a b =
     let text : List ℕ = take k (encoding_output words names out) in

@@ -11,7 +11,6 @@ use Rattle.sheet.specs.Answer.{held, holding}
 use Rattle.expect.specs.Answer.{compared}
 use Rattle.helper.specs.Answer.{sized_in, size_answer, compare_answer}
 use Rattle.static_str.specs.Answer.{fitted, placed, encoding_len, encoding_array, encoding_output}
-use Rattle.static_str.specs.declared.Printed.TheVariants.{Bytes}
 use Rattle.agreement.specs.Sound.{sound}
 
 -- The lists begin with a sheet without bad names, and it holds `t`.
@@ -25,7 +24,7 @@ pub record SoundSheet (words names : List ℕ) (t : Trees) : Type 0 where
 
 -- What the calls answer and leave for a sheet of `t`: none of them refuses it by 3 or 4.
 pub record Answered (words names : List ℕ) (t : Trees) : Type 0 where
-  pub lengths : encoding_len words names ≡ Bytes (length (print Top t))
+  pub lengths : encoding_len words names ≡ Ok (length (print Top t))
   pub prints : (room : ℕ) → encoding_array words names room ≡ fitted (print Top t) room
   pub outputs : (out : List ℕ) → encoding_output words names out ≡ placed (print Top t) out
   -- In every row, and where the number is no row's.

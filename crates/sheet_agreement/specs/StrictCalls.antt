@@ -4,7 +4,7 @@ use Rattle.std.specs.Prelude.{None}
 use Rattle.kinds.specs.declared.ErrorKind.TheVariants.{SurplusZero}
 use Rattle.kinds.specs.declared.Refusal.TheVariants.{Parse}
 use Rattle.parse.specs.Answer.{used, turned_away, filled, from_str_answer, from_str_words, from_str_names, from_str_strict_answer, from_str_strict_words, from_str_strict_names}
-use Rattle.parse.specs.declared.Reading.TheVariants.{Refused}
+use Rattle.std.specs.Prelude.{Err}
 use Rattle.strict_agreement.specs.Surplus.{FirstMet}
 
 -- The same answer, and the same in both lists.
@@ -17,6 +17,6 @@ pub record CallsAlike (text words names : List ℕ) : Type 0 where
 pub record CallRefuses (text words names : List ℕ) : Type 0 where
   pub room : turned_away text words names ≡ None
   pub first : FirstMet text
-  pub answers : from_str_strict_answer text words names ≡ Refused (Parse SurplusZero (length first.before))
+  pub answers : from_str_strict_answer text words names ≡ Err (Parse SurplusZero (length first.before))
   pub clears : from_str_strict_words text words names ≡ filled (used (length text)) [] words
   pub empties : from_str_strict_names text words names ≡ filled (length text) [] names

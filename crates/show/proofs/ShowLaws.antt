@@ -13,8 +13,7 @@ use borrow.Author.Tests.{le-leb, lt-leb, lt-ltb, le-ltb, eq-eqb, ne_eqb, eqb-fal
 use Rattle.kinds.proofs.ListLaws.{unread, unread-end}
 use Rattle.kinds.specs.Byte.{bytes}
 use Rattle.lines.specs.Answer.{until, decimals, is_decimals, decimals_answer}
-use Rattle.lines.specs.declared.Decoded.{Decoded}
-use Rattle.lines.specs.declared.Decoded.TheVariants.{Items, Bad}
+use Rattle.std.specs.Prelude.{Option, Some, None}
 use Rattle.lines.proofs.PutLaws.{sets-out}
 use Rattle.kinds.specs.Print.{decimal}
 use Rattle.show.specs.Answer.{count_of, shown_byte, times, holders, depth_of, line_of, count_text, kind_names, values_text, right_text, type_text, column_text, entry_text}
@@ -184,19 +183,19 @@ module _ (s : List ℕ) where
     unfolding is_number
     is_read = let j : 0 < length s = omega (arith, h) in sym (rw (lt-ltb 0 (length s) j, le-leb (length s) 20 k))
 
-    pub number_read : (d : Decoded) (n : ℕ) → d ≡ Items n → d ≡ decimals_answer s 1 → true ≡ is_number s
+    pub number_read : (d : Option ℕ) (n : ℕ) → d ≡ Some n → d ≡ decimals_answer s 1 → true ≡ is_number s
     unfolding decimals_answer
     number_read d n e f = go (is_decimals 0 s && leb (length (decimals 0 s)) 1) (sym e ∙ f) ∙ is_read
       where
-        go : (t : Bool) → Items n ≡ cond t (Items (length (decimals 0 s))) Bad → true ≡ t
+        go : (t : Bool) → Some n ≡ cond t (Some (length (decimals 0 s))) None → true ≡ t
         go true p = refl
         go false p = cc
 
-    pub number-bad : (d : Decoded) → d ≡ Bad → d ≡ decimals_answer s 1 → false ≡ is_number s
+    pub number-bad : (d : Option ℕ) → d ≡ None → d ≡ decimals_answer s 1 → false ≡ is_number s
     unfolding decimals_answer
     number-bad d e f = go (is_decimals 0 s && leb (length (decimals 0 s)) 1) (sym e ∙ f) ∙ is_read
       where
-        go : (t : Bool) → Bad ≡ cond t (Items (length (decimals 0 s))) Bad → false ≡ t
+        go : (t : Bool) → None ≡ cond t (Some (length (decimals 0 s))) None → false ≡ t
         go true p = cc
         go false p = refl
 

@@ -2,10 +2,8 @@
 use Rattle.std.specs.Prelude.{ℕ, zero, suc, ◌+◌, ◌-◌, ◌*◌, Bool, cond, ◌&&◌, ◌||◌, List, [], ◌∷◌, ◌++◌, leb, ltb, eqb, length, take, drop, get_or}
 use Rattle.kinds.specs.Byte.{byte, bytes}
 use Rattle.kinds.specs.Print.{decimal}
-use Rattle.helper.specs.declared.Sized.{Sized}
-use Rattle.helper.specs.declared.Sized.TheVariants as S
-use Rattle.layout.specs.declared.LaidOut.{LaidOut}
-use Rattle.layout.specs.declared.LaidOut.TheVariants as A
+use Rattle.std.specs.Prelude.{Option, Some, None, Result, Ok, Err}
+use Rattle.kinds.specs.declared.Refusal.{Refusal}
 use Rattle.lines.specs.Answer.{until, each, decimals, is_decimals}
 use Rattle.reason.specs.Reason as R
 
@@ -97,13 +95,13 @@ offset_text field offset = cond field (column_text offset 1000000000) (bytes "  
 
 -- The size and the alignment of a node, by the library's answer for what it holds as a tree of its own; nothing of a node that is not laid out. Such a part
 -- can be too large where the whole is not: it is the item of an array of length 0.
-unfoldable pub extent_text : LaidOut → List ℕ
-extent_text (A.Refused why) = bytes "   too large       "
-extent_text A.Nothing = bytes "                   "
-extent_text (A.Bytes n a) = column_text n 1000000000 ++ column_text a 10000
+unfoldable pub extent_text : Result (Option (ℕ × ℕ)) Refusal → List ℕ
+extent_text (Err why) = bytes "   too large       "
+extent_text (Ok None) = bytes "                   "
+extent_text (Ok (Some (n, a))) = column_text n 1000000000 ++ column_text a 10000
 
 -- The line of node `i`: its number, its offset if it is a field, its size and alignment, and its type.
-unfoldable pub laid_text : List ℕ → List ℕ → ℕ → Bool → ℕ → LaidOut → List ℕ
+unfoldable pub laid_text : List ℕ → List ℕ → ℕ → Bool → ℕ → Result (Option (ℕ × ℕ)) Refusal → List ℕ
 laid_text w names i field offset x = right_text i 1000 ++ (offset_text field offset ++ (extent_text x ++ (bytes "  " ++ type_text w names i)))
 
 -- The line of the padding after node `i`: where it begins, its bytes, and the word, as deep as the node.
@@ -127,17 +125,17 @@ unfoldable pub limit_text : ℕ → List ℕ
 limit_text row = cond (eqb row 2) (bytes "above 2^32 - 1 bytes") (bytes "above 2^64 - 1 bytes")
 
 -- A size in a row. A tree that was read is refused in a row of the table only for its size.
-unfoldable pub size_text : ℕ → Sized → List ℕ
-size_text row (S.Refused why) = limit_text row
-size_text row S.Nothing = bytes "no size"
-size_text row (S.Bytes n) = count_text n (bytes "byte")
+unfoldable pub size_text : ℕ → Result (Option ℕ) Refusal → List ℕ
+size_text row (Err why) = limit_text row
+size_text row (Ok None) = bytes "no size"
+size_text row (Ok (Some n)) = count_text n (bytes "byte")
 
 -- The machines, a line for each row.
 unfoldable pub machine_names : List ℕ
 machine_names = bytes "  64-bit Apple ARM  \n  x86_64            \n  32-bit ARM        \n  the guide's long  "
 
 -- The line of a row: its number, its machine and the size there.
-unfoldable pub size_line : ℕ → Sized → List ℕ
+unfoldable pub size_line : ℕ → Result (Option ℕ) Refusal → List ℕ
 size_line row s = right_text row 100 ++ (line_of row machine_names ++ size_text row s)
 
 -- One number of 1 to 20 digits that is below 2^64.

@@ -9,10 +9,7 @@ ghost use Rattle.show.specs.Answer.{byte_text, container_text, shown_or_cut, mar
 ghost use Rattle.show.specs.Answer.{is_number, limit_text, size_text, size_line};
 ghost use Rattle.show.specs.Answer.{kind_text, place_text, unit_text, value_text, difference_by, difference_text};
 
-use helper::Sized;
-use kinds::{ARRAY, BIT_FIELD, MAX_TEXT, PRIMITIVES, STRUCT, TYPED_BIT_FIELD, UNION};
-use layout::LaidOut;
-use lines::Decoded;
+use kinds::{ARRAY, BIT_FIELD, MAX_TEXT, PRIMITIVES, Refusal, STRUCT, TYPED_BIT_FIELD, UNION};
 
 // At most `n` items of `s` from `from` on.
 fn part(s: &[u8], from: usize, n: usize) -> &[u8]
@@ -219,13 +216,13 @@ fn put_offset(out: &mut [u8], at: usize, field: bool, offset: u64) -> usize
 }
 
 // The size and the alignment of a node; nothing of one that is not laid out.
-fn put_extent(out: &mut [u8], at: usize, extent: LaidOut) -> usize
+fn put_extent(out: &mut [u8], at: usize, extent: Result<Option<(u64, u64)>, Refusal>) -> usize
     ensures { Put out.old at (extent_text extent) out.new result }
 {
     match extent {
-        LaidOut::Refused(_) => lines::put_bytes(out, at, b"   too large       "),
-        LaidOut::Nothing => lines::put_bytes(out, at, b"                   "),
-        LaidOut::Bytes(n, alignment) => {
+        Err(_) => lines::put_bytes(out, at, b"   too large       "),
+        Ok(None) => lines::put_bytes(out, at, b"                   "),
+        Ok(Some((n, alignment))) => {
             let to = put_column(out, at, n, 1000000000);
             put_column(out, to, alignment, 10000)
         }
@@ -240,7 +237,7 @@ pub fn put_laid(
     i: u16,
     field: bool,
     offset: u64,
-    extent: LaidOut,
+    extent: Result<Option<(u64, u64)>, Refusal>,
 ) -> usize
     ensures { Put out.old 0 (laid_text nodes.now names.now i field offset extent) out.new result }
 {
@@ -283,18 +280,18 @@ fn put_limit(out: &mut [u8], at: usize, row: u64) -> usize
 }
 
 // A size in a row. A tree that was read is refused in a row of the table only for its size.
-fn put_size(out: &mut [u8], at: usize, row: u64, size: Sized) -> usize
+fn put_size(out: &mut [u8], at: usize, row: u64, size: Result<Option<u64>, Refusal>) -> usize
     ensures { Put out.old at (size_text row size) out.new result }
 {
     match size {
-        Sized::Refused(_) => put_limit(out, at, row),
-        Sized::Nothing => lines::put_bytes(out, at, b"no size"),
-        Sized::Bytes(n) => put_count(out, at, n, b"byte"),
+        Err(_) => put_limit(out, at, row),
+        Ok(None) => lines::put_bytes(out, at, b"no size"),
+        Ok(Some(n)) => put_count(out, at, n, b"byte"),
     }
 }
 
 // The line of a row: its number, its machine and the size there.
-pub fn put_size_line(out: &mut [u8], row: u64, size: Sized) -> usize
+pub fn put_size_line(out: &mut [u8], row: u64, size: Result<Option<u64>, Refusal>) -> usize
     ensures { Put out.old 0 (size_line row size) out.new result }
 {
     let machines =
@@ -433,8 +430,8 @@ pub fn is_number(s: &[u8]) -> bool
         return false;
     }
     match lines::decode_words(s, &mut list) {
-        Decoded::Items(_) => true,
-        Decoded::Bad => false,
+        Some(_) => true,
+        None => false,
     }
 }
 

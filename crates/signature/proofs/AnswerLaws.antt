@@ -17,7 +17,7 @@ use Rattle.parse.specs.Answer.{padded, filled, unless_away}
 use Rattle.signature.specs.Answer.{used, turned_away, numbers, kept, reading, answer_or, signature_answer, signature_list}
 use Rattle.signature.specs.Reads.{EntryAt, add_entries, ReadTo, SomeRead, EntriesRead}
 use Rattle.signature.specs.Signature.{Entry, entry, Signature, entries, refused, add_entry, signature_from, signature}
-use Rattle.signature.specs.declared.SignatureReading.TheVariants as S
+use Rattle.std.specs.Prelude.{Ok, Err}
 use Rattle.signature.proofs.ListLaws.{length-numbers, holds_more, cleared-behind, cleared-all}
 
 -- ---- Entries, one after the other.
@@ -61,7 +61,7 @@ module _ (text before now : List ℕ) (at k : ℕ) (r : ReadTo text before now a
       step z h zero m = absurd (omega (arith, length-drop at text, e.onward, e.within))
       step z h (suc g) m = e.says g ∙ ap (add_entry (entry at size number)) (h g (omega (arith, length-drop at text, length-drop next text, e.onward, e.within)))
 
-  pub read-refused : (why : Refusal) → at < length text → ((f : ℕ) → signature_from (suc f) (length text) (drop at text) ≡ refused why) → EntriesRead text before now (S.Refused why)
+  pub read-refused : (why : Refusal) → at < length text → ((f : ℕ) → signature_from (suc f) (length text) (drop at text) ≡ refused why) → EntriesRead text before now (Err why)
   read-refused why h e = (
     record { read = r.read; few = omega (arith, r.many, r.few, r.within); stands = r.stands },
     λ f l. r.goes_on (refused why) step f l ∙ add-refused r.read why,
@@ -71,7 +71,7 @@ module _ (text before now : List ℕ) (at k : ℕ) (r : ReadTo text before now a
       step zero l = absurd (omega (arith, length-drop at text))
       step (suc f) l = e f
 
-  pub read_all : length text ≤ at → EntriesRead text before now (S.Entries k)
+  pub read_all : length text ≤ at → EntriesRead text before now (Ok k)
   unfolding signature_from
   read_all h =
       let same : at ≡ length text = omega (arith, r.within) in
@@ -96,7 +96,7 @@ module _ (text list : List ℕ) where
   unfolding turned_away
   has_room_lem h l = rw (le-ltb max_text (length text) h, le-leb (used (length text)) (length list) l)
 
-  pub answer-away : (r : Refusal) → turned_away text list ≡ Some r → (S.Refused r ≡ signature_answer text list) × (list ≡ signature_list text list)
+  pub answer-away : (r : Refusal) → turned_away text list ≡ Some r → (Err r ≡ signature_answer text list) × (list ≡ signature_list text list)
   unfolding signature_answer answer_or signature_list unless_away
   answer-away r e = (
     sym (ap (λ o. answer_or o (reading (signature text))) e),
@@ -112,7 +112,7 @@ module _ (text list : List ℕ) where
   )
 
 -- An empty signature is refused, and its part of the list is empty.
-pub answer-empty : (text list : List ℕ) → length text ≡ 0 → (S.Refused EmptySignature ≡ signature_answer text list) × (list ≡ signature_list text list)
+pub answer-empty : (text list : List ℕ) → length text ≡ 0 → (Err EmptySignature ≡ signature_answer text list) × (list ≡ signature_list text list)
 unfolding signature reading kept filled padded
 answer-empty [] list h = answer-read [] list (refused EmptySignature) (has_room_lem [] list (omega arith) (omega arith)) refl
 answer-empty (b ∷ s) list h = absurd (omega arith)
@@ -126,7 +126,7 @@ signature-is (b ∷ s) z h e = e (length (b ∷ s)) (omega arith)
 pub few-numbers : (text before after : List ℕ) (r : SomeRead text before after) → length (numbers r.read) ≤ used (length text)
 few-numbers text before after r = omega (arith, length-numbers r.read, r.few)
 
-pub few-entries : (text before after : List ℕ) (k : ℕ) → EntriesRead text before after (S.Entries k) → 3 * k ≤ used (length text)
+pub few-entries : (text before after : List ℕ) (k : ℕ) → EntriesRead text before after (Ok k) → 3 * k ≤ used (length text)
 few-entries text before after k r = omega (arith, r.0.few, r.1.0)
 
 module _ (text before now : List ℕ) (some-text : 0 < length text) (short : length text ≤ max_text) (room : used (length text) ≤ length before) (r : SomeRead text before now) where
@@ -136,19 +136,19 @@ module _ (text before now : List ℕ) (some-text : 0 < length text) (short : len
   -- Read to the end: what is left of the part is cleared.
   pub all-answered : (k : ℕ) (zs : List ℕ) → length r.read ≡ k → ((f : ℕ) → length text ≤ f → signature_from f (length text) text ≡ entries r.read)
       → zs ≡ replicate (length (mid_of (3 * k) (used (length text) - 3 * k) now)) 0
-      → (S.Entries k ≡ signature_answer text before) × (put_mid (3 * k) (used (length text) - 3 * k) now zs ≡ signature_list text before)
+      → (Ok k ≡ signature_answer text before) × (put_mid (3 * k) (used (length text) - 3 * k) now zs ≡ signature_list text before)
   unfolding reading kept
   all-answered k zs n e z =
       let a = answer-read text before (entries r.read) (has_room_lem text before short room) (signature-is text (entries r.read) some-text e) in
       let place : 3 * k ≡ length (numbers r.read) = omega (arith, length-numbers r.read) in
       let cleared = cleared-behind (used (length text)) (numbers r.read) before (few-numbers text before now r) room zs
       (z ∙ ap₂ (λ (j : ℕ) (l : List ℕ). replicate (length (mid_of j (used (length text) - j) l)) 0) place r.stands) same_length in
-      (ap S.Entries (sym n) ∙ a.0, ap₂ (λ (j : ℕ) (l : List ℕ). put_mid j (used (length text) - j) l zs) place r.stands ∙ cleared ∙ a.1)
+      (ap Ok (sym n) ∙ a.0, ap₂ (λ (j : ℕ) (l : List ℕ). put_mid j (used (length text) - j) l zs) place r.stands ∙ cleared ∙ a.1)
 
   -- Refused: the whole part is cleared.
   pub refused-answered : (why : Refusal) (zs : List ℕ) → ((f : ℕ) → length text ≤ f → signature_from f (length text) text ≡ refused why)
       → zs ≡ replicate (length (mid_of 0 (used (length text) - 0) now)) 0
-      → (S.Refused why ≡ signature_answer text before) × (put_mid 0 (used (length text) - 0) now zs ≡ signature_list text before)
+      → (Err why ≡ signature_answer text before) × (put_mid 0 (used (length text) - 0) now zs ≡ signature_list text before)
   unfolding reading kept
   refused-answered why zs e z =
       let a = answer-read text before (refused why) (has_room_lem text before short room) (signature-is text (refused why) some-text e) in

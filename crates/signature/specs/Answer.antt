@@ -6,8 +6,7 @@ use Rattle.kinds.specs.declared.Refusal.{Refusal}
 use Rattle.kinds.specs.declared.Refusal.TheVariants.{TextTooLong, ListTooShort}
 use Rattle.parse.specs.Answer.{filled, unless_away}
 use Rattle.signature.specs.Signature.{Entry, entry, Signature, entries, refused, signature}
-use Rattle.signature.specs.declared.SignatureReading.{SignatureReading}
-use Rattle.signature.specs.declared.SignatureReading.TheVariants.{Entries, Refused}
+use Rattle.std.specs.Prelude.{Result, Ok, Err}
 
 -- The numbers that a signature of `l` bytes uses: three for each of at most half as many entries, rounded down.
 abbrev pub used : ℕ → ℕ
@@ -27,16 +26,16 @@ unfoldable pub kept : Signature → List ℕ
 kept (entries es) = numbers es
 kept (refused r) = []
 
-unfoldable pub reading : Signature → SignatureReading
-reading (entries es) = Entries (length es)
-reading (refused r) = Refused r
+unfoldable pub reading : Signature → Result ℕ Refusal
+reading (entries es) = Ok (length es)
+reading (refused r) = Err r
 
-unfoldable pub answer_or : Option Refusal → SignatureReading → SignatureReading
-answer_or (Some r) a = Refused r
+unfoldable pub answer_or : Option Refusal → Result ℕ Refusal → Result ℕ Refusal
+answer_or (Some r) a = Err r
 answer_or None a = a
 
 -- The answer of `parse_signature`.
-unfoldable pub signature_answer : List ℕ → List ℕ → SignatureReading
+unfoldable pub signature_answer : List ℕ → List ℕ → Result ℕ Refusal
 signature_answer text list = answer_or (turned_away text list) (reading (signature text))
 
 -- The list after `parse_signature`.

@@ -9,8 +9,8 @@ use Rattle.signature.specs.Answer.{numbers}
 use Rattle.signature.specs.Signature.{Entry, entry, Signature, entries, refused, add_entry, Offset, offset, no_offset, parse_offset, signature_from}
 use Rattle.signature.specs.declared.Next.{Next}
 use Rattle.signature.specs.declared.Next.TheVariants as N
-use Rattle.signature.specs.declared.SignatureReading.{SignatureReading}
-use Rattle.signature.specs.declared.SignatureReading.TheVariants as S
+use Rattle.std.specs.Prelude.{Result, Ok, Err}
+use Rattle.kinds.specs.declared.Refusal.{Refusal}
 
 -- A digit where a type should begin is refused at its own place, the others where reading met them.
 abbrev pub own_place : ErrorKind → ℕ → ℕ
@@ -65,7 +65,7 @@ pub record SomeRead (text before after : List ℕ) : Type 0 where
   pub stands : after ≡ holding read before
 
 -- All were read, or a refusal was met.
-abbrev pub EntriesRead : List ℕ → List ℕ → List ℕ → SignatureReading → Type 0
-EntriesRead text before after (S.Entries k) =
+abbrev pub EntriesRead : List ℕ → List ℕ → List ℕ → Result ℕ Refusal → Type 0
+EntriesRead text before after (Ok k) =
     (r : SomeRead text before after) × ((length r.read ≡ k) × ((f : ℕ) → length text ≤ f → signature_from f (length text) text ≡ entries r.read))
-EntriesRead text before after (S.Refused why) = SomeRead text before after × ((f : ℕ) → length text ≤ f → signature_from f (length text) text ≡ refused why)
+EntriesRead text before after (Err why) = SomeRead text before after × ((f : ℕ) → length text ≤ f → signature_from f (length text) text ≡ refused why)

@@ -12,13 +12,6 @@ use numbers::{Digits, Number, is_digit, parse_u32};
 use sheet::clear_words;
 use skip::{SkippedPart, skip_encoding_or_none};
 
-// How many entries the list now has, or why there are none.
-#[derive(Clone, Copy)]
-pub enum SignatureReading {
-    Entries(usize),
-    Refused(Refusal),
-}
-
 // A type's length and number with the place after the number and what its digits show, or why there is no entry.
 #[derive(Clone, Copy)]
 enum Next {
@@ -84,7 +77,7 @@ fn put_entry(list: &mut [u64], k: usize, start: usize, size: usize, number: u64)
 }
 
 // All entries, one after the other; a refusal leaves those before it.
-fn read_entries(text: &[u8], list: &mut [u64]) -> SignatureReading
+fn read_entries(text: &[u8], list: &mut [u64]) -> Result<usize, Refusal>
     requires { used (length text.now) ≤ length list.old }
     ensures { EntriesRead text.now list.old list.new result }
 {
@@ -93,7 +86,7 @@ fn read_entries(text: &[u8], list: &mut [u64]) -> SignatureReading
     while at < text.len() {
         match next_entry(text, at) {
             Next::Refused(why) => {
-                return SignatureReading::Refused(why);
+                return Err(why);
             }
             Next::Entry(size, number, next, _) => {
                 put_entry(list, k, at, size, number);
@@ -102,34 +95,34 @@ fn read_entries(text: &[u8], list: &mut [u64]) -> SignatureReading
             }
         }
     }
-    SignatureReading::Entries(k)
+    Ok(k)
 }
 
 // Reads a whole signature. What its part of the list does not hold is cleared after reading, so that an accepted one is written once.
-pub fn parse_signature(text: &[u8], list: &mut [u64]) -> SignatureReading
+pub fn parse_signature(text: &[u8], list: &mut [u64]) -> Result<usize, Refusal>
     ensures answers { result ≡ signature_answer text.now list.old }
     ensures fills { list.new ≡ signature_list text.now list.old }
 {
     let n = text.len();
     if MAX_TEXT < n {
-        return SignatureReading::Refused(Refusal::TextTooLong);
+        return Err(Refusal::TextTooLong);
     }
     let part = 3 * (n / 2);
     if list.len() < part {
-        return SignatureReading::Refused(Refusal::ListTooShort);
+        return Err(Refusal::ListTooShort);
     }
     if n == 0 {
-        return SignatureReading::Refused(Refusal::EmptySignature);
+        return Err(Refusal::EmptySignature);
     }
     match read_entries(text, list) {
-        SignatureReading::Refused(why) => {
+        Err(why) => {
             clear_words(&mut list[0..part]);
-            SignatureReading::Refused(why)
+            Err(why)
         }
-        SignatureReading::Entries(k) => {
+        Ok(k) => {
             let from = 3 * k;
             clear_words(&mut list[from..part]);
-            SignatureReading::Entries(k)
+            Ok(k)
         }
     }
 }

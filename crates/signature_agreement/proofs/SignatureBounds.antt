@@ -9,14 +9,14 @@ use Rattle.kinds.specs.Sheet.{max_text}
 use Rattle.kinds.specs.declared.Refusal.TheVariants.{TextTooLong, ListTooShort}
 use Rattle.signature.specs.Answer.{reading, signature_answer}
 use Rattle.signature.specs.Signature.{entries, signature}
-use Rattle.signature.specs.declared.SignatureReading.TheVariants.{Refused}
+use Rattle.std.specs.Prelude.{Err}
 use Rattle.signature.proofs.AnswerLaws.{too_long, too_short_lem, has_room_lem, answer-away, answer-read}
 use Rattle.signature_agreement.specs.Limits.{signature_for, max_signature, ints}
 use Rattle.signature_agreement.specs.Written.{written, entries_for}
 use Rattle.signature_agreement.proofs.IntLaws.{ints-read, ints-length, ints-entries}
 
 -- A signature of more than 2,000 bytes is refused by 1, whatever is lent.
-pub signature-too-long : (text list : List ℕ) → max_text < length text → signature_answer text list ≡ Refused TextTooLong
+pub signature-too-long : (text list : List ℕ) → max_text < length text → signature_answer text list ≡ Err TextTooLong
 signature-too-long text list h = sym (answer-away text list TextTooLong (too_long text list h)).0
 
 -- With a list of this length the answer is what the signature gives: refusals 1 and 2 do not occur.
@@ -25,7 +25,7 @@ pub room-for-signature : (text list : List ℕ) → length text ≤ max_text →
 room-for-signature text list h l = sym (answer-read text list (signature text) (has_room_lem text list h l) refl).0
 
 -- With a number fewer it is refused by 2.
-pub too-few-numbers : (text list : List ℕ) → length text ≤ max_text → length list < signature_for (length text) → signature_answer text list ≡ Refused ListTooShort
+pub too-few-numbers : (text list : List ℕ) → length text ≤ max_text → length list < signature_for (length text) → signature_answer text list ≡ Err ListTooShort
 too-few-numbers text list h l = sym (answer-away text list ListTooShort (too_short_lem text list h l)).0
 
 -- No signature needs more than 3,000 numbers.

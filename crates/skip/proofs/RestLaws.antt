@@ -22,8 +22,7 @@ use Rattle.numbers.proofs.NumberLaws.{LeftOf, left-number}
 use Rattle.names.proofs.NameLaws.{NamedOf, name-found}
 use Rattle.codes.proofs.TokenLaws.{Simple, is-primitive, is-bit-field, is-typed, is-refused, simple-complex, simple-object, simple-number}
 use Rattle.skip.specs.Answer.{skipped_at, encoding_at}
-use Rattle.skip.specs.declared.SkippedFields.{SkippedFields}
-use Rattle.skip.specs.declared.SkippedFields.TheVariants.{To, Refused}
+use Rattle.std.specs.Prelude.{Option, Some, None}
 use Rattle.skip.specs.declared.SkippedPart.{SkippedPart}
 use Rattle.skip.specs.declared.SkippedPart.TheVariants as P
 
@@ -150,16 +149,16 @@ left_over s (items ts t) r = r
 left_over s (items_refused e t) r = tt
 
 -- Of an answer: what is left, and that its place is within the text.
-abbrev pub SkippedIs : List ℕ → SkippedFields → Expected → Type 0
-SkippedIs text (To to) q = (q ≡ remaining (drop to text)) × (to ≤ length text)
-SkippedIs text Refused q = q ≡ mismatch
+abbrev pub SkippedIs : List ℕ → Option ℕ → Expected → Type 0
+SkippedIs text (Some to) q = (q ≡ remaining (drop to text)) × (to ≤ length text)
+SkippedIs text None q = q ≡ mismatch
 
 answered : (text : List ℕ) (at : ℕ) → at ≤ length text → (q : Expected) → LeftOver (drop at text) q → SkippedIs text (skipped_at text q) q
 unfolding skipped_at
 answered text at l (remaining t) r = let u = unread-at l r in (ap remaining u.is, u.within)
 answered text at l mismatch r = refl
 
-pub skipped-is : (text : List ℕ) (at : ℕ) (kind : ContainerKind) (r : SkippedFields) → at ≤ length text → r ≡ skipped_at text (skip_items kind (drop at text))
+pub skipped-is : (text : List ℕ) (at : ℕ) (kind : ContainerKind) (r : Option ℕ) → at ≤ length text → r ≡ skipped_at text (skip_items kind (drop at text))
     → SkippedIs text r (skip_items kind (drop at text))
 unfolding skip_items
 skipped-is text at kind r l e =

@@ -33,8 +33,7 @@ use Rattle.skip.specs.Skips.{SkippedIs, Passed, Skips, SkippedItemsIs, SkipsItem
 use Rattle.skip.specs.Skips.{held_skipped, item_skipped, contained_skipped, end_skipped, fields_of, encoding_of, ends_object, object_alone}
 use Rattle.skip.specs.declared.Skipped.{Skipped}
 use Rattle.skip.specs.declared.Skipped.TheVariants.{Empty, Encoding, ContainerEnd, ArrayEnd, Refused}
-use Rattle.skip.specs.declared.SkippedFields.{SkippedFields}
-use Rattle.skip.specs.declared.SkippedFields.TheVariants as F
+use Rattle.std.specs.Prelude.{Option, Some, None}
 use Rattle.skip.specs.declared.SkippedPart.{SkippedPart}
 use Rattle.skip.specs.declared.SkippedPart.TheVariants as P
 
@@ -301,17 +300,17 @@ unfolding skipped_at skip_items
 answered-fields text at kind (P.To to) s =
     let e = (s.says (suc (length (drop at text) + length (drop at text))) (omega arith)).is in
     let f : skip_items kind (drop at text) ≡ remaining (drop to text) = rw (e, skip_items) refl in
-    ap F.To (sym (place-of-drop text to s.bound.1)) ∙ ap (skipped_at text) (sym f)
+    ap Some (sym (place-of-drop text to s.bound.1)) ∙ ap (skipped_at text) (sym f)
 answered-fields text at kind (P.Refused why to) s =
     let e = s.says (suc (length (drop at text) + length (drop at text))) (omega arith) in
     let f : skip_items kind (drop at text) ≡ mismatch = rw (e, skip_items) refl in
     ap (skipped_at text) (sym f)
 
-pub answer-fields : (text : List ℕ) (at : ℕ) (kind : ContainerKind) (i : SkippedPart) (r : SkippedFields) → SkipsItems text at kind i → r ≡ fields_of i
+pub answer-fields : (text : List ℕ) (at : ℕ) (kind : ContainerKind) (i : SkippedPart) (r : Option ℕ) → SkipsItems text at kind i → r ≡ fields_of i
     → r ≡ skipped_at text (skip_items kind (drop at text))
 answer-fields text at kind i r s e = e ∙ answered-fields text at kind i s
 
-pub answer-ended : (text : List ℕ) (at : ℕ) (kind : ContainerKind) → length text ≤ at → F.Refused ≡ skipped_at text (skip_items kind (drop at text))
+pub answer-ended : (text : List ℕ) (at : ℕ) (kind : ContainerKind) → length text ≤ at → None ≡ skipped_at text (skip_items kind (drop at text))
 unfolding skipped_at skip_items parse_items parse_inner R.next_item
 answer-ended text at kind h = ap (λ (t : List ℕ). skipped_at text (skip_items kind t)) (sym (unread-end text at h))
 

@@ -4,14 +4,13 @@ use Rattle.std.specs.Prelude.{ℕ, List}
 use Rattle.kinds.specs.Expect.{Expected, remaining, mismatch}
 use Rattle.kinds.specs.Parse.{Encoded, encoded, not_encoded}
 use Rattle.parser.specs.Place.{place_of}
-use Rattle.skip.specs.declared.SkippedFields.{SkippedFields}
-use Rattle.skip.specs.declared.SkippedFields.TheVariants as F
+use Rattle.std.specs.Prelude.{Option, Some, None}
 use Rattle.skip.specs.declared.SkippedPart.{SkippedPart}
 use Rattle.skip.specs.declared.SkippedPart.TheVariants.{To, Refused}
 
-unfoldable pub skipped_at : List ℕ → Expected → SkippedFields
-skipped_at text (remaining t) = F.To (place_of text t)
-skipped_at text mismatch = F.Refused
+unfoldable pub skipped_at : List ℕ → Expected → Option ℕ
+skipped_at text (remaining t) = Some (place_of text t)
+skipped_at text mismatch = None
 
 unfoldable pub encoding_at : List ℕ → Encoded → SkippedPart
 encoding_at text (encoded l cs t) = To (place_of text t)

@@ -12,8 +12,7 @@ use Rattle.codes.specs.declared.Token.{Token}
 use Rattle.codes.specs.declared.Token.TheVariants as T
 use Rattle.skip.specs.declared.Skipped.{Skipped}
 use Rattle.skip.specs.declared.Skipped.TheVariants.{Empty, Encoding, ContainerEnd, ArrayEnd, Refused}
-use Rattle.skip.specs.declared.SkippedFields.{SkippedFields}
-use Rattle.skip.specs.declared.SkippedFields.TheVariants as F
+use Rattle.std.specs.Prelude.{Option, Some, None}
 use Rattle.skip.specs.declared.SkippedPart.{SkippedPart}
 use Rattle.skip.specs.declared.SkippedPart.TheVariants as P
 
@@ -118,9 +117,9 @@ end_skipped (Refused why to) text kind = P.Refused why to
 
 -- ---- The answers.
 
-abbrev pub fields_of : SkippedPart → SkippedFields
-fields_of (P.To to) = F.To to
-fields_of (P.Refused why to) = F.Refused
+abbrev pub fields_of : SkippedPart → Option ℕ
+fields_of (P.To to) = Some to
+fields_of (P.Refused why to) = None
 
 -- A type on its own: nothing is left where None stands, and a closer stands for no type.
 abbrev pub encoding_of : Skipped → List ℕ → SkippedPart

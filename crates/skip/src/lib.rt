@@ -35,13 +35,6 @@ pub enum SkippedPart {
     Refused(ErrorKind, usize),
 }
 
-// The place after the fields of a container and its closer, or that they cannot be read.
-#[derive(Clone, Copy)]
-pub enum SkippedFields {
-    To(usize),
-    Refused,
-}
-
 // `Parts` and `End` are not handed in.
 fn skip_token(t: Token) -> Skipped
     ensures { result ≡ token_skipped t }
@@ -192,21 +185,21 @@ fn skip_items(text: &[u8], at: usize, kind: ContainerKind) -> SkippedPart
 }
 
 // Why the fields cannot be read is not asked.
-fn skipped_fields(s: SkippedPart) -> SkippedFields
+fn skipped_fields(s: SkippedPart) -> Option<usize>
     ensures { result ≡ fields_of s }
 {
     match s {
-        SkippedPart::To(to) => SkippedFields::To(to),
-        SkippedPart::Refused(_, _) => SkippedFields::Refused,
+        SkippedPart::To(to) => Some(to),
+        SkippedPart::Refused(_, _) => None,
     }
 }
 
 // Passes whatever can be read from `at` on up to the container's closer; a place past the end is taken as the end.
-pub fn skip_fields(text: &[u8], at: usize, kind: ContainerKind) -> SkippedFields
+pub fn skip_fields(text: &[u8], at: usize, kind: ContainerKind) -> Option<usize>
     ensures { result ≡ skipped_at text.now (skip_items kind (drop at text.now)) }
 {
     if text.len() <= at {
-        return SkippedFields::Refused;
+        return None;
     }
     skipped_fields(skip_items(&text[0..], at, kind))
 }

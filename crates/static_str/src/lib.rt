@@ -12,15 +12,11 @@ ghost use Rattle.static_str.specs.Output.{Wrote};
 ghost use Rattle.static_str.specs.Answer.{fitted, placed, encoding_len, encoding_array, encoding_output};
 ghost use Rattle.static_str.specs.Parts.{opening, closing, children_text, max_node_text, OwnLength, ChildrenLength, TreesLength};
 
-use kinds::{ARRAY, BIT_FIELD, Code, ContainerKind, IndirectionKind, NestingLevel, POINTER, PRIMITIVES, Refusal, TYPED_BIT_FIELD, container_of, is_container, is_indirection, primitive_code};
-use sheet::{check};
-
-// The count of bytes of a text, or why there is none.
-#[derive(Clone, Copy)]
-pub enum Printed {
-    Refused(Refusal),
-    Bytes(usize),
-}
+use kinds::{
+    ARRAY, BIT_FIELD, Code, ContainerKind, IndirectionKind, NestingLevel, POINTER, PRIMITIVES,
+    Refusal, TYPED_BIT_FIELD, container_of, is_container, is_indirection, primitive_code,
+};
+use sheet::{Found, check};
 
 // The count of decimal digits of a number below 10,000.
 fn short_len(n: u64) -> usize
@@ -118,16 +114,16 @@ fn put_code(out: &mut [u8], at: usize, kind: u64) -> usize
 }
 
 // Writes a number in decimal at the front of the output.
-pub fn static_int_str_array(n: u64, out: &mut [u8]) -> Printed
+pub fn static_int_str_array(n: u64, out: &mut [u8]) -> Result<usize, Refusal>
     ensures answers { result ≡ fitted (decimal n) (length out.old) }
     ensures writes { out.new ≡ placed (decimal n) out.old }
 {
     let digits = static_int_str_len(n);
     if out.len() < digits {
-        return Printed::Refused(Refusal::OutputTooShort);
+        return Err(Refusal::OutputTooShort);
     }
     put_number(out, 0, n);
-    Printed::Bytes(digits)
+    Ok(digits)
 }
 
 // The length of a primitive's code; no table is looked up, since this is asked of most nodes.
@@ -369,15 +365,7 @@ fn print_children(
     }
     match level.children(nodes[at]) {
         None => to,
-        Some(inner) => print_trees(
-            &nodes[0..],
-            &names[0..],
-            at + 4,
-            count - 1,
-            inner,
-            out,
-            to,
-        ),
+        Some(inner) => print_trees(&nodes[0..], &names[0..], at + 4, count - 1, inner, out, to),
     }
 }
 
@@ -433,21 +421,21 @@ fn print_trees(
 }
 
 // Writes the code of a primitive at the front of the output.
-fn print_code(kind: u64, out: &mut [u8]) -> Printed
+fn print_code(kind: u64, out: &mut [u8]) -> Result<usize, Refusal>
     requires { kind < 24 }
     ensures answers { result ≡ fitted (code kind) (length out.old) }
     ensures writes { out.new ≡ placed (code kind) out.old }
 {
     let len = code_len(kind);
     if out.len() < len {
-        return Printed::Refused(Refusal::OutputTooShort);
+        return Err(Refusal::OutputTooShort);
     }
     put_code(out, 0, kind);
-    Printed::Bytes(len)
+    Ok(len)
 }
 
 // Writes the text of the tree of `n` nodes at the front of the output.
-fn print_tree(nodes: &[u64], names: &[u8], n: usize, out: &mut [u8]) -> Printed
+fn print_tree(nodes: &[u64], names: &[u8], n: usize, out: &mut [u8]) -> Result<usize, Refusal>
     requires trees_at { TreesAt nodes.now 0 n × (n ≤ max_nodes) }
     requires kinds_and_names { KindsAndNames nodes.now max_names 0 n × KindsAndNames nodes.now (length names.now) 0 n }
     ensures answers { result ≡ fitted (print NestingLevel.Top (trees names.now nodes.now n 0)) (length out.old) }
@@ -455,36 +443,33 @@ fn print_tree(nodes: &[u64], names: &[u8], n: usize, out: &mut [u8]) -> Printed
 {
     let len = trees_len(&nodes[0..], 0, n, NestingLevel::new());
     if out.len() < len {
-        return Printed::Refused(Refusal::OutputTooShort);
+        return Err(Refusal::OutputTooShort);
     }
     print_trees(&nodes[0..], &names[0..], 0, n, NestingLevel::new(), out, 0);
-    Printed::Bytes(len)
+    Ok(len)
 }
 
 // The length of the text of the tree that the lists hold.
-pub fn static_encoding_str_len(words: &[u64], names: &[u8]) -> Printed
+pub fn static_encoding_str_len(words: &[u64], names: &[u8]) -> Result<usize, Refusal>
     ensures { result ≡ encoding_len words.now names.now }
 {
-    match check(&words[0..], &names[0..]) {
-        Err(why) => Printed::Refused(why),
-        Ok(Found::Code(_, kind)) => Printed::Bytes(code_len(kind)),
-        Ok(Found::Nodes(first, n)) => Printed::Bytes(trees_len(
-            &words[first..],
-            0,
-            n,
-            NestingLevel::new(),
-        )),
+    match check(&words[0..], &names[0..])? {
+        Found::Code(_, kind) => Ok(code_len(kind)),
+        Found::Nodes(first, n) => Ok(trees_len(&words[first..], 0, n, NestingLevel::new())),
     }
 }
 
 // Writes the text of the tree that the lists hold at the front of the output.
-pub fn static_encoding_str_array(words: &[u64], names: &[u8], out: &mut [u8]) -> Printed
+pub fn static_encoding_str_array(
+    words: &[u64],
+    names: &[u8],
+    out: &mut [u8],
+) -> Result<usize, Refusal>
     ensures answers { result ≡ encoding_array words.now names.now (length out.old) }
     ensures writes { out.new ≡ encoding_output words.now names.now out.old }
 {
-    match check(&words[0..], &names[0..]) {
-        Err(refusal) => Printed::Refused(refusal),
-        Ok(Found::Code(_, kind)) => print_code(kind, out),
-        Ok(Found::Nodes(first, n)) => print_tree(&words[first..], &names[0..], n, out),
+    match check(&words[0..], &names[0..])? {
+        Found::Code(_, kind) => print_code(kind, out),
+        Found::Nodes(first, n) => print_tree(&words[first..], &names[0..], n, out),
     }
 }

@@ -2,15 +2,9 @@
 // commands are read.
 #![tactic(auto)]
 
-use helper::Sized;
 use input::{read_full, zeros};
-use kinds::{MAX_TEXT, ROWS};
-use layout::LaidOut;
-use parse::Reading;
-use reason::Reasoned;
-use sheet::{MAX_WORDS};
-use signature::SignatureReading;
-use static_str::Printed;
+use kinds::{MAX_TEXT, ROWS, Refusal};
+use sheet::{Found, MAX_WORDS};
 use std::env::{Env, FillError};
 use std::io::{self, Input};
 
@@ -121,7 +115,7 @@ fn say_rest(rt: &impl Print, rest: &[u8]) -> io::Result<()> {
 }
 
 // By the ordinary reading, or by the strict one.
-fn reading(strict: bool, text: &[u8], words: &mut [u64], names: &mut [u8]) -> Reading {
+fn reading(strict: bool, text: &[u8], words: &mut [u64], names: &mut [u8]) -> Result<(), Refusal> {
     if strict {
         return encoding_box::from_str_strict(text, words, names);
     }
@@ -137,8 +131,8 @@ fn reads_by(
     names: &mut [u8],
 ) -> io::Result<bool> {
     match reading(strict, text, words, names) {
-        Reading::Tree => Ok(true),
-        Reading::Refused(why) => {
+        Ok(()) => Ok(true),
+        Err(why) => {
             say_refused(rt, text, &why.words())?;
             Ok(false)
         }
@@ -165,8 +159,8 @@ fn answer_start(rt: &impl Print, text: &[u8]) -> io::Result<()> {
 fn say_print(rt: &impl Print, text: &[u8], words: &[u64], names: &[u8]) -> io::Result<()> {
     let mut out = [0u8; MAX_LINE];
     match static_str::static_encoding_str_array(words, names, &mut out) {
-        Printed::Refused(why) => say_refused(rt, text, &why.words()),
-        Printed::Bytes(n) => say_line(rt, &mut out, n),
+        Err(why) => say_refused(rt, text, &why.words()),
+        Ok(n) => say_line(rt, &mut out, n),
     }
 }
 
@@ -178,9 +172,9 @@ fn say_bytes(rt: &impl Print, n: u64) -> io::Result<()> {
 
 fn say_size(rt: &impl Print, text: &[u8], words: &[u64], names: &[u8], row: u64) -> io::Result<()> {
     match encoding::size(words, names, row) {
-        Sized::Refused(why) => say_refused(rt, text, &why.words()),
-        Sized::Nothing => say(rt, b"no size\n"),
-        Sized::Bytes(n) => say_bytes(rt, n),
+        Err(why) => say_refused(rt, text, &why.words()),
+        Ok(None) => say(rt, b"no size\n"),
+        Ok(Some(n)) => say_bytes(rt, n),
     }
 }
 
@@ -214,7 +208,7 @@ fn say_laid(
         let at = show::put_laid(&mut out, nodes, names, i, field, offset, extent);
         say_line(rt, &mut out, at)
     } else {
-        let at = show::put_laid(&mut out, nodes, names, i, false, 0, LaidOut::Nothing);
+        let at = show::put_laid(&mut out, nodes, names, i, false, 0, Ok(None));
         say_line(rt, &mut out, at)
     }
 }
@@ -285,9 +279,9 @@ fn say_layout(
     let mut offsets = [0u64; MAX_NODES];
     let mut extents = [0u64; 2 * MAX_NODES];
     match layout::layout(words, names, row, &mut offsets) {
-        LaidOut::Refused(why) => say_refused(rt, text, &why.words()),
-        LaidOut::Nothing => say(rt, b"no layout\n"),
-        LaidOut::Bytes(n, alignment) => {
+        Err(why) => say_refused(rt, text, &why.words()),
+        Ok(None) => say(rt, b"no layout\n"),
+        Ok(Some((n, alignment))) => {
             let nodes = (lines::word_at(words, 0) % 65536) as u16;
             let first = lines::word_at(words, 1) as usize;
             layout::extents(words, names, row, &mut extents);
@@ -424,9 +418,9 @@ fn compare_with(
         return Ok(());
     }
     match reason::reason(aw, an, &bw, &bn, all, &mut out) {
-        Reasoned::Refused(why) => say_refused(rt, a, &why.words()),
-        Reasoned::Yes => say_decided(rt, true),
-        Reasoned::Bytes(n) => say_reason(rt, in_words, &mut out, n),
+        Err(why) => say_refused(rt, a, &why.words()),
+        Ok(None) => say_decided(rt, true),
+        Ok(Some(n)) => say_reason(rt, in_words, &mut out, n),
     }
 }
 
@@ -463,8 +457,8 @@ fn say_entries(rt: &impl Print, text: &[u8], list: &[u64], n: u16) -> io::Result
 fn answer_signature(rt: &impl Print, text: &[u8]) -> io::Result<()> {
     let mut list = [0u64; MAX_NUMBERS];
     match signature::parse_signature(text, &mut list) {
-        SignatureReading::Refused(why) => say_refused(rt, text, &why.words()),
-        SignatureReading::Entries(n) => say_entries(rt, text, &list, (n % 65536) as u16),
+        Err(why) => say_refused(rt, text, &why.words()),
+        Ok(n) => say_entries(rt, text, &list, (n % 65536) as u16),
     }
 }
 

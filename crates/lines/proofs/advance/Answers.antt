@@ -1,7 +1,7 @@
 -- `lines::advance` meets its contract. Assumes nothing.
 use mathlib.Core.Path.{sym, ◌∙◌}
 use Rattle.lines.specs.Steps.{step_grown}
-use Rattle.lines.specs.declared.Grown.TheVariants as Grown
+use Rattle.std.specs.Prelude.{Some, None}
 use Rattle.lines.proofs.DecimalLaws.{step-comma, step-grown, words-comma, words-kept}
 use Rattle.lines.proofs.advance.Goals as goal
 
@@ -11,11 +11,11 @@ returns-then-b-eq44 c = record { answers = step-comma _ _ _ c.if-b-eq44.true; fi
 pub returns-in-Value : goal.returns-in-Value
 unfolding step_grown
 returns-in-Value c = record {
-  answers = step-grown _ _ _ (Grown.Value c.in-Value.v) c.if-b-eq44.false (sym c.in-Value.is ∙ c.grow.ensures);
+  answers = step-grown _ _ _ (Some c.in-Value.v) c.if-b-eq44.false (sym c.in-Value.is ∙ c.grow.ensures);
   fills = words-kept _ _ _ _
       c.if-b-eq44.false;
 }
 
 pub returns-in-Bad : goal.returns-in-Bad
 unfolding step_grown
-returns-in-Bad c = record { answers = step-grown _ _ _ Grown.Bad c.if-b-eq44.false (sym c.in-Bad.is ∙ c.grow.ensures); fills = words-kept _ _ _ _ c.if-b-eq44.false }
+returns-in-Bad c = record { answers = step-grown _ _ _ None c.if-b-eq44.false (sym c.in-Bad.is ∙ c.grow.ensures); fills = words-kept _ _ _ _ c.if-b-eq44.false }

@@ -2,7 +2,7 @@
 use Prim.Native.Nat.{ℕ, ◌+◌, ◌*◌}
 use mathlib.Core.Path.{ap, ◌∙◌}
 use native.Mathlib.Omega.{arith}
-use Rattle.lines.specs.declared.Grown.TheVariants as Grown
+use Rattle.std.specs.Prelude.{Some}
 use Rattle.lines.proofs.DecimalLaws.{grown-low, grown-high, grown-large, grown-value}
 use Rattle.lines.proofs.grow.Goals as goal
 
@@ -22,5 +22,5 @@ returns-then-n-d c =
 
 pub returns : goal.returns
 returns c =
-    ap (λ (k : ℕ). Grown.Value (10 * c.args.n + k)) c.wide-d.ensures ∙ grown-value c.args.n c.args.b (omega arith) (omega arith)
+    ap (λ (k : ℕ). Some (10 * c.args.n + k)) c.wide-d.ensures ∙ grown-value c.args.n c.args.b (omega arith) (omega arith)
     (omega (arith, c.wide-d.ensures))

@@ -13,13 +13,13 @@ children_len-trees_len-requires t c =
     let i = children-there c.requires.node_at.0 c.requires.kinds_and_names in
     rw whole (omega arith, ((i.0, omega (arith, c.requires.node_at.1)), i.1))
 
-pub children_len-returns-in-Dropped : goal.children_len-returns-in-Dropped
-children_len-returns-in-Dropped t c =
-    dropped-length _ _ _ c.requires.node_at.0.some-node (sym c.children.ensures ∙ c.in-Dropped.is)
+pub children_len-returns-in-None : goal.children_len-returns-in-None
+children_len-returns-in-None t c =
+    dropped-length _ _ _ c.requires.node_at.0.some-node (sym c.children.ensures ∙ c.in-None.is)
 
-pub children_len-returns-in-Included : goal.children_len-returns-in-Included
-children_len-returns-in-Included t c =
-    included-length _ _ _ c.requires.node_at.0.some-node _ _ (sym c.children.ensures ∙ c.in-Included.is) (rw whole at c.trees_len.ensures)
+pub children_len-returns-in-Some : goal.children_len-returns-in-Some
+children_len-returns-in-Some t c =
+    included-length _ _ _ c.requires.node_at.0.some-node _ _ (sym c.children.ensures ∙ c.in-Some.is) (rw whole at c.trees_len.ensures)
 
 pub trees_len-loop-left-init : goal.trees_len-loop-left-init
 trees_len-loop-left-init t c =

@@ -21,21 +21,21 @@ print_children-print_trees-requires t c =
         children-there c.requires.node_at.0 c.requires.node_at.1,
         omega (
           arith,
-          ap length (included-text a.names.now a.nodes.now a.level a.at _ (sym c.children.ensures ∙ c.in-Included.is)),
+          ap length (included-text a.names.now a.nodes.now a.level a.at _ (sym c.children.ensures ∙ c.in-Some.is)),
           c.requires.room,
         ),
       ),
     )
 
-pub print_children-returns-in-Dropped : goal.print_children-returns-in-Dropped
-print_children-returns-in-Dropped t c =
+pub print_children-returns-in-None : goal.print_children-returns-in-None
+print_children-returns-in-None t c =
     let a = c.args in wrote-same (sym (dropped-text a.names.now a.nodes.now a.level a.at
-    (sym c.children.ensures ∙ c.in-Dropped.is))) (wrote_none a.out.now a.to)
+    (sym c.children.ensures ∙ c.in-None.is))) (wrote_none a.out.now a.to)
 
-pub print_children-returns-in-Included : goal.print_children-returns-in-Included
-print_children-returns-in-Included t c =
+pub print_children-returns-in-Some : goal.print_children-returns-in-Some
+print_children-returns-in-Some t c =
     let a = c.args in wrote-same (sym (included-text a.names.now a.nodes.now a.level a.at _
-    (sym c.children.ensures ∙ c.in-Included.is))) (rw (whole, whole) at c.print_trees.ensures)
+    (sym c.children.ensures ∙ c.in-Some.is))) (rw (whole, whole) at c.print_trees.ensures)
 
 pub print_trees-loop-left-init : goal.print_trees-loop-left-init
 print_trees-loop-left-init t c =

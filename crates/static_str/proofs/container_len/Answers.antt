@@ -5,10 +5,10 @@ use lib.ListN.{length}
 use Rattle.static_str.proofs.PartLaws.{fields-shown, fields-hidden}
 use Rattle.static_str.proofs.container_len.Goals as goal
 
-pub returns-in-Included : goal.returns-in-Included
-returns-in-Included c =
-    let e = ap length (fields-shown c.args.level _ (sym c.container_include_fields.ensures ∙ c.in-Included.is)) in (omega arith, omega arith)
+pub returns-in-Some : goal.returns-in-Some
+returns-in-Some c =
+    let e = ap length (fields-shown c.args.level _ (sym c.container_include_fields.ensures ∙ c.in-Some.is)) in (omega arith, omega arith)
 
-pub returns-in-Dropped : goal.returns-in-Dropped
-returns-in-Dropped c =
-    let e = ap length (fields-hidden c.args.level (sym c.container_include_fields.ensures ∙ c.in-Dropped.is)) in (omega arith, omega arith)
+pub returns-in-None : goal.returns-in-None
+returns-in-None c =
+    let e = ap length (fields-hidden c.args.level (sym c.container_include_fields.ensures ∙ c.in-None.is)) in (omega arith, omega arith)

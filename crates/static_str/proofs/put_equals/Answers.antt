@@ -8,13 +8,13 @@ use Rattle.static_str.proofs.put_equals.Goals as goal
 
 pub put-requires : goal.put-requires
 put-requires c =
-    omega (arith, ap length (fields-shown c.args.level _ (sym c.container_include_fields.ensures ∙ c.in-Included.is)))
+    omega (arith, ap length (fields-shown c.args.level _ (sym c.container_include_fields.ensures ∙ c.in-Some.is)))
 
-pub returns-in-Included : goal.returns-in-Included
-returns-in-Included c =
-    wrote-same (sym (fields-shown c.args.level _ (sym c.container_include_fields.ensures ∙ c.in-Included.is))) c.put.ensures
+pub returns-in-Some : goal.returns-in-Some
+returns-in-Some c =
+    wrote-same (sym (fields-shown c.args.level _ (sym c.container_include_fields.ensures ∙ c.in-Some.is))) c.put.ensures
 
-pub returns-in-Dropped : goal.returns-in-Dropped
-returns-in-Dropped c =
-    let a = c.args in wrote-same (sym (fields-hidden a.level (sym c.container_include_fields.ensures ∙ c.in-Dropped.is)))
+pub returns-in-None : goal.returns-in-None
+returns-in-None c =
+    let a = c.args in wrote-same (sym (fields-hidden a.level (sym c.container_include_fields.ensures ∙ c.in-None.is)))
     (wrote_none a.out.now a.at)
