@@ -468,7 +468,8 @@ pub fn static_encoding_str_array(
     ensures answers { result ≡ encoding_array words.now names.now (length out.old) }
     ensures writes { out.new ≡ encoding_output words.now names.now out.old }
 {
-    match check(&words[0..], &names[0..])? {
+    let found = check(&words[0..], &names[0..])?;
+    match found {
         Found::Code(_, kind) => print_code(kind, out),
         Found::Nodes(first, n) => print_tree(&words[first..], &names[0..], n, out),
     }
