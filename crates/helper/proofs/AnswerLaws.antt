@@ -84,17 +84,21 @@ module _ (row : ℕ) where
   unfolding sized_in size_in size sizes node_size only
   code-sized h k = rw (le-leb row 3 (omega arith))
 
-  pub code-none : row < 4 → (k : ℕ) → None ≡ size_in row k → Ok None ≡ sized_in row (node (primitive k) end end)
+  code-none : row < 4 → (k : ℕ) → None ≡ size_in row k → Ok None ≡ sized_in row (node (primitive k) end end)
   unfolding sized
   code-none h k e = sym (code-sized h k ∙ ap (sized (max_size row)) (sym e))
 
-  pub code-some : row < 4 → (k n : ℕ) → Some n ≡ size_in row k → Ok (Some n) ≡ sized_in row (node (primitive k) end end)
+  code-some : row < 4 → (k n : ℕ) → Some n ≡ size_in row k → Ok (Some n) ≡ sized_in row (node (primitive k) end end)
   unfolding sized
   code-some h k n e = sym (code-sized h k ∙ ap (sized (max_size row)) (sym e)
       ∙ rw (le-leb n (max_size row) (small (max_size row) (size_small row k n e) (max-most row))))
     where
       small : (x : ℕ) → n ≤ 32 → max_u32 ≤ x → n ≤ x
       small x p q = omega arith
+
+  pub code-row : row < 4 → (k : ℕ) {o : Option ℕ} → o ≡ size_in row k → Ok o ≡ sized_in row (node (primitive k) end end)
+  code-row h k {None} e = code-none h k e
+  code-row h k {Some n} e = code-some h k n e
 
   module _ (words names : List ℕ) where
     pub size-refused : {r : Refusal} → held words names ≡ refused r → Err r ≡ size_answer row words names

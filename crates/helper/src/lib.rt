@@ -483,10 +483,7 @@ fn code_size(row: u64, kind: u64) -> Result<Option<u64>, Refusal>
     if ROWS <= row {
         return Err(Refusal::NoSuchRow);
     }
-    match primitive_size(row, kind) {
-        None => Ok(None),
-        Some(n) => Ok(Some(n)),
-    }
+    Ok(primitive_size(row, kind))
 }
 
 // The size of the tree in a sheet in a row.

@@ -128,7 +128,7 @@ loop-left-preserved-then-field-kind t c =
       gathered-inner c.loop-left.invariant.1 c.loop-left-test.true
           (container-kind (kind_at a.nodes.now a.at) (omega arith) (omega arith)) k
           (included a.level _ (sym c.container_include_fields.ensures
-          ∙ c.in-Included.is)).1,
+          ∙ c.in-Some.is)).1,
     )
 
 pub overflow_add-child-in-loop-left : goal.overflow_add-child-in-loop-left
@@ -199,4 +199,4 @@ returns t c =
     λ m o s. gathered-end c.loop-left.invariant.1 c.loop-left-test.false m o s
     ∙ ap clip (size-included m s a.nodes.now a.at a.level (container-kind (kind_at a.nodes.now a.at) (omega arith) (omega arith)) _
     (sym c.container_include_fields.ensures
-    ∙ c.in-Included.is))
+    ∙ c.in-Some.is))
