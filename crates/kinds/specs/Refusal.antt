@@ -4,6 +4,8 @@ use Rattle.std.specs.Prelude.{Option, Some, None, unwrap_or}
 use Rattle.kinds.specs.declared.ContainerKind.{ContainerKind}
 use Rattle.kinds.specs.declared.ContainerKind.TheVariants.{Struct, Union}
 use Rattle.kinds.specs.declared.ErrorKind.TheVariants as E
+use Rattle.kinds.specs.declared.ErrorKind.{ErrorKind}
+use Rattle.kinds.specs.declared.ParseError.{ParseError}
 use Rattle.kinds.specs.declared.Refusal.{Refusal}
 use Rattle.kinds.specs.declared.Refusal.TheVariants as R
 
@@ -61,6 +63,10 @@ refused_byte r = (row r).its-byte
 
 abbrev pub refused_container : Refusal → Option ContainerKind
 refused_container r = (row r).its-container
+
+-- Why text cannot be read, and where.
+abbrev pub parse_error : ErrorKind → ℕ → ParseError
+parse_error e at = record { «kind» = e; «split_point» = at }
 
 -- ---- The same as plain numbers, 0 where a refusal carries none; a container by its kind word.
 

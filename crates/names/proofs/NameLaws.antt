@@ -24,8 +24,9 @@ use Rattle.parser.proofs.RestLaws.{RestOf, rest_all, rest-later, rest-of-rest, u
 use Rattle.parser.proofs.PlaceLaws.{drop-on}
 use Rattle.names.specs.Answer.{name_at}
 use Rattle.names.specs.Ends.{NameEnd}
-use Rattle.names.specs.declared.Name.{Name}
-use Rattle.names.specs.declared.Name.TheVariants.{Is, Refused}
+use Rattle.std.specs.Prelude.{Result, Ok, Err}
+use Rattle.kinds.specs.declared.ParseError.{ParseError}
+use Rattle.kinds.specs.Refusal.{parse_error}
 
 -- ---- Up to `=` or the closer.
 
@@ -76,29 +77,29 @@ bad-name text at k r e h bad = elim (ℕ_discrete (get_or text r 0) 61) [
 
 -- ---- The answer.
 
-pub answer-refused : (text : List ℕ) (at : ℕ) (q : Named) (why : ErrorKind) (to : ℕ) → to ≤ length text → q ≡ unnamed why (drop to text) → Refused why to ≡ name_at text at q
+pub answer-refused : (text : List ℕ) (at : ℕ) (q : Named) (why : ErrorKind) (to : ℕ) → to ≤ length text → q ≡ unnamed why (drop to text) → Err (parse_error why to) ≡ name_at text at q
 unfolding name_at
-answer-refused text at q why to l e = ap (Refused why) (sym (place-of-drop text to l)) ∙ ap (name_at text at) (sym e)
+answer-refused text at q why to l e = ap (λ (x : ℕ). Err (parse_error why x)) (sym (place-of-drop text to l)) ∙ ap (name_at text at) (sym e)
 
-pub answer-ended : (text : List ℕ) (at : ℕ) (k : ContainerKind) → length text ≤ at → Refused (WrongEndContainer k) (length text) ≡ name_at text at (parse_name k [] (drop at text))
+pub answer-ended : (text : List ℕ) (at : ℕ) (k : ContainerKind) → length text ≤ at → Err (parse_error (WrongEndContainer k) (length text)) ≡ name_at text at (parse_name k [] (drop at text))
 answer-ended text at k l =
     let none : drop (length text) text ≡ drop at text = unread-end text (length text) (omega arith) ∙ sym (unread-end text at l) in
     answer-refused _ _ _ _ _ (omega arith) (name-ends k [] text at l ∙ ap (unnamed (WrongEndContainer k)) (sym none))
 
-answer-name : (text : List ℕ) (at e to : ℕ) (q : Named) → at ≤ e → e ≤ length text → to ≤ length text → q ≡ named (take (e - at) (drop at text)) (drop to text) → Is e to ≡ name_at text at q
+answer-name : (text : List ℕ) (at e to : ℕ) (q : Named) → at ≤ e → e ≤ length text → to ≤ length text → q ≡ named (take (e - at) (drop at text)) (drop to text) → Ok (e, to) ≡ name_at text at q
 unfolding name_at
 answer-name text at e to q l h m i =
     let same : e ≡ at + length (take (e - at) (drop at text)) = omega (arith, passed_length text at e l h) in
-    ap (λ (x : ℕ). Is x to) same
-    ∙ ap (Is (at + length (take (e - at) (drop at text)))) (sym (place-of-drop text to m))
+    ap (λ (x : ℕ). Ok (x, to)) same
+    ∙ ap (λ (x : ℕ). Ok (at + length (take (e - at) (drop at text)), x)) (sym (place-of-drop text to m))
     ∙ ap (name_at text at) (sym i)
 
 -- A good name, after which reading goes on past `=` or at the closer.
 module _ (text : List ℕ) (at : ℕ) (k : ContainerKind) (r : ℕ) (e : NameEnd text at k r) (h : r < length text) (good : verify_name (take (r - at) (drop at text)) ≡ true) where
-  pub answer-equals : get_or text r 0 ≡ 61 → Is r (r + 1) ≡ name_at text at (parse_name k [] (drop at text))
+  pub answer-equals : get_or text r 0 ≡ 61 → Ok (r, r + 1) ≡ name_at text at (parse_name k [] (drop at text))
   answer-equals p = answer-name text at r (r + 1) _ e.onward e.within (omega arith) (e.scanned ∙ name-equals k _ text r h p ∙ name-checked k _ _ _ good)
 
-  pub answer-closes : (get_or text r 0 ≡ 61 → ⊥) → Is r r ≡ name_at text at (parse_name k [] (drop at text))
+  pub answer-closes : (get_or text r 0 ≡ 61 → ⊥) → Ok (r, r) ≡ name_at text at (parse_name k [] (drop at text))
   answer-closes n = answer-name text at r r _ e.onward e.within e.within (e.scanned ∙ name-closes k _ text r h n (e.stopped h n) ∙ name-checked k _ _ _ good)
 
 -- ---- What an answer says of the text.
@@ -151,9 +152,9 @@ pub record NameRead (text : List ℕ) (at e to : ℕ) (q : Named) : Type 0 where
   pub passed : e ≤ to
   pub within : to ≤ length text
 
-abbrev pub NameIs : List ℕ → ℕ → Name → Named → Type 0
-NameIs text at (Is e to) q = NameRead text at e to q
-NameIs text at (Refused why to) q = (q ≡ unnamed why (drop to text)) × (to ≤ length text)
+abbrev pub NameIs : List ℕ → ℕ → Result (ℕ × ℕ) ParseError → Named → Type 0
+NameIs text at (Ok (e, to)) q = NameRead text at e to q
+NameIs text at (Err e) q = (q ≡ unnamed e.«kind» (drop e.«split_point» text)) × (e.«split_point» ≤ length text)
 
 subst-rest : (text : List ℕ) (at n : ℕ) (t : List ℕ) → RestOf (drop n (drop at text)) t → RestOf (drop (at + n) text) t
 subst-rest text at n t r = rw (drop-on at n text) r
@@ -176,5 +177,5 @@ answered text at l (named m t) f =
     }
 answered text at l (unnamed e t) r = let u = unread-at l r in (ap (unnamed e) u.is, u.within)
 
-pub name-is : (text : List ℕ) (at : ℕ) (k : ContainerKind) (r : Name) → at ≤ length text → r ≡ name_at text at (parse_name k [] (drop at text)) → NameIs text at r (parse_name k [] (drop at text))
+pub name-is : (text : List ℕ) (at : ℕ) (k : ContainerKind) (r : Result (ℕ × ℕ) ParseError) → at ≤ length text → r ≡ name_at text at (parse_name k [] (drop at text)) → NameIs text at r (parse_name k [] (drop at text))
 name-is text at k r l e = rw e (answered text at l (parse_name k [] (drop at text)) (name-found k [] (drop at text)))

@@ -2,9 +2,10 @@
 use Rattle.std.specs.Prelude.{ℕ, ◌+◌, List, length}
 use Rattle.kinds.specs.Parse.{Named, named, unnamed}
 use Rattle.parser.specs.Place.{place_of}
-use Rattle.names.specs.declared.Name.{Name}
-use Rattle.names.specs.declared.Name.TheVariants.{Is, Refused}
+use Rattle.std.specs.Prelude.{Result, Ok, Err}
+use Rattle.kinds.specs.declared.ParseError.{ParseError}
+use Rattle.kinds.specs.Refusal.{parse_error}
 
-unfoldable pub name_at : List ℕ → ℕ → Named → Name
-name_at text at (named m t) = Is (at + length m) (place_of text t)
-name_at text at (unnamed e t) = Refused e (place_of text t)
+unfoldable pub name_at : List ℕ → ℕ → Named → Result (ℕ × ℕ) ParseError
+name_at text at (named m t) = Ok (at + length m, place_of text t)
+name_at text at (unnamed e t) = Err (parse_error e (place_of text t))

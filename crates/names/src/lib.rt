@@ -6,14 +6,7 @@ ghost use Rattle.kinds.specs.Parse.{parse_name};
 ghost use Rattle.names.specs.Answer.{name_at};
 ghost use Rattle.names.specs.Ends.{NameEnd};
 
-use kinds::{ContainerKind, ErrorKind, verify_name};
-
-// Where a container's name ends and the place after it, with `=` passed, or why there is none and where.
-#[derive(Clone, Copy)]
-pub enum Name {
-    Is(usize, usize),
-    Refused(ErrorKind, usize),
-}
+use kinds::{ContainerKind, ErrorKind, ParseError, verify_name};
 
 // Where a container's name ends: at `=`, at the container's own closer, or with the text.
 fn name_end(text: &[u8], at: usize, kind: ContainerKind) -> usize
@@ -35,23 +28,23 @@ fn name_end(text: &[u8], at: usize, kind: ContainerKind) -> usize
     i
 }
 
-// A container's name, checked and not copied.
-pub fn parse_name(text: &[u8], at: usize, kind: ContainerKind) -> Name
+// A container's name, checked and not copied: where it ends and the place after it, with `=` passed.
+pub fn parse_name(text: &[u8], at: usize, kind: ContainerKind) -> Result<(usize, usize), ParseError>
     ensures { result ≡ name_at text.now at (parse_name kind [] (drop at text.now)) }
 {
     let n = text.len();
     if n <= at {
-        return Name::Refused(ErrorKind::WrongEndContainer(kind), n);
+        return Err(ParseError { kind: ErrorKind::WrongEndContainer(kind), split_point: n });
     }
     let e = name_end(text, at, kind);
     if n <= e {
-        return Name::Refused(ErrorKind::WrongEndContainer(kind), e);
+        return Err(ParseError { kind: ErrorKind::WrongEndContainer(kind), split_point: e });
     }
     if !verify_name(&text[at..e]) {
-        return Name::Refused(ErrorKind::InvalidIdentifier(kind), e);
+        return Err(ParseError { kind: ErrorKind::InvalidIdentifier(kind), split_point: e });
     }
     if text[e] == b'=' {
-        return Name::Is(e, e + 1);
+        return Ok((e, e + 1));
     }
-    Name::Is(e, e)
+    Ok((e, e))
 }

@@ -18,11 +18,13 @@ use Rattle.kinds.specs.Strict.{digit_count, surplus_zero}
 use Rattle.kinds.specs.declared.ErrorKind.{ErrorKind}
 use Rattle.kinds.specs.declared.ErrorKind.TheVariants.{UnexpectedEnd, ExpectedInteger, IntegerTooLarge}
 use Rattle.parser.proofs.RestLaws.{RestOf, rest_all, rest-later, rest-shorter, unread-at, place-of-drop}
-use Rattle.numbers.specs.Answer.{digits_of, digits_taken, digits_in, number_at}
+use Rattle.numbers.specs.Answer.{digits_of, digits_taken, number_at}
 use Rattle.parser.specs.Run.{after}
 use Rattle.numbers.specs.declared.Digits.{Digits}
 use Rattle.numbers.specs.declared.Number.{Number}
-use Rattle.numbers.specs.declared.Number.TheVariants.{Value, Refused}
+use Rattle.kinds.specs.Refusal.{parse_error}
+use Rattle.kinds.specs.declared.ParseError.{ParseError}
+use Rattle.std.specs.Prelude.{Result, Ok, Err}
 
 pub digits_more : (n b : ℕ) (s : List ℕ) → is_digit b ≡ true → more_digits n (b ∷ s) ≡ more_digits (n * 10 + (b - 48)) s
 unfolding more_digits
@@ -140,17 +142,23 @@ count-run (b ∷ s) = go (count-run s) (is_digit b)
 
 -- ---- The answer, and what it says of the text.
 
-module _ (text s : List ℕ) (q : R.Number) where
-  pub answer-value : (n to : ℕ) (d : Digits) → to ≤ length text → d ≡ digits_of s → q ≡ value n (drop to text) → Value n to d ≡ number_at text s q
-  unfolding number_at
-  answer-value n to d l t e = ap₂ (Value n) (sym (place-of-drop text to l)) t ∙ ap (number_at text s) (sym e)
+abbrev pub read_as : ℕ → ℕ → Digits → Number
+read_as n to d = record { «read» = Ok (n, to); «digits» = d }
 
-  pub answer-refused : (why : ErrorKind) (to : ℕ) (d : Digits) → to ≤ length text → d ≡ digits_of s → q ≡ no_number why (drop to text) → Refused why to d
+abbrev pub refused_as : ErrorKind → ℕ → Digits → Number
+refused_as why to d = record { «read» = Err (parse_error why to); «digits» = d }
+
+module _ (text s : List ℕ) (q : R.Number) where
+  pub answer-value : (n to : ℕ) (d : Digits) → to ≤ length text → d ≡ digits_of s → q ≡ value n (drop to text) → read_as n to d ≡ number_at text s q
+  unfolding number_at
+  answer-value n to d l t e = ap₂ (read_as n) (sym (place-of-drop text to l)) t ∙ ap (number_at text s) (sym e)
+
+  pub answer-refused : (why : ErrorKind) (to : ℕ) (d : Digits) → to ≤ length text → d ≡ digits_of s → q ≡ no_number why (drop to text) → refused_as why to d
       ≡ number_at text s q
   unfolding number_at
-  answer-refused why to d l t e = ap₂ (Refused why) (sym (place-of-drop text to l)) t ∙ ap (number_at text s) (sym e)
+  answer-refused why to d l t e = ap₂ (refused_as why) (sym (place-of-drop text to l)) t ∙ ap (number_at text s) (sym e)
 
-pub answer-ended : (text : List ℕ) (limit at : ℕ) → length text ≤ at → Refused UnexpectedEnd (length text) (digits_taken 0 0)
+pub answer-ended : (text : List ℕ) (limit at : ℕ) → length text ≤ at → refused_as UnexpectedEnd (length text) (digits_taken 0 0)
     ≡ number_at text (drop at text) (parse_number limit (drop at text))
 answer-ended text limit at l =
     let none : drop (length text) text ≡ drop at text = unread-end text (length text) (omega arith) ∙ sym (unread-end text at l) in
@@ -221,28 +229,28 @@ pub value-shorter : (limit : ℕ) (s : List ℕ) (n : ℕ) (t : List ℕ) → pa
 value-shorter limit s n t e = subst (Shorter s) e (shorter-number limit s)
 
 -- Of an answer: what was read, what is unread after it, and that its place is at or after `at`, within the text.
-abbrev pub NumberIs : List ℕ → ℕ → Number → R.Number → Type 0
-NumberIs text at (Value v to d) q = (q ≡ value v (drop to text)) × ((at ≤ to) × (to ≤ length text))
-NumberIs text at (Refused why to d) q = (q ≡ no_number why (drop to text)) × ((at ≤ to) × (to ≤ length text))
+abbrev pub NumberIs : List ℕ → ℕ → Result (ℕ × ℕ) ParseError → R.Number → Type 0
+NumberIs text at (Ok (v, to)) q = (q ≡ value v (drop to text)) × ((at ≤ to) × (to ≤ length text))
+NumberIs text at (Err e) q = (q ≡ no_number e.«kind» (drop e.«split_point» text)) × ((at ≤ e.«split_point») × (e.«split_point» ≤ length text))
 
-answered : (text : List ℕ) (at : ℕ) → at ≤ length text → (q : R.Number) → LeftOf (drop at text) q → NumberIs text at (number_at text (drop at text) q) q
+answered : (text : List ℕ) (at : ℕ) → at ≤ length text → (q : R.Number) → LeftOf (drop at text) q → NumberIs text at (number_at text (drop at text) q).«read» q
 unfolding number_at
 answered text at l (value n t) r = let u = unread-at l r in (ap (value n) u.is, (u.onward, u.within))
 answered text at l (no_number e t) r = let u = unread-at l r in (ap (no_number e) u.is, (u.onward, u.within))
 
 pub number_is : (text : List ℕ) (limit at : ℕ) (r : Number) → at ≤ length text → r ≡ number_at text (drop at text) (parse_number limit (drop at text))
-    → NumberIs text at r (parse_number limit (drop at text))
+    → NumberIs text at r.«read» (parse_number limit (drop at text))
 number_is text limit at r l e = rw e (answered text at l (parse_number limit (drop at text)) (left-number limit (drop at text)))
 
 -- Its digits.
-digits-told : (text s : List ℕ) (q : R.Number) → digits_in (number_at text s q) ≡ digits_of s
+digits-told : (text s : List ℕ) (q : R.Number) → (number_at text s q).«digits» ≡ digits_of s
 unfolding number_at
 digits-told text s (value n t) = refl
 digits-told text s (no_number e t) = refl
 
-pub number_digits : (text : List ℕ) (limit at : ℕ) (r : Number) → r ≡ number_at text (drop at text) (parse_number limit (drop at text)) → digits_in r
+pub number_digits : (text : List ℕ) (limit at : ℕ) (r : Number) → r ≡ number_at text (drop at text) (parse_number limit (drop at text)) → r.«digits»
     ≡ digits_of (drop at text)
-number_digits text limit at r e = ap digits_in e ∙ digits-told text (drop at text) (parse_number limit (drop at text))
+number_digits text limit at r e = ap (λ (x : Number). x.«digits») e ∙ digits-told text (drop at text) (parse_number limit (drop at text))
 
 -- What is left after a number is what follows its digits.
 after-digits : (s : List ℕ) → after is_digit s ≡ drop (digit_count s) s

@@ -1,13 +1,13 @@
 -- What reading a number answers: the number and the place after it, or why there is none and where (parse.rs, `parse_u64` and `parse_u8`); and what its digits show (02, N3).
-use Rattle.std.specs.Prelude.{ℕ, List, ◌&&◌, ltb, eqb}
+use Rattle.std.specs.Prelude.{ℕ, List, ◌&&◌, ltb, eqb, Ok, Err}
 use Rattle.kinds.specs.Byte.{byte}
 use Rattle.kinds.specs.Parse as R
 use Rattle.kinds.specs.Parse.{value, no_number}
+use Rattle.kinds.specs.Refusal.{parse_error}
 use Rattle.kinds.specs.Strict.{digit_count, surplus_zero}
 use Rattle.parser.specs.Place.{place_of}
 use Rattle.numbers.specs.declared.Digits.{Digits}
 use Rattle.numbers.specs.declared.Number.{Number}
-use Rattle.numbers.specs.declared.Number.TheVariants.{Value, Refused}
 
 -- Of the number at the start of the text.
 abbrev pub digits_of : List ℕ → Digits
@@ -19,10 +19,5 @@ digits_taken first n = record { «count» = n; «surplus» = ltb 1 n && eqb firs
 
 -- `s` is the text from where the number begins.
 unfoldable pub number_at : List ℕ → List ℕ → R.Number → Number
-number_at text s (value n t) = Value n (place_of text t) (digits_of s)
-number_at text s (no_number e t) = Refused e (place_of text t) (digits_of s)
-
--- Those of an answer.
-abbrev pub digits_in : Number → Digits
-digits_in (Value n to d) = d
-digits_in (Refused e to d) = d
+number_at text s (value n t) = record { «read» = Ok (n, place_of text t); «digits» = digits_of s }
+number_at text s (no_number e t) = record { «read» = Err (parse_error e (place_of text t)); «digits» = digits_of s }

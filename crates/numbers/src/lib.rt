@@ -5,9 +5,10 @@ ghost use Rattle.std.specs.Prelude.{◌≡◌, ◌+◌, ◌*◌, ◌≤◌, ltb,
 ghost use Rattle.kinds.specs.Byte.{is_digit};
 ghost use Rattle.kinds.specs.Parse.{max_u64, max_u32, max_u8, parse_number};
 ghost use Rattle.parser.specs.Run.{run_end};
-ghost use Rattle.numbers.specs.Answer.{digits_taken, digits_in, number_at};
+ghost use Rattle.numbers.specs.Answer.{digits_taken, number_at};
+ghost use Rattle.kinds.specs.Refusal.{parse_error};
 
-use kinds::ErrorKind;
+use kinds::{ErrorKind, ParseError};
 
 // How many digits a number took, and whether the first is a surplus zero: there are more, and it is 0.
 #[derive(Clone, Copy)]
@@ -16,11 +17,11 @@ pub struct Digits {
     pub surplus: bool,
 }
 
-// A number and the place after it, or why there is none and where; both with the digits that were taken.
+// What reading a number gives: the number and the place after it, or why there is none; in both cases with the digits that were taken.
 #[derive(Clone, Copy)]
-pub enum Number {
-    Value(u64, usize, Digits),
-    Refused(ErrorKind, usize, Digits),
+pub struct Number {
+    pub read: Result<(u64, usize), ParseError>,
+    pub digits: Digits,
 }
 
 fn wide(b: u8) -> u64
@@ -47,16 +48,6 @@ fn chomp_digits(text: &[u8], at: usize) -> usize
         i += 1;
     }
     i
-}
-
-// What a number's digits show, whether it is refused or not.
-pub fn number_digits(number: Number) -> Digits
-    ensures { result ≡ digits_in number }
-{
-    match number {
-        Number::Value(_, _, digits) => digits,
-        Number::Refused(_, _, digits) => digits,
-    }
 }
 
 // What `count` digits show, of which `first` is the first.
@@ -86,35 +77,42 @@ fn is_above(acc: u64, d: u64, limit: u64) -> bool
     (limit - d) / 10 < acc
 }
 
+// Why there is no number.
+fn refused(kind: ErrorKind, split_point: usize, digits: Digits) -> Number
+    ensures { result ≡ record { read = Err (parse_error kind split_point); digits = digits } }
+{
+    Number { read: Err(ParseError { kind, split_point }), digits }
+}
+
 // Every number is read here: `parse_u64`, `parse_u32` and `parse_u8` by their limits.
 fn parse_number(text: &[u8], at: usize, limit: u64) -> Number
     requires { 9 ≤ limit }
     ensures { result ≡ number_at text.now (drop at text.now) (parse_number limit (drop at text.now)) }
 {
     if text.len() <= at {
-        return Number::Refused(ErrorKind::UnexpectedEnd, text.len(), digits_taken(0, 0));
+        return refused(ErrorKind::UnexpectedEnd, text.len(), digits_taken(0, 0));
     }
     let first = text[at];
     if !is_digit(first) {
-        return Number::Refused(ErrorKind::ExpectedInteger, at, digits_taken(0, 0));
+        return refused(ErrorKind::ExpectedInteger, at, digits_taken(0, 0));
     }
     let mut acc: u64 = 0;
     let mut i = at;
     while i < text.len() {
         let b = text[i];
         if !is_digit(b) {
-            return Number::Value(acc, i, digits_taken(first, i - at));
+            return Number { read: Ok((acc, i)), digits: digits_taken(first, i - at) };
         }
         let d = wide(b - 48);
         if is_above(acc, d, limit) {
             let to = chomp_digits(text, i + 1);
             let digits = digits_taken(first, to - at);
-            return Number::Refused(ErrorKind::IntegerTooLarge, to, digits);
+            return refused(ErrorKind::IntegerTooLarge, to, digits);
         }
         acc = acc * 10 + d;
         i += 1;
     }
-    Number::Value(acc, i, digits_taken(first, i - at))
+    Number { read: Ok((acc, i)), digits: digits_taken(first, i - at) }
 }
 
 // A number of 64 bits.
