@@ -11,7 +11,7 @@ ghost use Rattle.codes.specs.Answer.{start_word, code_of, is_code, is_indirectio
 use kinds::{
     ARRAY, ATOMIC, ContainerKind, ErrorKind, POINTER, PRIMITIVES, Primitive, STRUCT, UNION,
 };
-use numbers::{Digits, Number, is_digit, parse_u8, parse_u64};
+use numbers::{Digits, is_digit, parse_u8, parse_u64};
 
 // What the digits of a bitfield's numbers show, in their order; no digits for a number that was not met.
 #[derive(Clone, Copy)]
@@ -210,21 +210,14 @@ fn parse_bit_field(text: &[u8], first: u64, to: usize, digits: Digits) -> Token
     if !is_digit(text[to + 1]) {
         return untyped(first, to, digits);
     }
-    match parse_u8(text, to + 1) {
-        Number::Value(size, end, second) => {
-            let both = BitsDigits {
-                first: digits,
-                second,
-            };
-            Token::TypedBitField(first, p, size, end, both)
-        }
-        Number::Refused(why, end, second) => {
-            let both = BitsDigits {
-                first: digits,
-                second,
-            };
-            Token::Refused(why, end, both)
-        }
+    let number = parse_u8(text, to + 1);
+    let both = BitsDigits {
+        first: digits,
+        second: number.digits,
+    };
+    match number.read {
+        Ok((size, end)) => Token::TypedBitField(first, p, size, end, both),
+        Err(e) => Token::Refused(e.kind, e.split_point, both),
     }
 }
 
@@ -233,12 +226,11 @@ fn parse_bits(text: &[u8], at: usize) -> Token
     requires { at ≤ length text.now }
     ensures { result ≡ token_of text.now (digits_in (bits_numbers (drop at text.now))) (parse_bits (parse_number max_u64 (drop at text.now))) }
 {
-    match parse_u64(text, at) {
-        Number::Refused(why, to, digits) => {
-            let first = first_digits(digits);
-            Token::Refused(why, to, first)
-        }
-        Number::Value(first, to, digits) => parse_bit_field(text, first, to, digits),
+    let number = parse_u64(text, at);
+    let digits = number.digits;
+    match number.read {
+        Err(e) => Token::Refused(e.kind, e.split_point, first_digits(digits)),
+        Ok((first, to)) => parse_bit_field(text, first, to, digits),
     }
 }
 

@@ -29,11 +29,11 @@ returns-then-not-is_digit c =
     c.untyped-then-not-is_digit.ensures ∙ answer-first a.text.now a.to a.first a.digits (search rules) (numbers-no-digit a.text.now a.to (omega arith) no)
     (bits-no-digit a.text.now a.to (omega arith) _ no)
 
-pub returns-in-Value : goal.returns-in-Value
-returns-in-Value c =
+pub returns-in-Ok : goal.returns-in-Ok
+returns-in-Ok c =
     let a = c.args in
-    let n = rw c.in-Value.is at (number_is a.text.now _ (a.to + 1) _ (omega arith) c.parse_u8.ensures) in
-    let shows = rw c.in-Value.is at (number_digits a.text.now _ (a.to + 1) _ c.parse_u8.ensures) in
+    let n = rw c.in-Ok.is at (number_is a.text.now _ (a.to + 1) _ (omega arith) c.parse_u8-number.ensures) in
+    let shows = (number_digits a.text.now _ (a.to + 1) _ c.parse_u8-number.ensures) in
     let kind = c.single_kind-p.ensures in
     let yes = sym c.is_integral.ensures ∙ c.if-not-is_integral.false in
     let typable = integral-is _ ∙ ap integral_kind (sym kind) ∙ yes in
@@ -43,11 +43,11 @@ returns-in-Value c =
     let e = bits-typed a.text.now a.to (omega arith) a.first _ typable digit known in
     answer-both a.text.now a.to a.first a.digits _ n.1.1 _ shows second _ _ (e ∙ ap (R.typed _ _) n.0 ∙ typed-is _ _ _ _)
 
-pub returns-in-Refused : goal.returns-in-Refused
-returns-in-Refused c =
+pub returns-in-Err : goal.returns-in-Err
+returns-in-Err c =
     let a = c.args in
-    let n = rw c.in-Refused.is at (number_is a.text.now _ (a.to + 1) _ (omega arith) c.parse_u8.ensures) in
-    let shows = rw c.in-Refused.is at (number_digits a.text.now _ (a.to + 1) _ c.parse_u8.ensures) in
+    let n = rw c.in-Err.is at (number_is a.text.now _ (a.to + 1) _ (omega arith) c.parse_u8-number.ensures) in
+    let shows = (number_digits a.text.now _ (a.to + 1) _ c.parse_u8-number.ensures) in
     let kind = c.single_kind-p.ensures in
     let yes = sym c.is_integral.ensures ∙ c.if-not-is_integral.false in
     let typable = integral-is _ ∙ ap integral_kind (sym kind) ∙ yes in
