@@ -12,7 +12,10 @@ ghost use Rattle.kinds.specs.Walk.{NodeAt, TreesAt, KindAndName, KindsAndNames};
 ghost use Rattle.helper.specs.Answer.{max_size, sized_in, size_answer, compare_answer};
 ghost use Rattle.helper.specs.Measure.{clip, plus_measured, larger_measured, times_measured, join_measured, fold, holding_measured, is_leaf, leaf_entry, RowOf, size_at, answer_at, compare_fields, shown_count, level_after, measured};
 
-use kinds::{ARRAY, BIT_FIELD, NONE, NestingLevel, POINTER, PRIMITIVES, ROWS, Refusal, SIZES, STRUCT, TYPED_BIT_FIELD, equivalent_kinds, is_container, primitive_size};
+use kinds::{
+    ARRAY, BIT_FIELD, NONE, NestingLevel, POINTER, PRIMITIVES, ROWS, Refusal, SIZES, STRUCT,
+    TYPED_BIT_FIELD, equivalent_kinds, is_container, primitive_size,
+};
 use sheet::{Found, FoundBoth, check, check_both, code_alone};
 
 // The kind word of a primitive that is a pointer, by which a pointer's size is found in a row.
@@ -490,7 +493,8 @@ fn code_size(row: u64, kind: u64) -> Result<Option<u64>, Refusal>
 pub fn size(words: &[u64], names: &[u8], row: u64) -> Result<Option<u64>, Refusal>
     ensures { result ≡ size_answer row words.now names.now }
 {
-    match check(words, names)? {
+    let found = check(words, names)?;
+    match found {
         Found::Code(_, kind) => code_size(row, kind),
         Found::Nodes(first, _) => nodes_size(row, &words[first..]),
     }
@@ -499,7 +503,8 @@ pub fn size(words: &[u64], names: &[u8], row: u64) -> Result<Option<u64>, Refusa
 fn compare_sheets(aw: &[u64], an: &[u8], bw: &[u64], bn: &[u8], all: bool) -> Result<bool, Refusal>
     ensures { result ≡ compare_answer all aw.now an.now bw.now bn.now }
 {
-    match check_both(aw, an, bw, bn)? {
+    let found = check_both(aw, an, bw, bn)?;
+    match found {
         FoundBoth::Codes(k, j) => Ok(equivalent_kinds(k, j)),
         FoundBoth::Nodes(f, n, g, m) => {
             let top = NestingLevel::new();
@@ -511,7 +516,13 @@ fn compare_sheets(aw: &[u64], an: &[u8], bw: &[u64], bn: &[u8], all: bool) -> Re
 
 // Whether the trees in two sheets match, by levels or with `all` fields. Two codes are told before the check of both sheets, whose
 // answer goes through memory.
-pub fn compare_encodings(aw: &[u64], an: &[u8], bw: &[u64], bn: &[u8], all: bool) -> Result<bool, Refusal>
+pub fn compare_encodings(
+    aw: &[u64],
+    an: &[u8],
+    bw: &[u64],
+    bn: &[u8],
+    all: bool,
+) -> Result<bool, Refusal>
     ensures { result ≡ compare_answer all aw.now an.now bw.now bn.now }
 {
     if let Some(k) = code_alone(aw) {

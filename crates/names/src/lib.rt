@@ -34,14 +34,23 @@ pub fn parse_name(text: &[u8], at: usize, kind: ContainerKind) -> Result<(usize,
 {
     let n = text.len();
     if n <= at {
-        return Err(ParseError { kind: ErrorKind::WrongEndContainer(kind), split_point: n });
+        return Err(ParseError {
+            kind: ErrorKind::WrongEndContainer(kind),
+            split_point: n,
+        });
     }
     let e = name_end(text, at, kind);
     if n <= e {
-        return Err(ParseError { kind: ErrorKind::WrongEndContainer(kind), split_point: e });
+        return Err(ParseError {
+            kind: ErrorKind::WrongEndContainer(kind),
+            split_point: e,
+        });
     }
     if !verify_name(&text[at..e]) {
-        return Err(ParseError { kind: ErrorKind::InvalidIdentifier(kind), split_point: e });
+        return Err(ParseError {
+            kind: ErrorKind::InvalidIdentifier(kind),
+            split_point: e,
+        });
     }
     if text[e] == b'=' {
         return Ok((e, e + 1));

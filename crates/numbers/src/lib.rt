@@ -81,7 +81,10 @@ fn is_above(acc: u64, d: u64, limit: u64) -> bool
 fn refused(kind: ErrorKind, split_point: usize, digits: Digits) -> Number
     ensures { result ≡ record { read = Err (parse_error kind split_point); digits = digits } }
 {
-    Number { read: Err(ParseError { kind, split_point }), digits }
+    Number {
+        read: Err(ParseError { kind, split_point }),
+        digits,
+    }
 }
 
 // Every number is read here: `parse_u64`, `parse_u32` and `parse_u8` by their limits.
@@ -101,7 +104,10 @@ fn parse_number(text: &[u8], at: usize, limit: u64) -> Number
     while i < text.len() {
         let b = text[i];
         if !is_digit(b) {
-            return Number { read: Ok((acc, i)), digits: digits_taken(first, i - at) };
+            return Number {
+                read: Ok((acc, i)),
+                digits: digits_taken(first, i - at),
+            };
         }
         let d = wide(b - 48);
         if is_above(acc, d, limit) {
@@ -112,7 +118,10 @@ fn parse_number(text: &[u8], at: usize, limit: u64) -> Number
         acc = acc * 10 + d;
         i += 1;
     }
-    Number { read: Ok((acc, i)), digits: digits_taken(first, i - at) }
+    Number {
+        read: Ok((acc, i)),
+        digits: digits_taken(first, i - at),
+    }
 }
 
 // A number of 64 bits.

@@ -11,10 +11,10 @@ use Rattle.codes.specs.Answer.{closed, is_indirection}
 use Rattle.codes.specs.declared.Token.{Token}
 use Rattle.codes.specs.declared.Token.TheVariants as T
 use Rattle.skip.specs.declared.Skipped.{Skipped}
-use Rattle.skip.specs.declared.Skipped.TheVariants.{Empty, Encoding, ContainerEnd, ArrayEnd, Refused}
-use Rattle.std.specs.Prelude.{Option, Some, None}
-use Rattle.skip.specs.declared.SkippedPart.{SkippedPart}
-use Rattle.skip.specs.declared.SkippedPart.TheVariants as P
+use Rattle.skip.specs.declared.Skipped.TheVariants.{Empty, Encoding, ContainerEnd, ArrayEnd}
+use Rattle.std.specs.Prelude.{Result, Ok, Err}
+use Rattle.kinds.specs.Refusal.{parse_error}
+use Rattle.kinds.specs.declared.ParseError.{ParseError}
 
 -- A tree was passed, whichever it is.
 pub record Passed (text : List ℕ) (to : ℕ) (q : R.Parsed) : Type 0 where
@@ -22,26 +22,26 @@ pub record Passed (text : List ℕ) (to : ℕ) (q : R.Parsed) : Type 0 where
   pub children : Trees
   pub is : q ≡ encoding label children (drop to text)
 
-abbrev pub SkippedIs : List ℕ → Skipped → R.Parsed → Type 0
-SkippedIs text Empty q = q ≡ empty
-SkippedIs text (Encoding to) q = Passed text to q
-SkippedIs text (ContainerEnd kind to) q = q ≡ container_end kind (drop to text)
-SkippedIs text (ArrayEnd to) q = q ≡ array_end (drop to text)
-SkippedIs text (Refused why to) q = q ≡ refused why (drop to text)
+abbrev pub SkippedIs : List ℕ → Result Skipped ParseError → R.Parsed → Type 0
+SkippedIs text (Ok Empty) q = q ≡ empty
+SkippedIs text (Ok (Encoding to)) q = Passed text to q
+SkippedIs text (Ok (ContainerEnd kind to)) q = q ≡ container_end kind (drop to text)
+SkippedIs text (Ok (ArrayEnd to)) q = q ≡ array_end (drop to text)
+SkippedIs text (Err e) q = q ≡ refused e.«kind» (drop e.«split_point» text)
 
 -- A place after `at`, within the text.
 abbrev pub Beyond : List ℕ → ℕ → ℕ → Type 0
 Beyond text at to = (at < to) × (to ≤ length text)
 
-abbrev pub SkipBound : List ℕ → ℕ → Skipped → Type 0
-SkipBound text at Empty = at ≡ length text
-SkipBound text at (Encoding to) = Beyond text at to
-SkipBound text at (ContainerEnd kind to) = Beyond text at to
-SkipBound text at (ArrayEnd to) = Beyond text at to
-SkipBound text at (Refused why to) = to ≤ length text
+abbrev pub SkipBound : List ℕ → ℕ → Result Skipped ParseError → Type 0
+SkipBound text at (Ok Empty) = at ≡ length text
+SkipBound text at (Ok (Encoding to)) = Beyond text at to
+SkipBound text at (Ok (ContainerEnd kind to)) = Beyond text at to
+SkipBound text at (Ok (ArrayEnd to)) = Beyond text at to
+SkipBound text at (Err e) = e.«split_point» ≤ length text
 
 -- The outcome of skipping at a place, whatever the fuel.
-pub record Skips (text : List ℕ) (at : ℕ) (r : Skipped) : Type 0 where
+pub record Skips (text : List ℕ) (at : ℕ) (r : Result Skipped ParseError) : Type 0 where
   pub bound : SkipBound text at r
   pub says : (f : ℕ) → length (drop at text) + length (drop at text) ≤ f → SkippedIs text r (parse_inner f (drop at text))
 
@@ -50,15 +50,15 @@ pub record PassedItems (text : List ℕ) (to : ℕ) (q : R.Items) : Type 0 where
   pub trees : Trees
   pub is : q ≡ items trees (drop to text)
 
-abbrev pub SkippedItemsIs : List ℕ → SkippedPart → R.Items → Type 0
-SkippedItemsIs text (P.To to) q = PassedItems text to q
-SkippedItemsIs text (P.Refused why to) q = q ≡ items_refused why (drop to text)
+abbrev pub SkippedItemsIs : List ℕ → Result ℕ ParseError → R.Items → Type 0
+SkippedItemsIs text (Ok to) q = PassedItems text to q
+SkippedItemsIs text (Err e) q = q ≡ items_refused e.«kind» (drop e.«split_point» text)
 
-abbrev pub SkipItemsBound : List ℕ → ℕ → SkippedPart → Type 0
-SkipItemsBound text at (P.To to) = Beyond text at to
-SkipItemsBound text at (P.Refused why to) = to ≤ length text
+abbrev pub SkipItemsBound : List ℕ → ℕ → Result ℕ ParseError → Type 0
+SkipItemsBound text at (Ok to) = Beyond text at to
+SkipItemsBound text at (Err e) = e.«split_point» ≤ length text
 
-pub record SkipsItems (text : List ℕ) (at : ℕ) (kind : ContainerKind) (r : SkippedPart) : Type 0 where
+pub record SkipsItems (text : List ℕ) (at : ℕ) (kind : ContainerKind) (r : Result ℕ ParseError) : Type 0 where
   pub bound : SkipItemsBound text at r
   pub says : (f : ℕ) → length (drop at text) + length (drop at text) < f → SkippedItemsIs text r (parse_items f kind (drop at text))
 
@@ -74,15 +74,15 @@ pub record OpensAt (text : List ℕ) (at : ℕ) (kind : ContainerKind) : Type 0 
 
 -- ---- What ends a step.
 
-abbrev pub token_skipped : Token → Skipped
-token_skipped (T.Primitive p to) = Encoding to
-token_skipped (T.BitField n to d) = Encoding to
-token_skipped (T.TypedBitField o p n to d) = Encoding to
-token_skipped (T.ArrayEnd to) = ArrayEnd to
-token_skipped (T.ContainerEnd kind to) = ContainerEnd kind to
-token_skipped (T.Refused why to d) = Refused why to
-token_skipped T.Parts = Empty
-token_skipped T.End = Empty
+abbrev pub token_skipped : Token → Result Skipped ParseError
+token_skipped (T.Primitive p to) = Ok (Encoding to)
+token_skipped (T.BitField n to d) = Ok (Encoding to)
+token_skipped (T.TypedBitField o p n to d) = Ok (Encoding to)
+token_skipped (T.ArrayEnd to) = Ok (ArrayEnd to)
+token_skipped (T.ContainerEnd kind to) = Ok (ContainerEnd kind to)
+token_skipped (T.Refused why to d) = Err (parse_error why to)
+token_skipped T.Parts = Ok Empty
+token_skipped T.End = Ok Empty
 
 -- Under a pointer or an atomic: a closer is given back.
 abbrev pub under_skipped : Skipped → ℕ → Skipped
@@ -90,44 +90,32 @@ under_skipped Empty to = Encoding to
 under_skipped (Encoding end) to = Encoding end
 under_skipped (ContainerEnd kind end) to = Encoding to
 under_skipped (ArrayEnd end) to = Encoding to
-under_skipped (Refused why end) to = Refused why end
 
 abbrev pub held_skipped : Skipped → ℕ → ℕ → Skipped
 held_skipped s at to = cond (eqb at to) s (under_skipped s to)
 
 -- An array's item and its closer.
-abbrev pub item_skipped : Skipped → List ℕ → Skipped
-item_skipped Empty text = Refused WrongEndArray (length text)
-item_skipped (Encoding to) text = cond (closed text to) (Encoding (to + 1)) (Refused WrongEndArray to)
-item_skipped (ContainerEnd kind to) text = Refused (Unknown (end_byte kind)) to
-item_skipped (ArrayEnd to) text = Encoding to
-item_skipped (Refused why to) text = Refused why to
-
-abbrev pub contained_skipped : SkippedPart → Skipped
-contained_skipped (P.To to) = Encoding to
-contained_skipped (P.Refused why to) = Refused why to
+abbrev pub item_skipped : Skipped → List ℕ → Result Skipped ParseError
+item_skipped Empty text = Err (parse_error WrongEndArray (length text))
+item_skipped (Encoding to) text = cond (closed text to) (Ok (Encoding (to + 1))) (Err (parse_error WrongEndArray to))
+item_skipped (ContainerEnd kind to) text = Err (parse_error (Unknown (end_byte kind)) to)
+item_skipped (ArrayEnd to) text = Ok (Encoding to)
 
 -- What ends a container's fields.
-abbrev pub end_skipped : Skipped → List ℕ → ContainerKind → SkippedPart
-end_skipped Empty text kind = P.Refused (WrongEndContainer kind) (length text)
-end_skipped (Encoding to) text kind = P.To to
-end_skipped (ContainerEnd other to) text kind = cond (same_container kind other) (P.To to) (P.Refused (Unknown (end_byte other)) to)
-end_skipped (ArrayEnd to) text kind = P.Refused (Unknown (byte "]")) to
-end_skipped (Refused why to) text kind = P.Refused why to
+abbrev pub end_skipped : Skipped → List ℕ → ContainerKind → Result ℕ ParseError
+end_skipped Empty text kind = Err (parse_error (WrongEndContainer kind) (length text))
+end_skipped (Encoding to) text kind = Ok to
+end_skipped (ContainerEnd other to) text kind = cond (same_container kind other) (Ok to) (Err (parse_error (Unknown (end_byte other)) to))
+end_skipped (ArrayEnd to) text kind = Err (parse_error (Unknown (byte "]")) to)
 
 -- ---- The answers.
 
-abbrev pub fields_of : SkippedPart → Option ℕ
-fields_of (P.To to) = Some to
-fields_of (P.Refused why to) = None
-
 -- A type on its own: nothing is left where None stands, and a closer stands for no type.
-abbrev pub encoding_of : Skipped → List ℕ → SkippedPart
-encoding_of Empty text = P.To (length text)
-encoding_of (Encoding to) text = P.To to
-encoding_of (ContainerEnd kind to) text = P.Refused (Unknown (end_byte kind)) to
-encoding_of (ArrayEnd to) text = P.Refused (Unknown (byte "]")) to
-encoding_of (Refused why to) text = P.Refused why to
+abbrev pub encoding_of : Skipped → List ℕ → Result ℕ ParseError
+encoding_of Empty text = Ok (length text)
+encoding_of (Encoding to) text = Ok to
+encoding_of (ContainerEnd kind to) text = Err (parse_error (Unknown (end_byte kind)) to)
+encoding_of (ArrayEnd to) text = Err (parse_error (Unknown (byte "]")) to)
 
 -- An object ends before this byte: it is no block and has no class name.
 abbrev pub ends_object : ℕ → Bool

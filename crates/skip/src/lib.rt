@@ -7,47 +7,48 @@ ghost use Rattle.std.specs.Prelude.{◌≡◌, ◌+◌, ◌≤◌, ◌<◌, leng
 ghost use Rattle.kinds.specs.Expect.{skip_items};
 ghost use Rattle.kinds.specs.Parse.{parse_encoding_or_none};
 ghost use Rattle.skip.specs.Answer.{skipped_at, encoding_at};
-ghost use Rattle.skip.specs.Skips.{token_skipped, held_skipped, item_skipped, contained_skipped, end_skipped, fields_of, encoding_of, ends_object, object_alone, Skips, SkipsItems, OneAt, OpensAt};
+ghost use Rattle.kinds.specs.Refusal.{parse_error};
+ghost use Rattle.kinds.specs.declared.ErrorKind.TheVariants.{Unknown};
+ghost use Rattle.skip.specs.Skips.{token_skipped, held_skipped, item_skipped, end_skipped, encoding_of, ends_object, object_alone, Skips, SkipsItems, OneAt, OpensAt};
 
 use codes::{
     OBJECT_START, Token, closes_fields, closes_item, codes_end, indirections_end, same_container,
     single_kind, start, token_at,
 };
-use kinds::{ContainerKind, ErrorKind, PRIMITIVES};
-use names::{Name, parse_name};
-use numbers::{Number, parse_u64};
+use kinds::{ContainerKind, ErrorKind, PRIMITIVES, ParseError};
+use names::parse_name;
+use numbers::parse_u64;
 use parser::strip_at;
 
-// What skipping at a place gives: the place after it, or why it cannot be read and where.
+// What skipping at a place gives, with the place after it.
 #[derive(Clone, Copy)]
 enum Skipped {
     Empty,
     Encoding(usize),
     ContainerEnd(ContainerKind, usize),
     ArrayEnd(usize),
-    Refused(ErrorKind, usize),
 }
 
-// The place after what was passed, or why it cannot be read and where.
-#[derive(Clone, Copy)]
-pub enum SkippedPart {
-    To(usize),
-    Refused(ErrorKind, usize),
+// A closer that ends nothing here.
+fn unknown_end(b: u8, split_point: usize) -> ParseError
+    ensures { result ≡ parse_error (Unknown b) split_point }
+{
+    ParseError { kind: ErrorKind::Unknown(b), split_point }
 }
 
 // `Parts` and `End` are not handed in.
-fn skip_token(t: Token) -> Skipped
+fn skip_token(t: Token) -> Result<Skipped, ParseError>
     ensures { result ≡ token_skipped t }
 {
     match t {
-        Token::Primitive(_, to) => Skipped::Encoding(to),
-        Token::BitField(_, to, _) => Skipped::Encoding(to),
-        Token::TypedBitField(_, _, _, to, _) => Skipped::Encoding(to),
-        Token::ArrayEnd(to) => Skipped::ArrayEnd(to),
-        Token::ContainerEnd(kind, to) => Skipped::ContainerEnd(kind, to),
-        Token::Refused(why, to, _) => Skipped::Refused(why, to),
-        Token::Parts => Skipped::Empty,
-        Token::End => Skipped::Empty,
+        Token::Primitive(_, to) => Ok(Skipped::Encoding(to)),
+        Token::BitField(_, to, _) => Ok(Skipped::Encoding(to)),
+        Token::TypedBitField(_, _, _, to, _) => Ok(Skipped::Encoding(to)),
+        Token::ArrayEnd(to) => Ok(Skipped::ArrayEnd(to)),
+        Token::ContainerEnd(kind, to) => Ok(Skipped::ContainerEnd(kind, to)),
+        Token::Refused(kind, split_point, _) => Err(ParseError { kind, split_point }),
+        Token::Parts => Ok(Skipped::Empty),
+        Token::End => Ok(Skipped::Empty),
     }
 }
 
@@ -63,85 +64,72 @@ fn skip_held(s: Skipped, at: usize, to: usize) -> Skipped
         Skipped::Encoding(end) => Skipped::Encoding(end),
         Skipped::ContainerEnd(_, _) => Skipped::Encoding(to),
         Skipped::ArrayEnd(_) => Skipped::Encoding(to),
-        Skipped::Refused(why, end) => Skipped::Refused(why, end),
     }
 }
 
 // Ends an array, whose item was skipped.
-fn skip_item(s: Skipped, text: &[u8]) -> Skipped
+fn skip_item(s: Skipped, text: &[u8]) -> Result<Skipped, ParseError>
     ensures { result ≡ item_skipped s text.now }
 {
     match s {
-        Skipped::Empty => Skipped::Refused(ErrorKind::WrongEndArray, text.len()),
+        Skipped::Empty => Err(ParseError { kind: ErrorKind::WrongEndArray, split_point: text.len() }),
         Skipped::Encoding(to) => {
             if closes_item(text, to) {
-                Skipped::Encoding(to + 1)
+                Ok(Skipped::Encoding(to + 1))
             } else {
-                Skipped::Refused(ErrorKind::WrongEndArray, to)
+                Err(ParseError { kind: ErrorKind::WrongEndArray, split_point: to })
             }
         }
-        Skipped::ContainerEnd(kind, to) => Skipped::Refused(
-            ErrorKind::Unknown(kind.end_byte()),
-            to,
-        ),
-        Skipped::ArrayEnd(to) => Skipped::Encoding(to),
-        Skipped::Refused(why, to) => Skipped::Refused(why, to),
-    }
-}
-
-fn skip_contained(fields: SkippedPart) -> Skipped
-    ensures { result ≡ contained_skipped fields }
-{
-    match fields {
-        SkippedPart::To(to) => Skipped::Encoding(to),
-        SkippedPart::Refused(why, to) => Skipped::Refused(why, to),
+        Skipped::ContainerEnd(kind, to) => Err(unknown_end(kind.end_byte(), to)),
+        Skipped::ArrayEnd(to) => Ok(Skipped::Encoding(to)),
     }
 }
 
 // What ends a container's fields; a type does not.
-fn end_skipped(s: Skipped, text: &[u8], kind: ContainerKind) -> SkippedPart
+fn end_skipped(s: Skipped, text: &[u8], kind: ContainerKind) -> Result<usize, ParseError>
     ensures { result ≡ end_skipped s text.now kind }
 {
     match s {
-        Skipped::Empty => SkippedPart::Refused(ErrorKind::WrongEndContainer(kind), text.len()),
-        Skipped::Encoding(to) => SkippedPart::To(to),
+        Skipped::Empty => Err(ParseError { kind: ErrorKind::WrongEndContainer(kind), split_point: text.len() }),
+        Skipped::Encoding(to) => Ok(to),
         Skipped::ContainerEnd(other, to) => {
             if same_container(kind, other) {
-                SkippedPart::To(to)
+                Ok(to)
             } else {
-                SkippedPart::Refused(ErrorKind::Unknown(other.end_byte()), to)
+                Err(unknown_end(other.end_byte(), to))
             }
         }
-        Skipped::ArrayEnd(to) => SkippedPart::Refused(ErrorKind::Unknown(b']'), to),
-        Skipped::Refused(why, to) => SkippedPart::Refused(why, to),
+        Skipped::ArrayEnd(to) => Err(unknown_end(b']', to)),
     }
 }
 
 // A type from `at` on. A run of pointers and atomics is passed in one go, so that its depth costs no stack.
 #[cycle(skip_container_skip_inner_skip_items_skip_one)]
-fn skip_inner(text: &[u8], at: usize) -> Skipped
+fn skip_inner(text: &[u8], at: usize) -> Result<Skipped, ParseError>
     requires { at ≤ length text.now }
     ensures { Skips text.now at result }
 {
     let to = indirections_end(text, at);
     if text.len() <= to {
-        return skip_held(Skipped::Empty, at, to);
+        return Ok(skip_held(Skipped::Empty, at, to));
     }
-    skip_held(skip_one(&text[0..], to), at, to)
+    let one = skip_one(&text[0..], to)?;
+    Ok(skip_held(one, at, to))
 }
 
 // A type that is no pointer and no atomic. Arrays and containers are tested for here, which costs less than asking `codes::start`.
 #[cycle(skip_container_skip_inner_skip_items_skip_one)]
-fn skip_one(text: &[u8], at: usize) -> Skipped
+fn skip_one(text: &[u8], at: usize) -> Result<Skipped, ParseError>
     requires { OneAt text.now at }
     ensures { Skips text.now at result }
 {
     let b = text[at];
     match b {
-        b'[' => match parse_u64(text, at + 1) {
-            Number::Refused(why, to, _) => Skipped::Refused(why, to),
-            Number::Value(_, item, _) => skip_item(skip_inner(&text[0..], item), text),
-        },
+        b'[' => {
+            let (_, item) = parse_u64(text, at + 1).read?;
+            let s = skip_inner(&text[0..], item)?;
+            skip_item(s, text)
+        }
         b'{' => skip_container(&text[0..], at, ContainerKind::Struct),
         b'(' => skip_container(&text[0..], at, ContainerKind::Union),
         _ => skip_token(token_at(text, at)),
@@ -150,19 +138,18 @@ fn skip_one(text: &[u8], at: usize) -> Skipped
 
 // A struct or a union, whose opening byte is at `at`.
 #[cycle(skip_container_skip_inner_skip_items_skip_one)]
-fn skip_container(text: &[u8], at: usize, kind: ContainerKind) -> Skipped
+fn skip_container(text: &[u8], at: usize, kind: ContainerKind) -> Result<Skipped, ParseError>
     requires { OpensAt text.now at kind }
     ensures { Skips text.now at result }
 {
-    match parse_name(text, at + 1, kind) {
-        Name::Refused(why, to) => Skipped::Refused(why, to),
-        Name::Is(_, start) => skip_contained(skip_items(&text[0..], start, kind)),
-    }
+    let (_, start) = parse_name(text, at + 1, kind)?;
+    let to = skip_items(&text[0..], start, kind)?;
+    Ok(Skipped::Encoding(to))
 }
 
 // The fields of a container from `at` on, up to its closer; a run of codes without a call for each, and none for the closer.
 #[cycle(skip_container_skip_inner_skip_items_skip_one)]
-fn skip_items(text: &[u8], at: usize, kind: ContainerKind) -> SkippedPart
+fn skip_items(text: &[u8], at: usize, kind: ContainerKind) -> Result<usize, ParseError>
     requires { at ≤ length text.now }
     ensures { SkipsItems text.now at kind result }
 {
@@ -170,9 +157,9 @@ fn skip_items(text: &[u8], at: usize, kind: ContainerKind) -> SkippedPart
     loop {
         let past = codes_end(text, to);
         if closes_fields(text, past, kind) {
-            return SkippedPart::To(past + 1);
+            return Ok(past + 1);
         }
-        let s = skip_inner(&text[0..], past);
+        let s = skip_inner(&text[0..], past)?;
         match s {
             Skipped::Encoding(next) => {
                 to = next;
@@ -184,16 +171,6 @@ fn skip_items(text: &[u8], at: usize, kind: ContainerKind) -> SkippedPart
     }
 }
 
-// Why the fields cannot be read is not asked.
-fn skipped_fields(s: SkippedPart) -> Option<usize>
-    ensures { result ≡ fields_of s }
-{
-    match s {
-        SkippedPart::To(to) => Some(to),
-        SkippedPart::Refused(_, _) => None,
-    }
-}
-
 // Passes whatever can be read from `at` on up to the container's closer; a place past the end is taken as the end.
 pub fn skip_fields(text: &[u8], at: usize, kind: ContainerKind) -> Option<usize>
     ensures { result ≡ skipped_at text.now (skip_items kind (drop at text.now)) }
@@ -201,22 +178,18 @@ pub fn skip_fields(text: &[u8], at: usize, kind: ContainerKind) -> Option<usize>
     if text.len() <= at {
         return None;
     }
-    skipped_fields(skip_items(&text[0..], at, kind))
+    skip_items(&text[0..], at, kind).ok()
 }
 
 // A closer stands for no type; nothing is left where None stands.
-fn encoding_or_none(s: Skipped, text: &[u8]) -> SkippedPart
+fn encoding_or_none(s: Skipped, text: &[u8]) -> Result<usize, ParseError>
     ensures { result ≡ encoding_of s text.now }
 {
     match s {
-        Skipped::Empty => SkippedPart::To(text.len()),
-        Skipped::Encoding(to) => SkippedPart::To(to),
-        Skipped::ContainerEnd(kind, to) => SkippedPart::Refused(
-            ErrorKind::Unknown(kind.end_byte()),
-            to,
-        ),
-        Skipped::ArrayEnd(to) => SkippedPart::Refused(ErrorKind::Unknown(b']'), to),
-        Skipped::Refused(why, to) => SkippedPart::Refused(why, to),
+        Skipped::Empty => Ok(text.len()),
+        Skipped::Encoding(to) => Ok(to),
+        Skipped::ContainerEnd(kind, to) => Err(unknown_end(kind.end_byte(), to)),
+        Skipped::ArrayEnd(to) => Err(unknown_end(b']', to)),
     }
 }
 
@@ -246,19 +219,20 @@ fn object_alone(text: &[u8], at: usize) -> bool
 }
 
 // Passes a type with its qualifiers from `at` on, as all readings begin (`parse_encoding_or_none`); a place past the end is taken as the end.
-pub fn skip_encoding_or_none(text: &[u8], at: usize) -> SkippedPart
+pub fn skip_encoding_or_none(text: &[u8], at: usize) -> Result<usize, ParseError>
     ensures { result ≡ encoding_at text.now (parse_encoding_or_none (drop at text.now)) }
 {
     if text.len() <= at {
-        return SkippedPart::To(text.len());
+        return Ok(text.len());
     }
     // What takes one byte needs no walk, and no qualifier does.
     if single_kind(text[at]) < PRIMITIVES {
-        return SkippedPart::To(at + 1);
+        return Ok(at + 1);
     }
     if object_alone(text, at) {
-        return SkippedPart::To(at + 1);
+        return Ok(at + 1);
     }
     let from = strip_at(text, at);
-    encoding_or_none(skip_inner(&text[0..], from), text)
+    let s = skip_inner(&text[0..], from)?;
+    encoding_or_none(s, text)
 }

@@ -453,7 +453,8 @@ fn print_tree(nodes: &[u64], names: &[u8], n: usize, out: &mut [u8]) -> Result<u
 pub fn static_encoding_str_len(words: &[u64], names: &[u8]) -> Result<usize, Refusal>
     ensures { result ≡ encoding_len words.now names.now }
 {
-    match check(&words[0..], &names[0..])? {
+    let root = check(&words[0..], &names[0..])?;
+    match root {
         Found::Code(_, kind) => Ok(code_len(kind)),
         Found::Nodes(first, n) => Ok(trees_len(&words[first..], 0, n, NestingLevel::new())),
     }

@@ -15,13 +15,13 @@ use Rattle.numbers.proofs.NumberLaws.{answer-refused, answer-ended, no-digits, a
 use Rattle.numbers.proofs.parse_number.Goals as goal
 
 pub returns-then-text-at : goal.returns-then-text-at
-returns-then-text-at c = rw c.digits_taken.ensures (answer-ended _ _ _ c.if-text-at.true)
+returns-then-text-at c = c.refused.ensures ∙ rw c.digits_taken.ensures (answer-ended _ _ _ c.if-text-at.true)
 
 pub returns-then-not-is_digit : goal.returns-then-not-is_digit
 returns-then-not-is_digit c =
     let h = c.if-text-at.false in
     let no = sym c.is_digit.ensures ∙ c.if-not-is_digit.true in
-    answer-refused _ _ _ _ _ _ (omega arith) (c.digits_taken-then-not-is_digit.ensures ∙ no-digits _ (count-stop-at _ _ h no)) (number-none-at _ _ _ h no)
+    c.refused-then-not-is_digit.ensures ∙ answer-refused _ _ _ _ _ _ (omega arith) (c.digits_taken-then-not-is_digit.ensures ∙ no-digits _ (count-stop-at _ _ h no)) (number-none-at _ _ _ h no)
 
 pub loop-i-init : goal.loop-i-init
 loop-i-init c =
@@ -76,7 +76,7 @@ returns-then-is_above c =
       end.within,
     ) in
     let all = all_digits_lem a.text.now a.at (c.chomp_digits-to.result - a.at) count c.if-text-at.false in
-    answer-refused _ _ _ _ _ _ end.within (c.digits_taken-digits.ensures ∙ all)
+    c.refused-then-is_above.ensures ∙ answer-refused _ _ _ _ _ _ end.within (c.digits_taken-digits.ensures ∙ all)
     (l.invariant.0 ∙ ap (bounded _) here ∙ too_large_lem _ _ _ above ∙ ap (no_number IntegerTooLarge) end.left)
 
 pub overflow_mul-acc : goal.overflow_mul-acc

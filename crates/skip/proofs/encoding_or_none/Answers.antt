@@ -8,10 +8,8 @@ pub returns-in-Encoding : goal.returns-in-Encoding
 returns-in-Encoding c = rw c.in-Encoding.is refl
 
 pub returns-in-ContainerEnd : goal.returns-in-ContainerEnd
-returns-in-ContainerEnd c = rw (c.in-ContainerEnd.is, c.end_byte.ensures) refl
+returns-in-ContainerEnd c = rw (c.in-ContainerEnd.is, c.unknown_end.ensures, c.end_byte.ensures) refl
 
 pub returns-in-ArrayEnd : goal.returns-in-ArrayEnd
-returns-in-ArrayEnd c = rw c.in-ArrayEnd.is refl
+returns-in-ArrayEnd c = rw (c.in-ArrayEnd.is, c.unknown_end-in-ArrayEnd.ensures) refl
 
-pub returns-in-Refused : goal.returns-in-Refused
-returns-in-Refused c = rw c.in-Refused.is refl

@@ -11,10 +11,8 @@ pub returns-then-same_container : goal.returns-then-same_container
 returns-then-same_container c = rw (c.in-ContainerEnd.is, sym c.same_container.ensures ∙ c.if-same_container.true) refl
 
 pub returns-else-same_container : goal.returns-else-same_container
-returns-else-same_container c = rw (c.in-ContainerEnd.is, c.end_byte.ensures, sym c.same_container.ensures ∙ c.if-same_container.false) refl
+returns-else-same_container c = rw (c.in-ContainerEnd.is, c.unknown_end.ensures, c.end_byte.ensures, sym c.same_container.ensures ∙ c.if-same_container.false) refl
 
 pub returns-in-ArrayEnd : goal.returns-in-ArrayEnd
-returns-in-ArrayEnd c = rw c.in-ArrayEnd.is refl
+returns-in-ArrayEnd c = rw (c.in-ArrayEnd.is, c.unknown_end-in-ArrayEnd.ensures) refl
 
-pub returns-in-Refused : goal.returns-in-Refused
-returns-in-Refused c = rw c.in-Refused.is refl

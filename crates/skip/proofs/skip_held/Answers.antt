@@ -17,5 +17,3 @@ returns-in-ContainerEnd c = rw (c.in-ContainerEnd.is, ne_eqb _ _ c.if-at-to.fals
 pub returns-in-ArrayEnd : goal.returns-in-ArrayEnd
 returns-in-ArrayEnd c = rw (c.in-ArrayEnd.is, ne_eqb _ _ c.if-at-to.false) refl
 
-pub returns-in-Refused : goal.returns-in-Refused
-returns-in-Refused c = rw (c.in-Refused.is, ne_eqb _ _ c.if-at-to.false) refl

@@ -17,10 +17,8 @@ pub returns-else-closes_item : goal.returns-else-closes_item
 returns-else-closes_item c = rw (c.in-Encoding.is, sym c.closes_item.ensures ∙ c.if-closes_item.false) refl
 
 pub returns-in-ContainerEnd : goal.returns-in-ContainerEnd
-returns-in-ContainerEnd c = rw (c.in-ContainerEnd.is, c.end_byte.ensures) refl
+returns-in-ContainerEnd c = rw (c.in-ContainerEnd.is, c.unknown_end.ensures, c.end_byte.ensures) refl
 
 pub returns-in-ArrayEnd : goal.returns-in-ArrayEnd
 returns-in-ArrayEnd c = rw c.in-ArrayEnd.is refl
 
-pub returns-in-Refused : goal.returns-in-Refused
-returns-in-Refused c = rw c.in-Refused.is refl
