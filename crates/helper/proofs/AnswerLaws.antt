@@ -96,9 +96,9 @@ module _ (row : ℕ) where
       small : (x : ℕ) → n ≤ 32 → max_u32 ≤ x → n ≤ x
       small x p q = omega arith
 
-  pub code-row : row < 4 → (k : ℕ) {o : Option ℕ} → o ≡ size_in row k → Ok o ≡ sized_in row (node (primitive k) end end)
-  code-row h k {None} e = code-none h k e
-  code-row h k {Some n} e = code-some h k n e
+  pub code-row : row < 4 → (k : ℕ) (o : Option ℕ) → o ≡ size_in row k → Ok o ≡ sized_in row (node (primitive k) end end)
+  code-row h k None e = code-none h k e
+  code-row h k (Some n) e = code-some h k n e
 
   module _ (words names : List ℕ) where
     pub size-refused : {r : Refusal} → held words names ≡ refused r → Err r ≡ size_answer row words names

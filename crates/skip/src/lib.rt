@@ -33,7 +33,10 @@ enum Skipped {
 fn unknown_end(b: u8, split_point: usize) -> ParseError
     ensures { result ≡ parse_error (Unknown b) split_point }
 {
-    ParseError { kind: ErrorKind::Unknown(b), split_point }
+    ParseError {
+        kind: ErrorKind::Unknown(b),
+        split_point,
+    }
 }
 
 // `Parts` and `End` are not handed in.
@@ -72,12 +75,18 @@ fn skip_item(s: Skipped, text: &[u8]) -> Result<Skipped, ParseError>
     ensures { result ≡ item_skipped s text.now }
 {
     match s {
-        Skipped::Empty => Err(ParseError { kind: ErrorKind::WrongEndArray, split_point: text.len() }),
+        Skipped::Empty => Err(ParseError {
+            kind: ErrorKind::WrongEndArray,
+            split_point: text.len(),
+        }),
         Skipped::Encoding(to) => {
             if closes_item(text, to) {
                 Ok(Skipped::Encoding(to + 1))
             } else {
-                Err(ParseError { kind: ErrorKind::WrongEndArray, split_point: to })
+                Err(ParseError {
+                    kind: ErrorKind::WrongEndArray,
+                    split_point: to,
+                })
             }
         }
         Skipped::ContainerEnd(kind, to) => Err(unknown_end(kind.end_byte(), to)),
@@ -90,7 +99,10 @@ fn end_skipped(s: Skipped, text: &[u8], kind: ContainerKind) -> Result<usize, Pa
     ensures { result ≡ end_skipped s text.now kind }
 {
     match s {
-        Skipped::Empty => Err(ParseError { kind: ErrorKind::WrongEndContainer(kind), split_point: text.len() }),
+        Skipped::Empty => Err(ParseError {
+            kind: ErrorKind::WrongEndContainer(kind),
+            split_point: text.len(),
+        }),
         Skipped::Encoding(to) => Ok(to),
         Skipped::ContainerEnd(other, to) => {
             if same_container(kind, other) {

@@ -22,7 +22,7 @@ nodes_size-requires c =
 
 pub returns-in_err-found : goal.returns-in_err-found
 returns-in_err-found c =
-    let k = size-refused _ _ _ (given-refused c.args.words.now c.args.names.now c.check.ensures.gives c.in_err-found.was) in
+    let k = size-refused c.args.row c.args.words.now c.args.names.now (given-refused c.args.words.now c.args.names.now c.check.ensures.gives c.in_err-found.was) in
     search rules
 
 pub returns-in-Code : goal.returns-in-Code

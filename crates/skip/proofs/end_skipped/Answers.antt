@@ -15,4 +15,3 @@ returns-else-same_container c = rw (c.in-ContainerEnd.is, c.unknown_end.ensures,
 
 pub returns-in-ArrayEnd : goal.returns-in-ArrayEnd
 returns-in-ArrayEnd c = rw (c.in-ArrayEnd.is, c.unknown_end-in-ArrayEnd.ensures) refl
-

@@ -16,4 +16,3 @@ returns-in-ContainerEnd c = rw (c.in-ContainerEnd.is, ne_eqb _ _ c.if-at-to.fals
 
 pub returns-in-ArrayEnd : goal.returns-in-ArrayEnd
 returns-in-ArrayEnd c = rw (c.in-ArrayEnd.is, ne_eqb _ _ c.if-at-to.false) refl
-

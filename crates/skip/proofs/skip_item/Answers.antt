@@ -21,4 +21,3 @@ returns-in-ContainerEnd c = rw (c.in-ContainerEnd.is, c.unknown_end.ensures, c.e
 
 pub returns-in-ArrayEnd : goal.returns-in-ArrayEnd
 returns-in-ArrayEnd c = rw c.in-ArrayEnd.is refl
-
