@@ -22,9 +22,8 @@ use Rattle.numbers.proofs.NumberLaws.{LeftOf, left-number}
 use Rattle.names.proofs.NameLaws.{NamedOf, name-found}
 use Rattle.codes.proofs.TokenLaws.{Simple, is-primitive, is-bit-field, is-typed, is-refused, simple-complex, simple-object, simple-number}
 use Rattle.skip.specs.Answer.{skipped_at, encoding_at}
-use Rattle.std.specs.Prelude.{Option, Some, None}
-use Rattle.skip.specs.declared.SkippedPart.{SkippedPart}
-use Rattle.skip.specs.declared.SkippedPart.TheVariants as P
+use Rattle.std.specs.Prelude.{Option, Some, None, Result, Ok, Err}
+use Rattle.kinds.specs.declared.ParseError.{ParseError}
 
 -- `t` is the end of `s`, and a byte at least was read before it.
 abbrev Ahead : List ℕ → List ℕ → Type 0
@@ -195,9 +194,9 @@ pub record EncodingPassed (text : List ℕ) (at to : ℕ) (q : Encoded) : Type 0
   pub within : to ≤ length text
 
 -- Of an answer: what was passed and what is unread after it, or why it cannot be read and where.
-abbrev pub EncodingIs : List ℕ → ℕ → SkippedPart → Encoded → Type 0
-EncodingIs text at (P.To to) q = EncodingPassed text at to q
-EncodingIs text at (P.Refused e to) q = (q ≡ not_encoded e (drop to text)) × (to ≤ length text)
+abbrev pub EncodingIs : List ℕ → ℕ → Result ℕ ParseError → Encoded → Type 0
+EncodingIs text at (Ok to) q = EncodingPassed text at to q
+EncodingIs text at (Err e) q = (q ≡ not_encoded e.«kind» (drop e.«split_point» text)) × (e.«split_point» ≤ length text)
 
 answered-encoding : (text : List ℕ) (at : ℕ) → at ≤ length text → (q : Encoded) → EncodedOf (drop at text) q → EncodingIs text at (encoding_at text q) q
 unfolding encoding_at
@@ -207,6 +206,6 @@ answered-encoding text at l (encoded m cs t) r =
     record { label = m; children = cs; is = ap (encoded m cs) u.is; onward = λ h. let k = r.1 (omega arith) in omega arith; within = u.within }
 answered-encoding text at l (not_encoded e t) r = let u = unread-at l r in (ap (not_encoded e) u.is, u.within)
 
-pub encoding-is : (text : List ℕ) (at : ℕ) (r : SkippedPart) → at ≤ length text → r ≡ encoding_at text (parse_encoding_or_none (drop at text))
+pub encoding-is : (text : List ℕ) (at : ℕ) (r : Result ℕ ParseError) → at ≤ length text → r ≡ encoding_at text (parse_encoding_or_none (drop at text))
     → EncodingIs text at r (parse_encoding_or_none (drop at text))
 encoding-is text at r l e = rw e (answered-encoding text at l (parse_encoding_or_none (drop at text)) (encoding-rest (drop at text)))

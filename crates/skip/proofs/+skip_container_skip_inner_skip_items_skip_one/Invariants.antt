@@ -1,11 +1,12 @@
 use lib.ListN.{length}
 use Rattle.skip.specs.Skips.{SkipsItems}
-use Rattle.skip.specs.declared.SkippedPart.{SkippedPart}
+use Rattle.std.specs.Prelude.{Result}
+use Rattle.kinds.specs.declared.ParseError.{ParseError}
 use Prim.Native.Nat.{ℕ, ◌+◌, ◌*◌, ◌-◌, ◌≤◌}
 use Rattle.skip.proofs.+skip_container_skip_inner_skip_items_skip_one.Given as goal
 
 abbrev pub invariant-skip_items-loop-kind : goal.invariant-skip_items-loop-kind
-invariant-skip_items-loop-kind l = (l.at ≤ l.to) × ((l.to ≤ length l.text) × ((i : SkippedPart) → SkipsItems l.text l.to l.kind i → SkipsItems l.text l.at l.kind i))
+invariant-skip_items-loop-kind l = (l.at ≤ l.to) × ((l.to ≤ length l.text) × ((i : Result ℕ ParseError) → SkipsItems l.text l.to l.kind i → SkipsItems l.text l.at l.kind i))
 
 abbrev pub decreases-skip_items-loop-kind : goal.decreases-skip_items-loop-kind
 decreases-skip_items-loop-kind l = length l.text - l.to

@@ -6,4 +6,4 @@ pub returns-then-text-at : goal.returns-then-text-at
 returns-then-text-at c = answer-ended _ _ _ c.if-text-at.true
 
 pub returns : goal.returns
-returns c = answer-fields _ _ _ _ _ (rw (whole c.args.text.now) at c.skip_items.ensures) c.skipped_fields.ensures
+returns c = answer-fields _ _ _ _ _ (rw (whole c.args.text.now) at c.skip_items.ensures) c.ok.ensures.value
