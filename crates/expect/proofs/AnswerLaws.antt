@@ -1,4 +1,5 @@
 -- The answer of tree against text, from the outcome of the walk and by what the check of a sheet found.
+use Rattle.std.specs.Prelude.{Option}
 use Prim.Native.Nat.{ℕ, ◌≤◌, ◌<◌}
 use mathlib.Core.Path.{◌≡◌, ap, sym, ◌∙◌, subst}
 use mathlib.Core.List.{List}
@@ -23,18 +24,18 @@ use Rattle.expect.specs.Answer.{compared}
 use Rattle.expect.proofs.TextLaws.{then-nothing, same_outcome}
 
 -- Where the walk along a tree began after the qualifiers, its outcome decides.
-pub decided : (text : List ℕ) (t : Trees) (start : ℕ) (r : X.Expected) {d : Bool} → drop start text ≡ strip_leading_qualifiers text
+pub decided : (text : List ℕ) (t : Trees) (start : ℕ) (r : Option ℕ) {d : Bool} → drop start text ≡ strip_leading_qualifiers text
     → ExpectedIs text r (expect_encoding Top t (drop start text)) → ((q : E.Expected) → ExpectedIs text r q → d ≡ is_empty q) → d ≡ equivalent_to_str t text
 unfolding equivalent_to_str
 decided text t start r p h f = f _ h ∙ ap (λ (x : List ℕ). is_empty (expect_encoding Top t x)) p
 
 -- A code alone.
-pub code-walk : (text : List ℕ) (k : ℕ) (s : List ℕ) (r : X.Expected) → ExpectedIs text r (expect_primitive k s)
+pub code-walk : (text : List ℕ) (k : ℕ) (s : List ℕ) (r : Option ℕ) → ExpectedIs text r (expect_primitive k s)
     → ExpectedIs text r (expect_encoding Top (node (primitive k) end end) s)
 unfolding expect_encoding expect_node
 code-walk text k s r h = same_outcome text r _ _ (then-nothing (expect_primitive k s)) h
 
-pub at_top : (text s : List ℕ) (t : Trees) (r : X.Expected) {v : NestingLevel} → v ≡ Top → ExpectedIs text r (expect_encoding v t s)
+pub at_top : (text s : List ℕ) (t : Trees) (r : Option ℕ) {v : NestingLevel} → v ≡ Top → ExpectedIs text r (expect_encoding v t s)
     → ExpectedIs text r (expect_encoding Top t s)
 at_top text s t r e h = subst (λ (x : NestingLevel). ExpectedIs text r (expect_encoding x t s)) e h
 

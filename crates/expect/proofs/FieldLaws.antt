@@ -1,4 +1,5 @@
 -- The walk over trees side by side: nodes whose own text is one byte, what is left after each node, and what a node holds.
+use Rattle.std.specs.Prelude.{Option}
 use Prim.Native.Nat.{ℕ, ◌+◌, ◌-◌, ◌*◌, ◌≤◌, ◌<◌}
 use native.Mathlib.Omega.{arith}
 use mathlib.Core.Path.{◌≡◌, refl, ap, ap₂, sym, ◌∙◌, subst}
@@ -239,7 +240,7 @@ module _ (names w w' text : List ℕ) (n at to : ℕ) (e : w' ≡ w) where
         (subst (λ (x : List ℕ). KindsAndNames w (length x) at n) (sym (whole names)) k),
   )
 
-  pub lent-fields : (u : NestingLevel) (r : X.Expected)
+  pub lent-fields : (u : NestingLevel) (r : Option ℕ)
       → ExpectedIs (take (length text - 0) (drop 0 text)) r
       (expect_encoding u (trees (take (length names - 0) (drop 0 names)) w' n at) (drop to (take (length text - 0) (drop 0 text))))
       → ExpectedIs text r (expect_encoding u (trees names w n at) (drop to text))

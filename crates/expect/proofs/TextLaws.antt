@@ -1,4 +1,5 @@
 -- Tree against text at a place of the text: each definition by what stands there.
+use Rattle.std.specs.Prelude.{Option}
 use Prim.Native.Nat.{ℕ, ◌+◌, ◌≤◌, ◌<◌}
 use mathlib.Core.Path.{◌≡◌, refl, ap, ap₂, sym, ◌∙◌, subst}
 use mathlib.Core.List.{List, [], ◌∷◌}
@@ -14,14 +15,13 @@ use Rattle.kinds.specs.Primitive.{code, codes, is_object}
 use Rattle.kinds.specs.declared.ErrorKind.{ErrorKind}
 use Rattle.kinds.specs.Kind.{container_of}
 use Rattle.expect.specs.Agree.{ExpectedIs, any_object, opening_byte, opening, closing}
-use Rattle.std.specs.Prelude.{Option}
 
 -- What follows a match, and what follows none.
-pub then-remaining : (x : Option ℕ) (f : List ℕ → Option ℕ) (s : List ℕ) → x ≡ remaining s → (x then f) ≡ f s
+pub then-remaining : (x : Expected) (f : List ℕ → Expected) (s : List ℕ) → x ≡ remaining s → (x then f) ≡ f s
 unfolding ◌then◌
 then-remaining x f s e = rw e
 
-pub then-mismatch : (x : Option ℕ) (f : List ℕ → Option ℕ) → x ≡ mismatch → (x then f) ≡ mismatch
+pub then-mismatch : (x : Expected) (f : List ℕ → Expected) → x ≡ mismatch → (x then f) ≡ mismatch
 unfolding ◌then◌
 then-mismatch x f e = rw e
 
@@ -93,11 +93,11 @@ module _ (s : List ℕ) (i : ℕ) where
   class-quoted h e = ap class_name (unread s i h) ∙ rw (eq-eqb (get_or s i 0) 34 e, class_name)
 
 -- An outcome of a text that comes to the same.
-pub same_outcome : (text : List ℕ) (r : X.Expected) (p q : Option ℕ) → p ≡ q → ExpectedIs text r q → ExpectedIs text r p
-same_outcome text r p q e h = subst (λ (x : Option ℕ). ExpectedIs text r x) (sym e) h
+pub same_outcome : (text : List ℕ) (r : Option ℕ) (p q : Expected) → p ≡ q → ExpectedIs text r q → ExpectedIs text r p
+same_outcome text r p q e h = subst (λ (x : Expected). ExpectedIs text r x) (sym e) h
 
 -- A code of one byte, and of two.
-pub then-nothing : (x : Option ℕ) → (x then (λ t. remaining t)) ≡ x
+pub then-nothing : (x : Expected) → (x then (λ t. remaining t)) ≡ x
 unfolding ◌then◌
 then-nothing (remaining t) = refl
 then-nothing mismatch = refl

@@ -1,4 +1,5 @@
 -- Tree against text at a node of a sheet: each kind by what its own bytes give.
+use Rattle.std.specs.Prelude.{Option}
 use Prim.Native.Nat.{ℕ, zero, suc, ◌+◌, ◌-◌, ◌*◌, ◌≤◌, ◌<◌}
 use native.Mathlib.Omega.{arith}
 use mathlib.Core.Path.{◌≡◌, refl, ap, ap₂, sym, ◌∙◌, subst}
@@ -200,11 +201,11 @@ is-end names w zero at = ap is_end (no-trees names w 0 at (omega arith))
 is-end names w (suc n) at = some-trees names w (suc n) at (omega arith) ∙ sym (ne_eqb (suc n) 0 (λ e. omega arith))
 
 -- An outcome of a container that comes to the same.
-pub same-opened : (text : List ℕ) (k : ContainerKind) (u : NestingLevel) (r : Opened) (p q : (List ℕ → E.Expected) → E.Expected)
+pub same-opened : (text : List ℕ) (k : ContainerKind) (u : NestingLevel) (r : Option Opened) (p q : (List ℕ → E.Expected) → E.Expected)
     → ((inner : List ℕ → E.Expected) → p inner ≡ q inner) → OpenedIs text k u r q → OpenedIs text k u r p
-same-opened text k u (O.Taken to) p q e h = (λ i. e i ∙ h.0 i, h.1)
-same-opened text k u O.Mismatch p q e h = λ i. e i ∙ h i
-same-opened text k u (O.Fields to v) p q e h = (λ i. e i ∙ h.0 i, h.1, h.2)
+same-opened text k u (Some (O.Taken to)) p q e h = (λ i. e i ∙ h.0 i, h.1)
+same-opened text k u None p q e h = λ i. e i ∙ h i
+same-opened text k u (Some (O.Fields to v)) p q e h = (λ i. e i ∙ h.0 i, h.1, h.2)
 
 -- The whole text was taken.
 pub empty-end : (text : List ℕ) (to : ℕ) → to ≤ length text → is_empty (remaining (drop to text)) ≡ eqb to (length text)
@@ -223,12 +224,12 @@ empty-off = refl
 pub by_byte : (b d : ℕ) (s : List ℕ) (q : E.Expected) → b ≡ d → expect_byte b s ≡ q → expect_byte d s ≡ q
 by_byte b d s q e h = ap (λ (x : ℕ). expect_byte x s) (sym e) ∙ h
 
-pub in-text : (text : List ℕ) (r : X.Expected) (q : E.Expected) → ExpectedIs text r q → InText text r
+pub in-text : (text : List ℕ) (r : Option ℕ) (q : E.Expected) → ExpectedIs text r q → InText text r
 in-text text (Some to) q h = h.1
 in-text text None q h = tt
 
 -- The container at a node.
-pub container-at : (names w : List ℕ) (at : ℕ) (v : NestingLevel) (s text : List ℕ) (r : Opened) (k : ContainerKind)
+pub container-at : (names w : List ℕ) (at : ℕ) (v : NestingLevel) (s text : List ℕ) (r : Option Opened) (k : ContainerKind)
     → is_container_kind (kind_at w at) ≡ true → k ≡ container_of (kind_at w at)
     → OpenedIs text k Within r (λ inner. expect_node (container k (take (first_at w at + second_at w at - first_at w at) (drop (first_at w at) names))) v
     (eqb (count_at w at - 1) 0) inner s)
@@ -274,25 +275,25 @@ module _ (names w : List ℕ) (at : ℕ) (v : NestingLevel) (s : List ℕ) where
       (λ u. sym (closing-container (kind_at w at) (second_at w at) u (λ d. false≢true (sym (ap is_container_kind d) ∙ c))
       (λ d. false≢true (sym (ap is_container_kind d) ∙ c))))
 
-pub opened-at : (names w : List ℕ) (at : ℕ) (v : NestingLevel) (text : List ℕ) (place : ℕ) (r : Opened) → is_container_kind (kind_at w at) ≡ true
+pub opened-at : (names w : List ℕ) (at : ℕ) (v : NestingLevel) (text : List ℕ) (place : ℕ) (r : Option Opened) → is_container_kind (kind_at w at) ≡ true
     → ContainerOpenedAt names w at v text place r → OpenedAt names w at v text place r
-opened-at names w at v text place (O.Taken to) c h = (container-whole names w at v (drop place text) (remaining (drop to text)) h.0, h.1)
-opened-at names w at v text place O.Mismatch c h = container-whole names w at v (drop place text) mismatch h
-opened-at names w at v text place (O.Fields to u) c h = (container-fields names w at v (drop place text) c (drop to text) u h.2 h.0, h.1)
+opened-at names w at v text place (Some (O.Taken to)) c h = (container-whole names w at v (drop place text) (remaining (drop to text)) h.0, h.1)
+opened-at names w at v text place None c h = container-whole names w at v (drop place text) mismatch h
+opened-at names w at v text place (Some (O.Fields to u)) c h = (container-fields names w at v (drop place text) c (drop to text) u h.2 h.0, h.1)
 
 -- An outcome on the whole text, lent as a slice of its own.
-pub lent-whole : (text : List ℕ) (r : X.Expected) (place : ℕ) (f : List ℕ → E.Expected)
+pub lent-whole : (text : List ℕ) (r : Option ℕ) (place : ℕ) (f : List ℕ → E.Expected)
     → ExpectedIs (take (length text - 0) (drop 0 text)) r (f (drop place (take (length text - 0) (drop 0 text)))) → ExpectedIs text r (f (drop place text))
 lent-whole text r place f h = subst (λ (x : List ℕ). ExpectedIs x r (f (drop place x))) (whole text) h
 
 -- A node without children from the outcome of its text, which is lent as a slice of its own; a bitfield with a type or an array from that of what stands before its child.
-module _ (names w : List ℕ) (at : ℕ) (v : NestingLevel) (text : List ℕ) (place : ℕ) (r : X.Expected) {q : Opened} where
+module _ (names w : List ℕ) (at : ℕ) (v : NestingLevel) (text : List ℕ) (place : ℕ) (r : Option ℕ) {q : Option Opened} where
   pub taken_at : q ≡ taken_of r → kind_at w at < 25
       → ExpectedIs (take (length text - 0) (drop 0 text)) r (expect_leaf (kind_at w at) (second_at w at) (drop place (take (length text - 0) (drop 0 text))))
       → OpenedAt names w at v text place q
   taken_at e p h = rw e (go r (lent-whole text r place (λ s. expect_leaf (kind_at w at) (second_at w at) s) h))
     where
-      go : (x : X.Expected) → ExpectedIs text x (expect_leaf (kind_at w at) (second_at w at) (drop place text)) → OpenedAt names w at v text place (taken_of x)
+      go : (x : Option ℕ) → ExpectedIs text x (expect_leaf (kind_at w at) (second_at w at) (drop place text)) → OpenedAt names w at v text place (taken_of x)
       go (Some to) k = (leaf-is names w at v (drop place text) p ∙ k.0, k.1)
       go None k = leaf-is names w at v (drop place text) p ∙ k
 
@@ -300,7 +301,7 @@ module _ (names w : List ℕ) (at : ℕ) (v : NestingLevel) (text : List ℕ) (p
       → ExpectedIs text r (opening (kind_at w at) (first_at w at) (drop place text)) → OpenedAt names w at v text place q
   fields_at e lo hi d h = let m = not-indirection (kind_at w at) d in rw e (go r h (around names w at v (drop place text) lo hi m.0 m.1))
     where
-      go : (x : X.Expected) → ExpectedIs text x (opening (kind_at w at) (first_at w at) (drop place text))
+      go : (x : Option ℕ) → ExpectedIs text x (opening (kind_at w at) (first_at w at) (drop place text))
           → expect_at names w at v (drop place text) ≡ (opening (kind_at w at) (first_at w at) (drop place text) then
           (λ t. expect_encoding v (trees names w (count_at w at - 1) (at + 4)) t then (λ u. closing (kind_at w at) (second_at w at) u)))
           → OpenedAt names w at v text place (fields_of x v)

@@ -59,13 +59,13 @@ InText text (Some to) = to ≤ length text
 InText text None = Unit {0}
 
 -- A container up to its fields, whatever `inner` makes of them: taken whole, no match, or its fields, at level `u`, and its closer are still to come.
-abbrev pub OpenedIs : List ℕ → ContainerKind → NestingLevel → Opened → ((List ℕ → E.Expected) → E.Expected) → Type 0
-OpenedIs text k u (O.Taken to) q = ((inner : List ℕ → E.Expected) → q inner ≡ remaining (drop to text)) × (to ≤ length text)
-OpenedIs text k u O.Mismatch q = (inner : List ℕ → E.Expected) → q inner ≡ mismatch
-OpenedIs text k u (O.Fields to v) q = ((inner : List ℕ → E.Expected) → q inner ≡ (inner (drop to text) then (λ t. expect_byte (end_byte k) t))) × (to ≤ length text) × (v ≡ u)
+abbrev pub OpenedIs : List ℕ → ContainerKind → NestingLevel → Option Opened → ((List ℕ → E.Expected) → E.Expected) → Type 0
+OpenedIs text k u (Some (O.Taken to)) q = ((inner : List ℕ → E.Expected) → q inner ≡ remaining (drop to text)) × (to ≤ length text)
+OpenedIs text k u None q = (inner : List ℕ → E.Expected) → q inner ≡ mismatch
+OpenedIs text k u (Some (O.Fields to v)) q = ((inner : List ℕ → E.Expected) → q inner ≡ (inner (drop to text) then (λ t. expect_byte (end_byte k) t))) × (to ≤ length text) × (v ≡ u)
 
 -- The container at `at` up to its fields, in the text from `place` on.
-abbrev pub ContainerOpenedAt : List ℕ → List ℕ → ℕ → NestingLevel → List ℕ → ℕ → Opened → Type 0
+abbrev pub ContainerOpenedAt : List ℕ → List ℕ → ℕ → NestingLevel → List ℕ → ℕ → Option Opened → Type 0
 ContainerOpenedAt names w at v text place r =
     OpenedIs text (container_of (kind_at w at)) Within r
     (λ inner. expect_node (label_at names w at) v (is_end (trees names w (count_at w at - 1) (at + 4))) inner (drop place text))
@@ -90,17 +90,17 @@ unfoldable pub level_after : ℕ → NestingLevel → NestingLevel → NestingLe
 level_after k v here = cond (is_indirection k) (inside_kind k here) v
 
 -- A node without children, from the outcome of its text; one whose children, at the level `v`, are still to come, from that of what stands before them.
-abbrev pub taken_of : Option ℕ → Opened
-taken_of None = O.Mismatch
-taken_of (Some to) = O.Taken to
+abbrev pub taken_of : Option ℕ → Option Opened
+taken_of None = None
+taken_of (Some to) = Some (O.Taken to)
 
-abbrev pub fields_of : Option ℕ → NestingLevel → Opened
-fields_of None v = O.Mismatch
-fields_of (Some to) v = O.Fields to v
+abbrev pub fields_of : Option ℕ → NestingLevel → Option Opened
+fields_of None v = None
+fields_of (Some to) v = Some (O.Fields to v)
 
 -- The node at `at` up to its children: taken whole, no match, or its children, at a level, and what stands after them are still to come.
-abbrev pub OpenedAt : List ℕ → List ℕ → ℕ → NestingLevel → List ℕ → ℕ → Opened → Type 0
-OpenedAt names w at v text place (O.Taken to) = (expect_at names w at v (drop place text) ≡ remaining (drop to text)) × (to ≤ length text)
-OpenedAt names w at v text place O.Mismatch = expect_at names w at v (drop place text) ≡ mismatch
-OpenedAt names w at v text place (O.Fields to u) =
+abbrev pub OpenedAt : List ℕ → List ℕ → ℕ → NestingLevel → List ℕ → ℕ → Option Opened → Type 0
+OpenedAt names w at v text place (Some (O.Taken to)) = (expect_at names w at v (drop place text) ≡ remaining (drop to text)) × (to ≤ length text)
+OpenedAt names w at v text place None = expect_at names w at v (drop place text) ≡ mismatch
+OpenedAt names w at v text place (Some (O.Fields to u)) =
     (expect_at names w at v (drop place text) ≡ (expect_encoding u (trees names w (count_at w at - 1) (at + 4)) (drop to text) then (λ t. closing (kind_at w at) (second_at w at) t))) × (to ≤ length text)

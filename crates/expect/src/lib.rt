@@ -13,17 +13,20 @@ ghost use Rattle.kinds.specs.Walk.{NodeAt, TreesAt, KindAndName, KindsAndNames};
 ghost use Rattle.expect.specs.Agree.{ExpectedIs, expect_at, any_object, expect_leaf, opening_byte, opening, closing, after_name, InText, OpenedIs, ContainerOpenedAt, code_byte, own_byte, level_after, taken_of, fields_of, OpenedAt};
 ghost use Rattle.expect.specs.Answer.{compared};
 
-use kinds::{ARRAY, BIT_FIELD, Code, ContainerKind, IndirectionKind, MAX_TEXT, NestingLevel, POINTER, PRIMITIVES, Refusal, TYPED_BIT_FIELD, container_of, is_container, is_indirection, is_object, primitive_code};
-use numbers::{Number, parse_u8, parse_u64};
+use kinds::{
+    ARRAY, BIT_FIELD, Code, ContainerKind, IndirectionKind, MAX_TEXT, NestingLevel, POINTER,
+    PRIMITIVES, Refusal, TYPED_BIT_FIELD, container_of, is_container, is_indirection, is_object,
+    primitive_code,
+};
+use numbers::{parse_u8, parse_u64};
 use parser::strip_leading_qualifiers;
 use sheet::{Found, check};
-use skip::{skip_fields};
+use skip::skip_fields;
 
 // A node up to its children: taken whole, or its children are still to come, at a level.
 #[derive(Clone, Copy)]
 enum Opened {
     Taken(usize),
-    Mismatch,
     Fields(usize, NestingLevel),
 }
 
@@ -62,9 +65,9 @@ fn expect_u64(n: u64, text: &[u8], at: usize) -> Option<usize>
     requires { at ≤ length text.now }
     ensures { ExpectedIs text.now result (expect_number max_u64 n (drop at text.now)) }
 {
-    match parse_u64(text, at) {
-        Number::Refused(_, _, _) => None,
-        Number::Value(m, to, _) => {
+    match parse_u64(text, at).read {
+        Err(_) => None,
+        Ok((m, to)) => {
             if m == n {
                 return Some(to);
             }
@@ -77,9 +80,9 @@ fn expect_u8(n: u64, text: &[u8], at: usize) -> Option<usize>
     requires { at ≤ length text.now }
     ensures { ExpectedIs text.now result (expect_number max_u8 n (drop at text.now)) }
 {
-    match parse_u8(text, at) {
-        Number::Refused(_, _, _) => None,
-        Number::Value(m, to, _) => {
+    match parse_u8(text, at).read {
+        Err(_) => None,
+        Ok((m, to)) => {
             if m == n {
                 return Some(to);
             }
@@ -124,10 +127,10 @@ fn expect_code(code: Code, text: &[u8], at: usize) -> Option<usize>
     match code {
         Code::Empty => Some(at),
         Code::One(a) => expect_byte(a, text, at),
-        Code::Two(a, b) => match expect_byte(a, text, at) {
-            None => None,
-            Some(to) => expect_byte(b, text, to),
-        },
+        Code::Two(a, b) => {
+            let to = expect_byte(a, text, at)?;
+            expect_byte(b, text, to)
+        }
     }
 }
 
@@ -162,9 +165,7 @@ fn expect_primitive(kind: u64, text: &[u8], at: usize) -> Option<usize>
     if !is_object(kind) {
         return expect_code(primitive_code(kind), text, at);
     }
-    let Some(to) = expect_object(text, at) else {
-        return None;
-    };
+    let to = expect_object(text, at)?;
     if kind == 19 {
         return class_name(text, to);
     }
@@ -179,9 +180,7 @@ fn expect_leaf(kind: u64, size: u64, text: &[u8], at: usize) -> Option<usize>
     if kind < PRIMITIVES {
         return expect_primitive(kind, text, at);
     }
-    let Some(to) = expect_byte(b'b', text, at) else {
-        return None;
-    };
+    let to = expect_byte(b'b', text, at)?;
     expect_u8(size, text, to)
 }
 
@@ -198,9 +197,7 @@ fn opening_byte(kind: u64) -> u8
 fn expect_opening(kind: u64, number: u64, text: &[u8], at: usize) -> Option<usize>
     ensures { ExpectedIs text.now result (opening kind number (drop at text.now)) }
 {
-    let Some(to) = expect_byte(opening_byte(kind), text, at) else {
-        return None;
-    };
+    let to = expect_byte(opening_byte(kind), text, at)?;
     expect_u64(number, text, to)
 }
 
@@ -223,10 +220,8 @@ fn close_node(after: Option<usize>, kind: u64, size: u64, text: &[u8]) -> Option
     requires { InText text.now after }
     ensures { (q : E.Expected) → ExpectedIs text.now after q → ExpectedIs text.now result (q then (λ t. closing kind size t)) }
 {
-    match after {
-        None => None,
-        Some(to) => expect_closing(kind, size, text, to),
-    }
+    let to = after?;
+    expect_closing(kind, size, text, to)
 }
 
 // A container after its name, at a level that includes fields.
@@ -236,22 +231,18 @@ fn open_fields(
     count: usize,
     text: &[u8],
     at: usize,
-) -> Opened
+) -> Option<Opened>
     ensures { OpenedIs text.now kind level result (λ inner. after_name kind (eqb count 0) inner (drop at text.now)) }
 {
-    let Some(next) = expect_byte(b'=', text, at) else {
-        return Opened::Mismatch;
-    };
+    let next = expect_byte(b'=', text, at)?;
     if count == 0 {
         // An empty container matches whatever can be read up to its closer.
-        return match skip_fields(text, next, kind) {
-            None => Opened::Mismatch,
-            Some(to) => Opened::Taken(to),
-        };
+        let to = skip_fields(text, next, kind)?;
+        return Some(Opened::Taken(to));
     }
     match expect_byte(kind.end_byte(), text, next) {
-        Some(to) => Opened::Taken(to),
-        None => Opened::Fields(next, level),
+        Some(to) => Some(Opened::Taken(to)),
+        None => Some(Opened::Fields(next, level)),
     }
 }
 
@@ -263,21 +254,17 @@ fn open_named(
     count: usize,
     text: &[u8],
     at: usize,
-) -> Opened
+) -> Option<Opened>
     ensures { OpenedIs text.now kind NestingLevel.Within result (λ inner. expect_node (container kind name.now) level (eqb count 0) inner (drop at text.now)) }
 {
-    let Some(start) = expect_byte(kind.start_byte(), text, at) else {
-        return Opened::Mismatch;
-    };
-    let Some(next) = expect_bytes(name, text, start) else {
-        return Opened::Mismatch;
-    };
+    let start = expect_byte(kind.start_byte(), text, at)?;
+    let next = expect_bytes(name, text, start)?;
     match level.container_include_fields() {
         Some(inner) => open_fields(kind, inner, count, text, next),
-        None => match expect_byte(kind.end_byte(), text, next) {
-            Some(to) => Opened::Taken(to),
-            None => Opened::Mismatch,
-        },
+        None => {
+            let to = expect_byte(kind.end_byte(), text, next)?;
+            Some(Opened::Taken(to))
+        }
     }
 }
 
@@ -289,7 +276,7 @@ fn open_container(
     level: NestingLevel,
     text: &[u8],
     place: usize,
-) -> Opened
+) -> Option<Opened>
     requires { NodeAt nodes.now at × KindAndName nodes.now (length names.now) at × (is_container_kind (kind_at nodes.now at) ≡ true) }
     ensures { ContainerOpenedAt names.now nodes.now at level text.now place result }
 {
@@ -337,23 +324,19 @@ fn level_after(kind: u64, level: NestingLevel, here: NestingLevel) -> NestingLev
 }
 
 // A node without children, from the outcome of its text.
-fn taken(own: Option<usize>) -> Opened
+fn taken(own: Option<usize>) -> Option<Opened>
     ensures { result ≡ taken_of own }
 {
-    match own {
-        None => Opened::Mismatch,
-        Some(to) => Opened::Taken(to),
-    }
+    let to = own?;
+    Some(Opened::Taken(to))
 }
 
 // A bitfield with a type or an array, which keep the level, from the outcome of what stands before the child.
-fn children_follow(opening: Option<usize>, level: NestingLevel) -> Opened
+fn children_follow(opening: Option<usize>, level: NestingLevel) -> Option<Opened>
     ensures { result ≡ fields_of opening level }
 {
-    match opening {
-        None => Opened::Mismatch,
-        Some(to) => Opened::Fields(to, level),
-    }
+    let to = opening?;
+    Some(Opened::Fields(to, level))
 }
 
 // The node at `at`, no pointer and no atomic, up to its children.
@@ -364,7 +347,7 @@ fn open_node(
     level: NestingLevel,
     text: &[u8],
     place: usize,
-) -> Opened
+) -> Option<Opened>
     requires node_at { NodeAt nodes.now at × KindAndName nodes.now (length names.now) at × (place ≤ length text.now) }
     requires at_value { is_indirection (kind_at nodes.now at) ≡ false }
     ensures { OpenedAt names.now nodes.now at level text.now place result }
@@ -381,7 +364,7 @@ fn open_node(
         if is_container(kind) {
             return open_container(nodes, names, at, level, text, place);
         }
-        return Opened::Taken(place);
+        return Some(Opened::Taken(place));
     }
     if kind == BIT_FIELD {
         return taken(expect_leaf(kind, nodes[at + 2], &text[0..], place));
@@ -403,8 +386,8 @@ fn expect_node(
     requires at_value { is_indirection (kind_at nodes.now at) ≡ false }
     ensures { ExpectedIs text.now result (expect_at names.now nodes.now at level (drop place text.now)) }
 {
-    match open_node(nodes, names, at, level, text, place) {
-        Opened::Mismatch => None,
+    let opened = open_node(nodes, names, at, level, text, place)?;
+    match opened {
         Opened::Taken(to) => Some(to),
         Opened::Fields(to, inner) => {
             let m = nodes[at + 3] as usize - 1;
@@ -437,9 +420,7 @@ fn expect_encoding(
         let kind = nodes[at];
         let byte = own_byte(kind);
         if byte != 0 {
-            let Some(to) = expect_byte(byte, text, place) else {
-                return None;
-            };
+            let to = expect_byte(byte, text, place)?;
             at = at + 4;
             left = left - 1;
             place = to;
@@ -447,9 +428,7 @@ fn expect_encoding(
             continue;
         }
         let count = nodes[at + 3] as usize;
-        let Some(next) = expect_node(nodes, names, at, here, text, place) else {
-            return None;
-        };
+        let next = expect_node(nodes, names, at, here, text, place)?;
         at = at + 4 * count;
         left = left - count;
         place = next;
@@ -497,13 +476,9 @@ pub fn equivalent_to_str(words: &[u64], names: &[u8], text: &[u8]) -> Result<boo
     if MAX_TEXT < text.len() {
         return Err(Refusal::TextTooLong);
     }
-    match check(&words[0..], &names[0..])? {
+    let found = check(&words[0..], &names[0..])?;
+    match found {
         Found::Code(_, kind) => Ok(code_matches(kind, &text[0..])),
-        Found::Nodes(first, n) => Ok(tree_matches(
-            &words[first..],
-            &names[0..],
-            n,
-            &text[0..],
-        )),
+        Found::Nodes(first, n) => Ok(tree_matches(&words[first..], &names[0..], n, &text[0..])),
     }
 }

@@ -1,3 +1,6 @@
+use borrow.Author.Rules.{rules}
+use mathlib.Core.Path.{◌≡◌}
+use Rattle.std.specs.Prelude.{None}
 -- `expect::expect_encoding` and `expect::expect_node` meet their contracts. Assumes nothing.
 use Prim.Native.Nat.{ℕ, ◌+◌, ◌-◌}
 use mathlib.Core.Path.{sym, ◌∙◌}
@@ -29,10 +32,11 @@ expect_encoding-bounds-nodes-at t c =
     let g = c.well_formed.0 in
     omega arith
 
-pub expect_encoding-returns-in_default : goal.expect_encoding-returns-in_default
-expect_encoding-returns-in_default t c =
-    let n = rw c.in_default.is at c.expect_byte.ensures in
-    left-byte-off c.loop-left.invariant.1 c.loop-left-test.true c.own_byte-byte.result c.own_byte-byte.ensures c.if-byte-ne0.true n
+pub expect_encoding-returns-in_err-to : goal.expect_encoding-returns-in_err-to
+expect_encoding-returns-in_err-to t c =
+    let q : c.from_residual.result ≡ None = search rules in
+    rw q (let n = rw c.in_err-to.was at c.expect_byte.ensures in
+    left-byte-off c.loop-left.invariant.1 c.loop-left-test.true c.own_byte-byte.result c.own_byte-byte.ensures c.if-byte-ne0.true n)
 
 pub expect_encoding-overflow_add-at : goal.expect_encoding-overflow_add-at
 expect_encoding-overflow_add-at t c =
@@ -54,9 +58,9 @@ expect_encoding-loop-left-smaller-then-byte-ne0 t c =
 
 pub expect_encoding-loop-left-preserved-then-byte-ne0 : goal.expect_encoding-loop-left-preserved-then-byte-ne0
 expect_encoding-loop-left-preserved-then-byte-ne0 t c =
-    let n = rw c.in-Remaining.is at c.expect_byte.ensures in (
+    let n = rw c.in_ok-to.was at c.expect_byte.ensures in (
       omega arith,
-      left-byte c.loop-left.invariant.1 c.loop-left-test.true c.own_byte-byte.result c.own_byte-byte.ensures c.if-byte-ne0.true c.in-Remaining.to n.1 n.0
+      left-byte c.loop-left.invariant.1 c.loop-left-test.true c.own_byte-byte.result c.own_byte-byte.ensures c.if-byte-ne0.true c.in_ok-to.to n.1 n.0
           c.level_after-here.result c.level_after-here.ensures,
     )
 
@@ -89,9 +93,10 @@ expect_encoding-expect_node-requires t c =
       ),
     )
 
-pub expect_encoding-returns-in_default-expect_node : goal.expect_encoding-returns-in_default-expect_node
-expect_encoding-returns-in_default-expect_node t c =
-    left-off c.loop-left.invariant.1 c.loop-left-test.true (rw c.in_default-expect_node.is at c.expect_node.ensures)
+pub expect_encoding-returns-in_err-next : goal.expect_encoding-returns-in_err-next
+expect_encoding-returns-in_err-next t c =
+    let q : c.from_residual-in_err-next.result ≡ None = search rules in
+    rw q (left-off c.loop-left.invariant.1 c.loop-left-test.true (rw c.in_err-next.was at c.expect_node.ensures))
 
 pub expect_encoding-overflow_mul-at : goal.expect_encoding-overflow_mul-at
 expect_encoding-overflow_mul-at t c =
@@ -119,8 +124,8 @@ expect_encoding-loop-left-smaller t c =
 
 pub expect_encoding-loop-left-preserved : goal.expect_encoding-loop-left-preserved
 expect_encoding-loop-left-preserved t c =
-    let n = rw c.in-Remaining-expect_node.is at c.expect_node.ensures in
-    (omega arith, left-more c.loop-left.invariant.1 c.loop-left-test.true c.in-Remaining-expect_node.next n.1 n.0)
+    let n = rw c.in_ok-next.was at c.expect_node.ensures in
+    (omega arith, left-more c.loop-left.invariant.1 c.loop-left-test.true c.in_ok-next.next n.1 n.0)
 
 pub expect_encoding-returns : goal.expect_encoding-returns
 expect_encoding-returns t c =
@@ -160,7 +165,7 @@ expect_node-expect_encoding-all-requires t c =
     let a = c.args in
     let p = c.requires.node_at in
     let s = p.0.some-node in
-    let o = rw c.in-Fields.is at c.open_node.ensures in (
+    let o = rw (c.in_ok-opened.was, c.in-Fields.is) at c.open_node.ensures in (
       omega arith,
       lent-walk a.names.now a.nodes.now _ a.text.now _ _ _ (whole a.nodes.now) (node-inner a.nodes.now a.at p.0) o.1
           (walk-inner a.nodes.now (length a.names.now) a.at (count_at a.nodes.now a.at) p.1 (count_at a.nodes.now a.at - 1)
@@ -200,17 +205,19 @@ expect_node-close_node-requires t c =
     (whole a.nodes.now)
     c.in-Fields.inner c.expect_encoding-all.result c.expect_encoding-all.ensures)
 
-pub expect_node-returns-in-Mismatch : goal.expect_node-returns-in-Mismatch
-expect_node-returns-in-Mismatch t c = rw c.in-Mismatch.is at c.open_node.ensures
+pub expect_node-returns-in_err-opened : goal.expect_node-returns-in_err-opened
+expect_node-returns-in_err-opened t c =
+    let q : c.from_residual.result ≡ None = search rules in
+    rw q (rw c.in_err-opened.was at c.open_node.ensures)
 
 pub expect_node-returns-in-Taken : goal.expect_node-returns-in-Taken
 expect_node-returns-in-Taken t c =
-    rw c.in-Taken.is at c.open_node.ensures
+    rw (c.in_ok-opened.was, c.in-Taken.is) at c.open_node.ensures
 
 pub expect_node-returns-in-Fields : goal.expect_node-returns-in-Fields
 expect_node-returns-in-Fields t c =
     let a = c.args in
-    let o = rw c.in-Fields.is at c.open_node.ensures in
+    let o = rw (c.in_ok-opened.was, c.in-Fields.is) at c.open_node.ensures in
     let f = lent-fields a.names.now a.nodes.now _ a.text.now (count_at a.nodes.now a.at - 1) (a.at + 4) c.in-Fields.to
     (whole a.nodes.now) c.in-Fields.inner c.expect_encoding-all.result c.expect_encoding-all.ensures in
     same_outcome a.text.now c.close_node.result _ _ o.0 (c.close_node.ensures _ f)
