@@ -1,4 +1,6 @@
 -- What reading a byte with parts gives, from what reading its parts gives.
+use Rattle.parse.specs.declared.Parsed.TheVariants.{Empty, Encoding, ContainerEnd, ArrayEnd}
+use Rattle.parse.specs.declared.Parsed.{Parsed}
 use Prim.Native.Nat.{ℕ, zero, suc, ◌+◌, ◌*◌, ◌-◌, ◌≤◌, ◌<◌}
 use mathlib.Core.Path.{◌≡◌, refl, sym, ap, ◌∙◌, subst}
 use mathlib.Core.List.{List, [], ◌∷◌, ◌++◌, append_assoc, append-nil}
@@ -19,11 +21,9 @@ use Rattle.parse.specs.Room.{slack, closes}
 use Rattle.parse.specs.Strictly.{judged, parse_inner_by, parse_items_by}
 use Rattle.kinds.specs.declared.ContainerKind.{ContainerKind}
 use Rattle.kinds.specs.declared.ContainerKind.TheVariants.{Struct, Union}
-use Rattle.parse.specs.declared.Named.TheVariants.{Refused as NoName}
-use Rattle.parse.specs.declared.Items.{Items}
-use Rattle.parse.specs.declared.Items.TheVariants.{Read, Refused as NoItems}
-use Rattle.parse.specs.declared.Parsed.{Parsed}
-use Rattle.parse.specs.declared.Parsed.TheVariants.{Empty, Encoding, ContainerEnd, ArrayEnd, Refused}
+use Rattle.std.specs.Prelude.{Result, Ok, Err}
+use Rattle.kinds.specs.declared.ParseError.{ParseError}
+use Rattle.kinds.specs.Refusal.{parse_error}
 use Rattle.kinds.specs.declared.ErrorKind.{ErrorKind}
 use Rattle.kinds.specs.declared.ErrorKind.TheVariants.{Unknown, WrongEndArray, WrongEndContainer}
 use Rattle.kinds.proofs.LayoutLaws.{nodes-length}
@@ -68,7 +68,7 @@ count-alone l cs = ap suc (add-zero (count cs))
 -- ---- One byte of fuel.
 
 -- What a byte begins, with as much fuel as its rest takes, is what reading at its place says.
-module _ (strict : Bool) (text : List ℕ) (at n m : ℕ) (b a : Lists) (r : Parsed) (h : at < length text) where
+module _ (strict : Bool) (text : List ℕ) (at n m : ℕ) (b a : Lists) (r : Result Parsed ParseError) (h : at < length text) where
   begun-by : ((g : ℕ) → length (drop (at + 1) text) + length (drop (at + 1) text) < g
       → ParsedIs text n m b a r (judged strict (start (get_or text at 0)) (drop (at + 1) text)
       (begin (get_or text at 0) (start (get_or text at 0)) (drop (at + 1) text) (λ t. parse_inner_by strict g t) (λ k t. parse_items_by strict g k t))))
@@ -89,13 +89,13 @@ module _ (strict : Bool) (text : List ℕ) (at n m : ℕ) (b a : Lists) (r : Par
 
 -- ---- Nothing left, and a byte without parts.
 
-pub reads_end : (strict : Bool) (text : List ℕ) (at n m : ℕ) (b : Lists) → at ≡ length text → Reads strict text at n m b b Empty
+pub reads_end : (strict : Bool) (text : List ℕ) (at n m : ℕ) (b : Lists) → at ≡ length text → Reads strict text at n m b b (Ok Empty)
 reads_end strict text at n m b e = record {
   bound = (e, record { words-kept = refl; names-kept = refl });
   says = λ f l. ap (parse_inner_by strict f) (unread-end text at (omega arith)) ∙ nil-by strict f;
 }
 
-pub reads-simple : (strict : Bool) (text : List ℕ) (at n m : ℕ) (w w' ns : List ℕ) (r : Parsed) → at < length text → Simple strict text at n m w w' r
+pub reads-simple : (strict : Bool) (text : List ℕ) (at n m : ℕ) (w w' ns : List ℕ) (r : Result Parsed ParseError) → at < length text → Simple strict text at n m w w' r
     → Reads strict text at n m (lists w ns) (lists w' ns) r
 reads-simple strict text at n m w w' ns r h s = record {
   bound = s.bound ns;
@@ -223,21 +223,21 @@ module _ (strict : Bool) (text : List ℕ) (at n m : ℕ) (l : Label) (bare : Ba
         omega arith;
   }
 
-  abbrev held_after : Parsed → Lists
+  abbrev held_after : Result Parsed ParseError → Lists
   held_after p = lists (hold_words p (kind l) n a.words) a.names
 
-  abbrev held_out : Parsed → Parsed
+  abbrev held_out : Result Parsed ParseError → Result Parsed ParseError
   held_out p = hold_out p (at + 1) n m
 
-  pub reads_held : (p : Parsed) → Reads strict text (at + 1) (n + 1) m b a p
+  pub reads_held : (p : Result Parsed ParseError) → Reads strict text (at + 1) (n + 1) m b a p
       → Reads strict text at n m b (lists (hold_words p (kind l) n a.words) a.names) (hold_out p (at + 1) n m)
   unfolding Begun held
-  reads_held Empty r = record {
+  reads_held (Ok Empty) r = record {
     bound = none-bound (slack-end text (at + 1) (omega (arith, r.bound.0)) ∙ omega (arith, r.bound.0));
-    says = begun strict text at n m b (held_after Empty) (held_out Empty) h (clean-held strict text at st)
+    says = begun strict text at n m b (held_after (Ok Empty)) (held_out (Ok Empty)) h (clean-held strict text at st)
         (λ g f. none_found text n m 0 b a l bare r.bound.1 (at + 1) _ (held_by_lem strict text at st g (r.says g (omega arith))));
   }
-  reads_held (Encoding to k j) r = record {
+  reads_held (Ok (Encoding to k j)) r = record {
     bound = record {
       onward = omega (arith, r.bound.onward);
       within = r.bound.within;
@@ -246,22 +246,22 @@ module _ (strict : Bool) (text : List ℕ) (at n m : ℕ) (l : Label) (bare : Ba
       names-on = r.bound.names-on;
       names-room = omega (arith, r.bound.names-room);
     };
-    says = begun strict text at n m b (held_after (Encoding to k j)) (held_out (Encoding to k j)) h (clean-held strict text at st)
+    says = begun strict text at n m b (held_after (Ok (Encoding to k j))) (held_out (Ok (Encoding to k j))) h (clean-held strict text at st)
         (λ g f. child-found text n m 0 b a l bare to to k j _ _ (r.says g (omega arith)) (λ c cs e. held_by_lem strict text at st g e));
   }
-  reads_held (ContainerEnd c to) r = record {
+  reads_held (Ok (ContainerEnd c to)) r = record {
     bound = none-bound r.bound.closer;
-    says = begun strict text at n m b (held_after (ContainerEnd c to)) (held_out (ContainerEnd c to)) h (clean-held strict text at st)
+    says = begun strict text at n m b (held_after (Ok (ContainerEnd c to))) (held_out (Ok (ContainerEnd c to))) h (clean-held strict text at st)
         (λ g f. none_found text n m 0 b a l bare r.bound.kept (at + 1) _ (held_by_lem strict text at st g (r.says g (omega arith))));
   }
-  reads_held (ArrayEnd to) r = record {
+  reads_held (Ok (ArrayEnd to)) r = record {
     bound = none-bound r.bound.closer;
-    says = begun strict text at n m b (held_after (ArrayEnd to)) (held_out (ArrayEnd to)) h (clean-held strict text at st)
+    says = begun strict text at n m b (held_after (Ok (ArrayEnd to))) (held_out (Ok (ArrayEnd to))) h (clean-held strict text at st)
         (λ g f. none_found text n m 0 b a l bare r.bound.kept (at + 1) _ (held_by_lem strict text at st g (r.says g (omega arith))));
   }
-  reads_held (Refused why to) r = record {
+  reads_held (Err e) r = record {
     bound = (r.bound.0, frame-part text at n m (at + 1) (n + 1) b a (omega (arith, opens, slack-le text (at + 1))) (omega arith) r.bound.1);
-    says = begun strict text at n m b (held_after (Refused why to)) (held_out (Refused why to)) h (clean-held strict text at st)
+    says = begun strict text at n m b (held_after (Err e)) (held_out (Err e)) h (clean-held strict text at st)
         (λ g f. held_by_lem strict text at st g (r.says g (omega arith)));
   }
 
@@ -273,7 +273,7 @@ kept_frame text at n m b a k = record {
   names-frame = λ e _. ap (drop e) k.names-kept;
 }
 
-pub found-frame : (strict : Bool) (text : List ℕ) (at n m : ℕ) (b a : Lists) (to k j : ℕ) → Reads strict text at n m b a (Encoding to k j)
+pub found-frame : (strict : Bool) (text : List ℕ) (at n m : ℕ) (b a : Lists) (to k j : ℕ) → Reads strict text at n m b a (Ok (Encoding to k j))
     → Frame text at n m b a
 found-frame strict text at n m b a to k j r =
     let f = r.says (length (drop at text) + length (drop at text)) (omega arith) in
@@ -297,8 +297,8 @@ module _ (strict : Bool) (text : List ℕ) (at n m len it : ℕ) (h : at < lengt
   unfolding closes
   opens-array = slack-open text at h (ap closes st)
 
-  found-closed : (to k j : ℕ) → Reads strict text it (n + 1) m b a (Encoding to k j) → closed text to ≡ true
-      → Reads strict text at n m b (lists (node_put a.words n 28 len 0 (k - n)) a.names) (Encoding (to + 1) k j)
+  found-closed : (to k j : ℕ) → Reads strict text it (n + 1) m b a (Ok (Encoding to k j)) → closed text to ≡ true
+      → Reads strict text at n m b (lists (node_put a.words n 28 len 0 (k - n)) a.names) (Ok (Encoding (to + 1) k j))
   unfolding Begun item kind closes start R.in_singles R.singles in_others others
   found-closed to k j r e =
       let l : to < length text = closed_in text to e in
@@ -313,13 +313,13 @@ module _ (strict : Bool) (text : List ℕ) (at n m len it : ℕ) (h : at < lengt
           names-on = r.bound.names-on;
           names-room = omega (arith, r.bound.names-room);
         };
-        says = begun strict text at n m b (lists (node_put a.words n 28 len 0 (k - n)) a.names) (Encoding (to + 1) k j) h clean
+        says = begun strict text at n m b (lists (node_put a.words n 28 len 0 (k - n)) a.names) (Ok (Encoding (to + 1) k j)) h clean
             (λ g f. child-found text n m len b a (array len) (bare-array m len) to (to + 1) k j _ _ (r.says g (fuel_on text at it g on f))
             (λ lab cs q. item_by strict text at len it st num g q ∙ closes-it text len lab cs to l c));
       }
 
-  found-open : (to k j : ℕ) → Reads strict text it (n + 1) m b a (Encoding to k j) → closed text to ≡ false
-      → Reads strict text at n m b a (Refused WrongEndArray to)
+  found-open : (to k j : ℕ) → Reads strict text it (n + 1) m b a (Ok (Encoding to k j)) → closed text to ≡ false
+      → Reads strict text at n m b a (Err (parse_error WrongEndArray to))
   unfolding Begun item
   found-open to k j r e = record {
     bound = (
@@ -327,33 +327,33 @@ module _ (strict : Bool) (text : List ℕ) (at n m len it : ℕ) (h : at < lengt
       frame-part text at n m it (n + 1) b a (omega (arith, opens-array, slack-le text it)) (omega arith)
           (found-frame strict text it (n + 1) m b a to k j r),
     );
-    says = begun strict text at n m b a (Refused WrongEndArray to) h clean
+    says = begun strict text at n m b a (Err (parse_error WrongEndArray to)) h clean
         (λ g f. let q = r.says g (fuel_on text at it g on f) in item_by strict text at len it st num g q.is
         ∙ closes-not text len q.label q.children to e);
   }
 
-  pick-found : (to k j : ℕ) → Reads strict text it (n + 1) m b a (Encoding to k j) → (d : Bool) → closed text to ≡ d
+  pick-found : (to k j : ℕ) → Reads strict text it (n + 1) m b a (Ok (Encoding to k j)) → (d : Bool) → closed text to ≡ d
       → Reads strict text at n m b (lists (pick_list d (node_put a.words n 28 len 0 (k - n)) a.words) a.names)
-      (pick_parsed d (Encoding (to + 1) k j) (Refused WrongEndArray to))
+      (pick_parsed d (Ok (Encoding (to + 1) k j)) (Err (parse_error WrongEndArray to)))
   pick-found to k j r true e = found-closed to k j r e
   pick-found to k j r false e = found-open to k j r e
 
-  pub reads-item : (p : Parsed) → Reads strict text it (n + 1) m b a p
+  pub reads-item : (p : Result Parsed ParseError) → Reads strict text it (n + 1) m b a p
       → Reads strict text at n m b (lists (item_words p text len n a.words) a.names) (item_out p text it n m)
   unfolding Begun item kind
-  reads-item Empty r = record {
+  reads-item (Ok Empty) r = record {
     bound = (in-text, kept_frame text at n m b a r.bound.1);
-    says = begun strict text at n m b a (Refused WrongEndArray it) h clean
+    says = begun strict text at n m b a (Err (parse_error WrongEndArray it)) h clean
         (λ g f. item_by strict text at len it st num g (r.says g (fuel_on text at it g on f))
         ∙ ap (refused WrongEndArray) (sym (unread-end text it (omega (arith, r.bound.0)))));
   }
-  reads-item (Encoding to k j) r = pick-found to k j r (closed text to) refl
-  reads-item (ContainerEnd c to) r = record {
+  reads-item (Ok (Encoding to k j)) r = pick-found to k j r (closed text to) refl
+  reads-item (Ok (ContainerEnd c to)) r = record {
     bound = (r.bound.within, kept_frame text at n m b a r.bound.kept);
-    says = begun strict text at n m b a (Refused (Unknown (end_byte c)) to) h clean
+    says = begun strict text at n m b a (Err (parse_error (Unknown (end_byte c)) to)) h clean
         (λ g f. item_by strict text at len it st num g (r.says g (fuel_on text at it g on f)));
   }
-  reads-item (ArrayEnd to) r = record {
+  reads-item (Ok (ArrayEnd to)) r = record {
     bound = record {
       onward = omega (arith, r.bound.next);
       within = r.bound.within;
@@ -362,23 +362,23 @@ module _ (strict : Bool) (text : List ℕ) (at n m len it : ℕ) (h : at < lengt
       names-on = omega arith;
       names-room = omega (arith, r.bound.next);
     };
-    says = begun strict text at n m b (lists (none_under 28 len n a.words) a.names) (Encoding to (n + 2) m) h clean
+    says = begun strict text at n m b (lists (none_under 28 len n a.words) a.names) (Ok (Encoding to (n + 2) m)) h clean
         (λ g f. none_found text n m len b a (array len) (bare-array m len) r.bound.kept to _
         (item_by strict text at len it st num g (r.says g (fuel_on text at it g on f))));
   }
-  reads-item (Refused why to) r = record {
+  reads-item (Err e) r = record {
     bound = (r.bound.0, frame-part text at n m it (n + 1) b a (omega (arith, opens-array, slack-le text it)) (omega arith) r.bound.1);
-    says = begun strict text at n m b a (Refused why to) h clean (λ g f. item_by strict text at len it st num g (r.says g (fuel_on text at it g on f)));
+    says = begun strict text at n m b a (Err e) h clean (λ g f. item_by strict text at len it st num g (r.says g (fuel_on text at it g on f)));
   }
 
 -- No number after `[`, or one that a strict reading refuses.
 pub reads-no-number : (strict : Bool) (text : List ℕ) (at n m : ℕ) (b : Lists) (why : ErrorKind) (to : ℕ) → at < length text
     → ((inner : List ℕ → R.Parsed) (fields : ContainerKind → List ℕ → R.Items) → judged strict (start (get_or text at 0)) (drop (at + 1) text)
     (begin (get_or text at 0) (start (get_or text at 0)) (drop (at + 1) text) inner fields) ≡ refused why (drop to text))
-    → to ≤ length text → Reads strict text at n m b b (Refused why to)
+    → to ≤ length text → Reads strict text at n m b b (Err (parse_error why to))
 reads-no-number strict text at n m b why to h num l = record {
   bound = (l, kept_frame text at n m b b (record { words-kept = refl; names-kept = refl }));
-  says = begun-by strict text at n m b b (Refused why to) h (λ g f. num (λ t. parse_inner_by strict g t) (λ k t. parse_items_by strict g k t));
+  says = begun-by strict text at n m b b (Err (parse_error why to)) h (λ g f. num (λ t. parse_inner_by strict g t) (λ k t. parse_items_by strict g k t));
 }
 
 -- ---- The fields of a container.
@@ -388,7 +388,7 @@ fields-step : (strict : Bool) (g : ℕ) (k : ContainerKind) (s : List ℕ) → p
 unfolding parse_items_by
 fields-step strict g k s = refl
 
-module _ (strict : Bool) (text : List ℕ) (at : ℕ) (kind : ContainerKind) (n m : ℕ) (b a : Lists) (r : Items) where
+module _ (strict : Bool) (text : List ℕ) (at : ℕ) (kind : ContainerKind) (n m : ℕ) (b a : Lists) (r : Result (ℕ × ℕ × ℕ) ParseError) where
   Continued : Type 0
   Continued = (g : ℕ) → length (drop at text) + length (drop at text) ≤ g
       → ItemsIs text n m b a r (R.next_item kind (parse_inner_by strict g (drop at text)) (λ t. parse_items_by strict g kind t))
@@ -401,13 +401,12 @@ module _ (strict : Bool) (text : List ℕ) (at : ℕ) (kind : ContainerKind) (n 
 abbrev pub NotFound : Parsed → Type 0
 NotFound Empty = Unit {0}
 NotFound (Encoding to k j) = ⊥
-NotFound (ContainerEnd kind to) = Unit {0}
+NotFound (ContainerEnd k to) = Unit {0}
 NotFound (ArrayEnd to) = Unit {0}
-NotFound (Refused why to) = Unit {0}
 
 module _ (strict : Bool) (text : List ℕ) (at : ℕ) (kind : ContainerKind) (n m : ℕ) (b a : Lists) where
-  end-container : (other : ContainerKind) (to : ℕ) → Reads strict text at n m b a (ContainerEnd other to) → (d : Bool) → same_container kind other ≡ d
-      → ItemsReads strict text at kind n m b a (pick_items d (Read to n m) (NoItems (Unknown (end_byte other)) to))
+  end-container : (other : ContainerKind) (to : ℕ) → Reads strict text at n m b a (Ok (ContainerEnd other to)) → (d : Bool) → same_container kind other ≡ d
+      → ItemsReads strict text at kind n m b a (pick_items d (Ok (to, n, m)) (Err (parse_error (Unknown (end_byte other)) to)))
   unfolding Continued R.next_item count names_of nodes
   end-container other to r true e = record {
     bound = record {
@@ -418,7 +417,7 @@ module _ (strict : Bool) (text : List ℕ) (at : ℕ) (kind : ContainerKind) (n 
       names-on = omega arith;
       names-room = omega (arith, r.bound.next);
     };
-    says = continued strict text at kind n m b a (Read to n m) (λ g l. record {
+    says = continued strict text at kind n m b a (Ok (to, n, m)) (λ g l. record {
       trees = end;
       is = next-by strict text at kind g (r.says g l) ∙ (rw (e, R.next_item) refl);
       count-is = sym (add-zero n);
@@ -429,15 +428,15 @@ module _ (strict : Bool) (text : List ℕ) (at : ℕ) (kind : ContainerKind) (n 
   }
   end-container other to r false e = record {
     bound = (r.bound.within, kept_frame text at n m b a r.bound.kept);
-    says = continued strict text at kind n m b a (NoItems (Unknown (end_byte other)) to)
+    says = continued strict text at kind n m b a (Err (parse_error (Unknown (end_byte other)) to))
         (λ g l. next-by strict text at kind g (r.says g l) ∙ (rw (e, R.next_item) refl));
   }
 
-  pub items-end : (p : Parsed) → NotFound p → Reads strict text at n m b a p → ItemsReads strict text at kind n m b a (end_out p kind at n m)
+  pub items-end : (p : Parsed) → NotFound p → Reads strict text at n m b a (Ok p) → ItemsReads strict text at kind n m b a (end_out p kind at n m)
   unfolding Continued R.next_item
   items-end Empty x r = record {
     bound = (omega (arith, r.bound.0), kept_frame text at n m b a r.bound.1);
-    says = continued strict text at kind n m b a (NoItems (WrongEndContainer kind) at)
+    says = continued strict text at kind n m b a (Err (parse_error (WrongEndContainer kind) at))
         (λ g l. next-by strict text at kind g (r.says g l) ∙ ap (R.items_refused (WrongEndContainer kind))
         (sym (unread-end text at (omega (arith, r.bound.0)))));
   }
@@ -445,11 +444,14 @@ module _ (strict : Bool) (text : List ℕ) (at : ℕ) (kind : ContainerKind) (n 
   items-end (ContainerEnd other to) x r = end-container other to r (same_container kind other) refl
   items-end (ArrayEnd to) x r = record {
     bound = (r.bound.within, kept_frame text at n m b a r.bound.kept);
-    says = continued strict text at kind n m b a (NoItems (Unknown 93) to) (λ g l. next-by strict text at kind g (r.says g l));
+    says = continued strict text at kind n m b a (Err (parse_error (Unknown 93) to)) (λ g l. next-by strict text at kind g (r.says g l));
   }
-  items-end (Refused why to) x r = record {
+
+  pub items-refused : (e : ParseError) → Reads strict text at n m b a (Err e) → ItemsReads strict text at kind n m b a (Err e)
+  unfolding Continued R.next_item
+  items-refused e r = record {
     bound = r.bound;
-    says = continued strict text at kind n m b a (NoItems why to) (λ g l. next-by strict text at kind g (r.says g l));
+    says = continued strict text at kind n m b a (Err e) (λ g l. next-by strict text at kind g (r.says g l));
   }
 
   -- One field, and the fields after it.
@@ -491,10 +493,10 @@ module _ (strict : Bool) (text : List ℕ) (at : ℕ) (kind : ContainerKind) (n 
             ∙ sym (ap (sets b.names m) (names-side l cs ts));
       }
 
-  pub items_more : (to k j : ℕ) (z : Lists) (i : Items) → Reads strict text at n m b a (Encoding to k j) → ItemsReads strict text to kind k j a z i
+  pub items_more : (to k j : ℕ) (z : Lists) (i : Result (ℕ × ℕ × ℕ) ParseError) → Reads strict text at n m b a (Ok (Encoding to k j)) → ItemsReads strict text to kind k j a z i
       → ItemsReads strict text at kind n m b z i
   unfolding Continued R.next_item R.add_item
-  items_more to k j z (Read end-at k2 j2) r s =
+  items_more to k j z (Ok (end-at, k2, j2)) r s =
       let rb : FoundBound text at n m to k j = r.bound in
       let sb : ItemsBound text to k j end-at k2 j2 = s.bound in
       record {
@@ -506,10 +508,10 @@ module _ (strict : Bool) (text : List ℕ) (at : ℕ) (kind : ContainerKind) (n 
           names-on = omega arith;
           names-room = omega arith;
         };
-        says = continued strict text at kind n m b z (Read end-at k2 j2)
+        says = continued strict text at kind n m b z (Ok (end-at, k2, j2))
             (λ g l. both to k j z end-at k2 j2 g (r.says g l) (s.says g (omega (arith, length-drop at text, length-drop to text))));
       }
-  items_more to k j z (NoItems why end-at) r s =
+  items_more to k j z (Err e) r s =
       let rb : FoundBound text at n m to k j = r.bound in
       let fr : Frame text at n m b a = found-frame strict text at n m b a to k j r in
       let fs : Frame text to k j a z = s.bound.1 in
@@ -521,7 +523,7 @@ module _ (strict : Bool) (text : List ℕ) (at : ℕ) (kind : ContainerKind) (n 
             names-frame = λ e l. fs.names-frame e (omega arith) ∙ fr.names-frame e l;
           },
         );
-        says = continued strict text at kind n m b z (NoItems why end-at)
+        says = continued strict text at kind n m b z (Err e)
             (λ g l. next-by strict text at kind g (r.says g l).is ∙ ap (R.add_item _ _) (s.says g (omega (arith, length-drop at text, length-drop to text))));
       }
 
@@ -535,14 +537,14 @@ container-words Union s m = (refl, refl, refl, refl)
 
 -- The container's own closer ends its fields.
 pub items-closed : (strict : Bool) (text : List ℕ) (at : ℕ) (kind : ContainerKind) (n m : ℕ) (b : Lists) → closes_fields text at kind ≡ true
-    → ItemsReads strict text at kind n m b b (Read (at + 1) n m)
+    → ItemsReads strict text at kind n m b b (Ok (at + 1, n, m))
 unfolding begin
 items-closed strict text at kind n m b e =
     let h : at < length text = closes_in text at kind e in
     let st = closes-starts text at kind e in
     let s = simple-token text at n m b.words h strict (clean-closed strict text at st) (T.ContainerEnd kind (at + 1))
     (record { bound = (refl, st); says = λ inner fields. begins text at st inner fields }) in
-    end-container strict text at kind n m b b kind (at + 1) (reads-simple strict text at n m b.words b.words b.names (ContainerEnd kind (at + 1)) h s)
+    end-container strict text at kind n m b b kind (at + 1) (reads-simple strict text at n m b.words b.words b.names (Ok (ContainerEnd kind (at + 1))) h s)
     true (same_self kind)
 
 module _ (strict : Bool) (text : List ℕ) (at : ℕ) (k : ContainerKind) (n m : ℕ) (h : at < length text) (st : start (get_or text at 0) ≡ R.open_container k)
@@ -551,12 +553,12 @@ module _ (strict : Bool) (text : List ℕ) (at : ℕ) (k : ContainerKind) (n m :
   unfolding closes
   opens-container = slack-open text at h (ap closes st)
 
-  pub reads-no-name : (why : ErrorKind) (to : ℕ) → NamedIs text (at + 1) m b.names ns (NoName why to) (R.parse_name k [] (drop (at + 1) text))
-      → Reads strict text at n m b (lists b.words ns) (Refused why to)
+  pub reads-no-name : (why : ErrorKind) (to : ℕ) → NamedIs text (at + 1) m b.names ns (Err (parse_error why to)) (R.parse_name k [] (drop (at + 1) text))
+      → Reads strict text at n m b (lists b.words ns) (Err (parse_error why to))
   unfolding Begun begin
   reads-no-name why to q = record {
     bound = (q.0.1, record { words-frame = λ e l. refl; names-frame = λ e l. ap (drop e) q.1 });
-    says = begun strict text at n m b (lists b.words ns) (Refused why to) h (clean-opened strict text at st)
+    says = begun strict text at n m b (lists b.words ns) (Err (parse_error why to)) h (clean-opened strict text at st)
         (λ g f. begins text at st (λ t. parse_inner_by strict g t) (λ j t. parse_items_by strict g j t) ∙ rw (q.0.0, begin) refl);
   }
 
@@ -604,10 +606,10 @@ module _ (strict : Bool) (text : List ℕ) (at : ℕ) (k : ContainerKind) (n m :
               ∙ sym (ap (sets b.names m) (names-alone lab ts ∙ ap (λ (s : List ℕ). s ++ names_of ts) facts.3));
         }
 
-    pub reads-contained : (i : Items) → ItemsReads strict text to k (n + 1) l (lists b.words ns) a i
+    pub reads-contained : (i : Result (ℕ × ℕ × ℕ) ParseError) → ItemsReads strict text to k (n + 1) l (lists b.words ns) a i
         → Reads strict text at n m b (lists (contain_words i k n m l a.words) a.names) (contain_out i)
     unfolding Begun R.contained
-    reads-contained (Read end-at k2 j2) r =
+    reads-contained (Ok (end-at, k2, j2)) r =
         let rb : ItemsBound text to (n + 1) l end-at k2 j2 = r.bound in
         record {
           bound = record {
@@ -618,11 +620,11 @@ module _ (strict : Bool) (text : List ℕ) (at : ℕ) (k : ContainerKind) (n m :
             names-on = omega (arith, q.names-is);
             names-room = omega (arith, q.names-room);
           };
-          says = begun strict text at n m b (lists (node_put a.words n (kind_word k) m (l - m) (k2 - n)) a.names) (Encoding end-at k2 j2) h
+          says = begun strict text at n m b (lists (node_put a.words n (kind_word k) m (l - m) (k2 - n)) a.names) (Ok (Encoding end-at k2 j2)) h
               (clean-opened strict text at st)
               (λ g f. contained-found end-at k2 j2 g (r.says g (omega (arith, q.onward, length-drop to text, length-drop (at + 1) text))));
         }
-    reads-contained (NoItems why end-at) r =
+    reads-contained (Err e) r =
         let fr : Frame text to (n + 1) l (lists b.words ns) a = r.bound.1 in
         let li : l ≡ m + length q.name = q.names-is in
         record {
@@ -634,7 +636,7 @@ module _ (strict : Bool) (text : List ℕ) (at : ℕ) (k : ContainerKind) (n m :
                   ∙ drop-sets b.names m q.name e (omega (arith, q.names-room, q.within, q.onward));
             },
           );
-          says = begun strict text at n m b a (Refused why end-at) h (clean-opened strict text at st)
+          says = begun strict text at n m b a (Err e) h (clean-opened strict text at st)
               (λ g f. named g ∙ ap (R.contained k q.name) (r.says g (omega (arith, q.onward, length-drop to text, length-drop (at + 1) text))));
         }
 
@@ -652,16 +654,16 @@ pub room-two : (text : List ℕ) (at n m : ℕ) (b : Lists) → Ready text at n 
     → 4 * n + 8 ≤ length b.words
 room-two text at n m b r h o = omega (arith, r.words-room, slack-open text at h o)
 
-pub after-parsed : (text : List ℕ) (at n m : ℕ) (b a : Lists) (p : Parsed) → Bound text at (n + 1) m b a p → After p n
-after-parsed text at n m b a Empty r = tt
-after-parsed text at n m b a (Encoding to k j) r = omega (arith, r.more)
-after-parsed text at n m b a (ContainerEnd k to) r = tt
-after-parsed text at n m b a (ArrayEnd to) r = tt
-after-parsed text at n m b a (Refused why to) r = tt
+pub after-parsed : (text : List ℕ) (at n m : ℕ) (b a : Lists) (p : Result Parsed ParseError) → Bound text at (n + 1) m b a p → After p n
+after-parsed text at n m b a (Ok Empty) r = tt
+after-parsed text at n m b a (Ok (Encoding to k j)) r = omega (arith, r.more)
+after-parsed text at n m b a (Ok (ContainerEnd k to)) r = tt
+after-parsed text at n m b a (Ok (ArrayEnd to)) r = tt
+after-parsed text at n m b a (Err e) r = tt
 
-pub after_items : (text : List ℕ) (at n m : ℕ) (b a : Lists) (i : Items) → ItemsWithin text at (n + 1) m b a i → AfterItems i n
-after_items text at n m b a (Read to k j) r = omega (arith, r.more)
-after_items text at n m b a (NoItems why to) r = tt
+pub after_items : (text : List ℕ) (at n m : ℕ) (b a : Lists) (i : Result (ℕ × ℕ × ℕ) ParseError) → ItemsWithin text at (n + 1) m b a i → AfterItems i n
+after_items text at n m b a (Ok (to, k, j)) r = omega (arith, r.more)
+after_items text at n m b a (Err e) r = tt
 
 pub ready-fields : (text : List ℕ) (at n m : ℕ) (b : Lists) (ns : List ℕ) (to l : ℕ) (q : R.Named) → Ready text at n m b → at < length text
     → closes (start (get_or text at 0)) ≡ false

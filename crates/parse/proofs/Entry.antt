@@ -1,4 +1,7 @@
 -- The whole text: from what reading at a place gives to what the lists hold and what is answered.
+use Rattle.parse.specs.declared.Parsed.TheVariants.{Empty, Encoding, ContainerEnd, ArrayEnd}
+use Rattle.parse.specs.declared.Parsed.{Parsed}
+use Rattle.parse.specs.declared.NotRead.{NotRead}
 use Prim.Native.Nat.{ℕ, zero, suc, ◌+◌, ◌*◌, ◌-◌, ◌≤◌, ◌<◌}
 use mathlib.Core.Path.{◌≡◌, refl, sym, ap, ap₂, ◌∙◌, subst, subst₂}
 use mathlib.Core.List.{List, [], ◌∷◌, ◌++◌, append_assoc, append-nil}
@@ -25,10 +28,9 @@ use Rattle.parse.specs.Agree.{Lists, lists, Reads, Ready, Frame, FoundBound, Bou
 use Rattle.parse.specs.Answer.{used, has_room, turned_away, padded, filled}
 use Rattle.parse.specs.Out.{node_put, cleared, headed, none_sheet, code_sheet, Fits, encoded_out, encoded_words, encoded_names}
 use Rattle.parse.specs.Strictly.{parse_inner_by, encoded_by}
-use Rattle.parse.specs.declared.Encoded.{Encoded}
-use Rattle.parse.specs.declared.Encoded.TheVariants as E
-use Rattle.parse.specs.declared.Parsed.{Parsed}
-use Rattle.parse.specs.declared.Parsed.TheVariants.{Empty, Encoding, ContainerEnd, ArrayEnd, Refused}
+use Rattle.std.specs.Prelude.{Result, Ok, Err}
+use Rattle.kinds.specs.declared.ParseError.{ParseError}
+use Rattle.kinds.specs.Refusal.{parse_error}
 use Rattle.parse.proofs.Cycle.{reads-simple, kept_frame, count-alone, none-nodes, none-count, none-names}
 use Rattle.kinds.proofs.HoldsLaws.{sheet-length}
 use Rattle.kinds.proofs.SheetLaws.{header-length}
@@ -222,7 +224,7 @@ module _ (strict : Bool) (text w ns : List ℕ) (at : ℕ) (short : length text 
         names-are = emptied (length text) ns a.names (f.names-frame (length text) (omega arith) ∙ drop-cleared (length text) ns);
       }
 
-  tree_is : (to k j : ℕ) → Reads strict text at 0 0 before a (Encoding to k j) → TreeAt strict text (lists w ns) (lists (headed k j joined) a.names) to
+  tree_is : (to k j : ℕ) → Reads strict text at 0 0 before a (Ok (Encoding to k j)) → TreeAt strict text (lists w ns) (lists (headed k j joined) a.names) to
   unfolding fuel encoding_or_none sheet_of
   tree_is to k j r =
       let f = r.says fuel (omega arith) in
@@ -254,7 +256,7 @@ module _ (strict : Bool) (text w ns : List ℕ) (at : ℕ) (short : length text 
         names-fit = few;
       }
 
-  empty-is : Reads strict text at 0 0 before a Empty → TreeAt strict text (lists w ns) (lists (none_sheet joined) a.names) (length text)
+  empty-is : Reads strict text at 0 0 before a (Ok Empty) → TreeAt strict text (lists w ns) (lists (none_sheet joined) a.names) (length text)
   unfolding fuel encoding_or_none
   empty-is r = record {
     away = not-away text w ns short hw hn;
@@ -277,16 +279,16 @@ module _ (strict : Bool) (text w ns : List ℕ) (at : ℕ) (short : length text 
     names-fit = omega (arith, ap length none-names);
   }
 
-  pub encoded-is : (p : Parsed) → Reads strict text at 0 0 before a p → EncodedIs strict text (lists w ns)
+  pub encoded-is : (p : Result Parsed ParseError) → Reads strict text at 0 0 before a p → EncodedIs strict text (lists w ns)
       (lists (encoded_words p (length text) joined) (encoded_names p (length text) a.names)) (encoded_out p (length text))
   unfolding fuel encoding_or_none
-  encoded-is Empty r = empty-is r
-  encoded-is (Encoding to k j) r = tree_is to k j r
-  encoded-is (ContainerEnd kind to) r = refused-is (Unknown (end_byte kind)) to (is (r.says fuel (omega arith))) r.bound.within
+  encoded-is (Ok Empty) r = empty-is r
+  encoded-is (Ok (Encoding to k j)) r = tree_is to k j r
+  encoded-is (Ok (ContainerEnd kind to)) r = refused-is (Unknown (end_byte kind)) to (is (r.says fuel (omega arith))) r.bound.within
       (kept_frame text at 0 0 before a r.bound.kept)
-  encoded-is (ArrayEnd to) r = refused-is (Unknown 93) to (is (r.says fuel (omega arith))) r.bound.within
+  encoded-is (Ok (ArrayEnd to)) r = refused-is (Unknown 93) to (is (r.says fuel (omega arith))) r.bound.within
       (kept_frame text at 0 0 before a r.bound.kept)
-  encoded-is (Refused why to) r = refused-is why to (is (r.says fuel (omega arith))) r.bound.0 r.bound.1
+  encoded-is (Err e) r = refused-is e.«kind» e.«split_point» (is (r.says fuel (omega arith))) r.bound.0 r.bound.1
 
 -- ---- A text of one code.
 
@@ -329,7 +331,7 @@ code_stays b p e = go (is_qualifier b) refl
 -- The outcome for a text of one code, from the sheet of its primitive.
 pub one_code : (strict : Bool) (text w ns : List ℕ) (p : ℕ) → length text ≡ 1 → used (length text) ≤ length w → length text ≤ length ns → start (get_or text 0 0)
     ≡ R.single p
-    → (w2 n2 : List ℕ) → w2 ≡ code_sheet p w → n2 ≡ cleared 1 ns → EncodedIs strict text (lists w ns) (lists w2 n2) (E.Tree 1)
+    → (w2 n2 : List ℕ) → w2 ≡ code_sheet p w → n2 ≡ cleared 1 ns → EncodedIs strict text (lists w ns) (lists w2 n2) (Ok 1)
 one_code strict text w ns p one hw hn st w2 n2 ew en =
     let h : 0 < length text = omega arith in
     let front : List ℕ = cleared (used (length text)) w in
@@ -338,7 +340,7 @@ one_code strict text w ns p one hw hn st w2 n2 ew en =
     let kept : List ℕ = cleared (length text) ns in
     let a : Lists = lists (node_put (drop header_words front) 0 p 0 0 1) kept in
     let n0 : List ℕ = drop header_words front in
-    let reads : Reads strict text 0 0 0 (lists n0 kept) a (Encoding 1 1 0) = reads-simple strict text 0 0 0 n0 (node_put n0 0 p 0 0 1) kept (Encoding 1 1 0) h
+    let reads : Reads strict text 0 0 0 (lists n0 kept) a (Ok (Encoding 1 1 0)) = reads-simple strict text 0 0 0 n0 (node_put n0 0 p 0 0 1) kept (Ok (Encoding 1 1 0)) h
     (simple-code text 0 0 0 n0 h strict p st) in
     let words : headed 1 0 (take header_words front ++ a.words) ≡ w2 =
     ap (headed 1 0) (sets-part header_words front 0 v (omega (arith, cleared-length (used (length text)) w hw)))
@@ -346,8 +348,8 @@ one_code strict text w ns p one hw hn st w2 n2 ew en =
     ∙ ap (λ (k : ℕ). sets (cleared (used k) w) 0 (hd ++ v)) one
     ∙ sym ew in
     let names : kept ≡ n2 = ap (λ (k : ℕ). cleared k ns) one ∙ sym en in
-    subst₂ (λ (x y : List ℕ). EncodedIs strict text (lists w ns) (lists x y) (E.Tree 1)) words names
-    (encoded-is strict text w ns 0 (omega arith) hw hn (omega arith) (sym (strip-stop text 0 h (code_stays _ p st))) a (Encoding 1 1 0) reads)
+    subst₂ (λ (x y : List ℕ). EncodedIs strict text (lists w ns) (lists x y) (Ok 1)) words names
+    (encoded-is strict text w ns 0 (omega arith) hw hn (omega arith) (sym (strip-stop text 0 h (code_stays _ p st))) a (Ok (Encoding 1 1 0)) reads)
 
 -- ---- What the calls ask.
 
@@ -358,15 +360,15 @@ ready-whole text w ns at h l m = record {
   names-room = omega arith;
 }
 
-fits : (text : List ℕ) (at : ℕ) (b a : Lists) (x : ℕ) (p : Parsed) → at ≤ length text → used (length text) ≤ x → Bound text at 0 0 b a p → Fits p x
-fits text at b a x Empty h l r = tt
-fits text at b a x (Encoding to k j) h l r = omega (arith, r.room, slack-le text at)
-fits text at b a x (ContainerEnd kind to) h l r = tt
-fits text at b a x (ArrayEnd to) h l r = tt
-fits text at b a x (Refused why to) h l r = tt
+fits : (text : List ℕ) (at : ℕ) (b a : Lists) (x : ℕ) (p : Result Parsed ParseError) → at ≤ length text → used (length text) ≤ x → Bound text at 0 0 b a p → Fits p x
+fits text at b a x (Ok Empty) h l r = tt
+fits text at b a x (Ok (Encoding to k j)) h l r = omega (arith, r.room, slack-le text at)
+fits text at b a x (Ok (ContainerEnd kind to)) h l r = tt
+fits text at b a x (Ok (ArrayEnd to)) h l r = tt
+fits text at b a x (Err e) h l r = tt
 
 -- The outcome of `parse_encoding_or_none`, from what its callees said of the lists that they were lent.
-pub entered : (strict : Bool) (text w ns : List ℕ) (at : ℕ) (w1 n1 : List ℕ) (a : Lists) (p : Parsed) (w2 n2 : List ℕ) (r : Encoded)
+pub entered : (strict : Bool) (text w ns : List ℕ) (at : ℕ) (w1 n1 : List ℕ) (a : Lists) (p : Result Parsed ParseError) (w2 n2 : List ℕ) (r : Result ℕ NotRead)
     → length text ≤ 2000 → used (length text) ≤ length w → length text ≤ length ns → at ≤ length text → drop at text ≡ strip_leading_qualifiers text
     → w1 ≡ cleared (used (length text)) w → n1 ≡ cleared (length text) ns → Reads strict text at 0 0
     (lists (mid_of header_words (length w1 - header_words) w1) n1) a p
@@ -384,7 +386,7 @@ entered strict text w ns at w1 n1 a p w2 n2 r short hw hn hat st ew en reads er 
     (encoded-is strict text w ns at short hw hn hat st a p ready))
 
 -- What `encoding_or_none` asks.
-pub joined-fits : (text : List ℕ) (at : ℕ) (w w1 ns n1 : List ℕ) (b a : Lists) (p : Parsed) → used (length text) ≤ length w → length text ≤ length ns
+pub joined-fits : (text : List ℕ) (at : ℕ) (w w1 ns n1 : List ℕ) (b a : Lists) (p : Result Parsed ParseError) → used (length text) ≤ length w → length text ≤ length ns
     → at ≤ length text
     → length w1 ≡ length w → length a.words ≡ length (mid_of header_words (length w1 - header_words) w1) → length n1 ≡ length ns → length a.names
     ≡ length n1 → Bound text at 0 0 b a p

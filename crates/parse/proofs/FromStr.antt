@@ -19,10 +19,12 @@ use Rattle.kinds.specs.declared.ErrorKind.{ErrorKind}
 use Rattle.kinds.specs.declared.ErrorKind.TheVariants.{NotAllConsumed}
 use Rattle.kinds.specs.declared.Refusal.{Refusal}
 use Rattle.kinds.specs.declared.Refusal.TheVariants.{Parse}
-use Rattle.parse.specs.Agree.{Lists, lists, TreeAt, NoTree}
+use Rattle.parse.specs.Agree.{Lists, lists, TreeAt, NoTree, EncodedIs}
+use Rattle.parse.specs.declared.NotRead.{NotRead}
+use Rattle.parse.specs.declared.NotRead.TheVariants.{Away, Refused}
 use Rattle.parse.specs.Answer.{used, turned_away, filled, sheet_words, sheet_names, unless_away, words_after, names_after, whole_tree, whole_reading, answer_or, answer_words, EndOf}
 use Rattle.parse.specs.Answer.{start_tree, start_reading, start_rest, from_start_rest, from_start_answer, from_start_words, from_start_names}
-use Rattle.parse.specs.Out.{cleared, none_sheet}
+use Rattle.parse.specs.Out.{cleared, none_sheet, refusal_of}
 use Rattle.parse.specs.Strictly.{encoded_by, whole_by, whole_answer, whole_words, whole_names}
 use Rattle.std.specs.Prelude.{Result, Ok, Err}
 use Rattle.parse.proofs.StrictlyLaws.{ordinary-encoded, ordinary-whole, strict-whole}
@@ -58,7 +60,7 @@ place text to h = omega (arith, length-drop to text)
 abbrev pub Whole : (strict : Bool) (text w ns : List ℕ) (r : Result (Unit {0}) Refusal) (w' ns' : List ℕ) → Type 0
 Whole strict text w ns r w' ns' = (r ≡ whole_answer strict text w ns) × ((w' ≡ whole_words strict text w ns) × (ns' ≡ whole_names strict text w ns))
 
-pub whole-away : (strict : Bool) (text w ns w' ns' : List ℕ) (why : Refusal) → turned_away text w ns ≡ Some why → w' ≡ w → ns' ≡ ns
+whole-away : (strict : Bool) (text w ns w' ns' : List ℕ) (why : Refusal) → turned_away text w ns ≡ Some why → w' ≡ w → ns' ≡ ns
     → Whole strict text w ns (Err why) w' ns'
 unfolding answer_or
 whole-away strict text w ns w' ns' why e x y = (
@@ -86,13 +88,18 @@ whole_is true text = strict-whole text
 from-str-is : (strict : Bool) (text : List ℕ) (q : Encoded) → encoded_by strict text ≡ q → whole_by strict text ≡ whole (length text) q
 from-str-is strict text q e = sym (whole_is strict text) ∙ ap (whole (length text)) e
 
-pub whole-refused : (strict : Bool) (text w ns : List ℕ) (a : Lists) (why : ErrorKind) (to : ℕ) → NoTree strict text (lists w ns) a why to
+whole-refused : (strict : Bool) (text w ns : List ℕ) (a : Lists) (why : ErrorKind) (to : ℕ) → NoTree strict text (lists w ns) a why to
     → Whole strict text w ns (Err (Parse why to)) a.words a.names
 unfolding whole whole_reading whole_tree sheet_words sheet_names
 whole-refused strict text w ns a why to r =
     whole-read strict text w ns a.words a.names (P.refusal why to) r.away
     (from-str-is strict text _ r.is ∙ ap (P.refusal why) (place text to r.within))
     r.words_are r.names-are
+
+pub whole-not-read : (strict : Bool) (text w ns : List ℕ) (a : Lists) (e : NotRead) → EncodedIs strict text (lists w ns) a (Err e)
+    → Whole strict text w ns (Err (refusal_of e)) a.words a.names
+whole-not-read strict text w ns a (Away why) r = whole-away strict text w ns a.words a.names why r.0 r.1.words-kept r.1.names-kept
+whole-not-read strict text w ns a (Refused e) r = whole-refused strict text w ns a e.«kind» e.«split_point» r
 
 -- Bytes remain: the lists are cleared again.
 pub whole-rest : (strict : Bool) (text w ns : List ℕ) (a : Lists) (to : ℕ) (w' ns' : List ℕ) → TreeAt strict text (lists w ns) a to → to < length text

@@ -3,7 +3,7 @@ use Prim.Native.Nat.{ℕ, zero, suc, ◌+◌, ◌≤◌, ◌<◌}
 use mathlib.Core.Path.{◌≡◌, refl, sym, ap, ◌∙◌, subst}
 use mathlib.Core.List.{List, [], ◌∷◌}
 use mathlib.Core.Bool.{Bool, true, false, cond, ◌&&◌, false≢true}
-use Rattle.std.specs.Prelude.{Option, Some, None}
+use Rattle.std.specs.Prelude.{Option, Some, None, Result, Ok, Err}
 use native.Mathlib.Omega.{arith}
 use lib.Dec.{leb}
 use lib.ListN.{length, drop, get_or, length-drop}
@@ -13,13 +13,14 @@ use Rattle.kinds.specs.Byte.{is_digit}
 use Rattle.kinds.specs.Parse as R
 use Rattle.kinds.specs.Parse.{max_u64, max_u8, value, no_number, parse_number, integral, start, begin, encoding, refused, parse_bits, parse_bit_field, untyped, typed, leaf, single_kind}
 use Rattle.kinds.specs.Strict.{digit_count, surplus_zero, typed_number, bits_numbers, numbers_of, first_surplus}
-use Rattle.kinds.specs.Tree.{Label, Trees, primitive, bit_field, typed_bit_field, pointer, atomic, array, struct, union, None as noneLabel}
+use Rattle.kinds.specs.Tree.{Label, Trees, primitive, bit_field, typed_bit_field, pointer, atomic, array, struct, union, none as noneLabel}
 use Rattle.kinds.specs.declared.ContainerKind.{ContainerKind}
 use Rattle.kinds.specs.declared.ErrorKind.TheVariants.{SurplusZero, IntegerTooLarge}
-use Rattle.numbers.specs.Answer.{digits_of, digits_in, number_at}
+use Rattle.numbers.specs.Answer.{digits_of, number_at}
 use Rattle.numbers.specs.declared.Digits.{Digits}
 use Rattle.numbers.specs.declared.Number.{Number}
-use Rattle.numbers.specs.declared.Number.TheVariants.{Value, Refused}
+use Rattle.kinds.specs.Refusal.{parse_error}
+use Rattle.kinds.specs.declared.ParseError.{ParseError}
 use Rattle.numbers.proofs.NumberLaws.{NumberIs, number_is, number_digits, value-rest}
 use Rattle.parser.specs.Place.{place_of}
 use Rattle.codes.specs.Answer as C
@@ -88,20 +89,24 @@ module _ (strict : Bool) (text : List ℕ) (at : ℕ) where
   unfolding numbers_of
   clean-single {p} e = clean_of strict text at (R.single p) e (λ s. refl)
 
+-- What is refused for a surplus zero.
+abbrev pub surplus_at : ℕ → Digits → Number
+surplus_at at d = record { «read» = Err (parse_error SurplusZero at); «digits» = d }
+
 -- ---- The length of an array.
 
-abbrev pub LengthIs : Bool → List ℕ → ℕ → Number → Type 0
-LengthIs strict text at (Value len it d) = Clean strict text at × NumberIs text (at + 1) (Value len it d) (parse_number max_u64 (drop (at + 1) text))
-LengthIs strict text at (Refused why to d) =
+abbrev pub LengthIs : Bool → List ℕ → ℕ → Result (ℕ × ℕ) ParseError → Type 0
+LengthIs strict text at (Ok (len, it)) = Clean strict text at × NumberIs text (at + 1) (Ok (len, it)) (parse_number max_u64 (drop (at + 1) text))
+LengthIs strict text at (Err e) =
     ((inner : List ℕ → R.Parsed) (fields : ContainerKind → List ℕ → R.Items) → judged strict (start (get_or text at 0)) (drop (at + 1) text)
-    (begin (get_or text at 0) (start (get_or text at 0)) (drop (at + 1) text) inner fields) ≡ refused why (drop to text)) × (to ≤ length text)
+    (begin (get_or text at 0) (start (get_or text at 0)) (drop (at + 1) text) inner fields) ≡ refused e.«kind» (drop e.«split_point» text)) × (e.«split_point» ≤ length text)
 
 module _ (text : List ℕ) (at : ℕ) (h : at < length text) (st : start (get_or text at 0) ≡ R.open_array) where
-  clean-length : (strict : Bool) (r : Number) → Clean strict text at → NumberIs text (at + 1) r (parse_number max_u64 (drop (at + 1) text))
+  clean-length : (strict : Bool) (r : Result (ℕ × ℕ) ParseError) → Clean strict text at → NumberIs text (at + 1) r (parse_number max_u64 (drop (at + 1) text))
       → LengthIs strict text at r
   unfolding begin
-  clean-length strict (Value len it d) clean n = (clean, n)
-  clean-length strict (Refused why to d) clean n = ((λ inner fields. clean _ ∙ begins text at st inner fields ∙ rw (n.0, begin) refl), n.1.1)
+  clean-length strict (Ok (len, it)) clean n = (clean, n)
+  clean-length strict (Err e) clean n = ((λ inner fields. clean _ ∙ begins text at st inner fields ∙ rw (n.0, begin) refl), n.1.1)
 
   array-judged : (y : Bool) → surplus_zero (drop (at + 1) text) ≡ y → (q : R.Parsed)
       → judged true (start (get_or text at 0)) (drop (at + 1) text) q ≡ cond y (refused SurplusZero (drop (at + 1) text)) q
@@ -111,26 +116,26 @@ module _ (text : List ℕ) (at : ℕ) (h : at < length text) (st : start (get_or
 
   length-strict : (y : Bool) → surplus_zero (drop (at + 1) text) ≡ y → (n r : Number) → n
       ≡ number_at text (drop (at + 1) text) (parse_number max_u64 (drop (at + 1) text))
-      → r ≡ cond y (Refused SurplusZero (at + 1) (digits_in n)) n → LengthIs true text at r
+      → r ≡ cond y (surplus_at (at + 1) n.«digits») n → LengthIs true text at r.«read»
   length-strict true e n r f g = rw g ((λ inner fields. array-judged true e _), omega arith)
-  length-strict false e n r f g = rw g (clean-length true n (array-judged false e) (number_is text max_u64 (at + 1) n (omega arith) f))
+  length-strict false e n r f g = rw g (clean-length true n.«read» (array-judged false e) (number_is text max_u64 (at + 1) n (omega arith) f))
 
   pub length-is : (strict : Bool) (r : Number) → r ≡ judged_number strict (at + 1)
-      (number_at text (drop (at + 1) text) (parse_number max_u64 (drop (at + 1) text))) → LengthIs strict text at r
+      (number_at text (drop (at + 1) text) (parse_number max_u64 (drop (at + 1) text))) → LengthIs strict text at r.«read»
   unfolding judged
-  length-is false r e = clean-length false r (λ q. refl) (number_is text max_u64 (at + 1) r (omega arith) e)
+  length-is false r e = clean-length false r.«read» (λ q. refl) (number_is text max_u64 (at + 1) r (omega arith) e)
   length-is true r e =
       let n : Number = number_at text (drop (at + 1) text) (parse_number max_u64 (drop (at + 1) text)) in
-      let shows : (digits_in n).«surplus» ≡ surplus_zero (drop (at + 1) text) = ap (λ (d : Digits). d.«surplus») (number_digits text max_u64 (at + 1) n refl) in
-      length-strict (surplus_zero (drop (at + 1) text)) refl n r refl (e ∙ ap (λ (y : Bool). cond y (Refused SurplusZero (at + 1) (digits_in n)) n) shows)
+      let shows : n.«digits».«surplus» ≡ surplus_zero (drop (at + 1) text) = ap (λ (d : Digits). d.«surplus») (number_digits text max_u64 (at + 1) n refl) in
+      length-strict (surplus_zero (drop (at + 1) text)) refl n r refl (e ∙ ap (λ (y : Bool). cond y (surplus_at (at + 1) n.«digits») n) shows)
 
 -- A number by its digits `d`.
-module _ (n : Number) (at : ℕ) (d : Digits) (e : d ≡ digits_in n) where
-  by-surplus : (y : Bool) → d.«surplus» ≡ y → judged_number true at n ≡ cond y (Refused SurplusZero at (digits_in n)) n
-  by-surplus y f = ap (λ (x : Bool). cond x (Refused SurplusZero at (digits_in n)) n) (ap (λ (x : Digits). x.«surplus») (sym e) ∙ f)
+module _ (n : Number) (at : ℕ) (d : Digits) (e : d ≡ n.«digits») where
+  by-surplus : (y : Bool) → d.«surplus» ≡ y → judged_number true at n ≡ cond y (surplus_at at n.«digits») n
+  by-surplus y f = ap (λ (x : Bool). cond x (surplus_at at n.«digits») n) (ap (λ (x : Digits). x.«surplus») (sym e) ∙ f)
 
-  pub number-refused : d.«surplus» ≡ true → Refused SurplusZero at d ≡ judged_number true at n
-  number-refused f = ap (Refused SurplusZero at) e ∙ sym (by-surplus true f)
+  pub number-refused : d.«surplus» ≡ true → surplus_at at d ≡ judged_number true at n
+  number-refused f = ap (surplus_at at) e ∙ sym (by-surplus true f)
 
   pub number-kept : d.«surplus» ≡ false → n ≡ judged_number true at n
   number-kept f = sym (by-surplus false f)

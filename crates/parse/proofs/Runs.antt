@@ -1,4 +1,6 @@
 -- Laws on runs of pointers and atomics, and of codes.
+use Rattle.parse.specs.declared.Parsed.TheVariants.{Empty, Encoding, ContainerEnd, ArrayEnd}
+use Rattle.parse.specs.declared.Parsed.{Parsed}
 use Prim.Native.Nat.{ℕ, ◌+◌, ◌*◌, ◌-◌, ◌≤◌, ◌<◌}
 use mathlib.Core.Path.{◌≡◌, refl, sym, ap, ◌∙◌, subst}
 use mathlib.Core.List.{List}
@@ -17,9 +19,9 @@ use Rattle.parser.proofs.RunLaws.{RunTo}
 use Rattle.codes.specs.Answer.{is_indirection}
 use Rattle.parse.specs.Room.{slack, closes}
 use Rattle.kinds.specs.declared.ContainerKind.{ContainerKind}
-use Rattle.parse.specs.declared.Items.{Items}
-use Rattle.parse.specs.declared.Parsed.{Parsed}
-use Rattle.parse.specs.declared.Parsed.TheVariants.{Empty, Encoding, ContainerEnd, ArrayEnd, Refused}
+use Rattle.std.specs.Prelude.{Result, Ok, Err}
+use Rattle.kinds.specs.declared.ParseError.{ParseError}
+use Rattle.kinds.specs.Refusal.{parse_error}
 use Rattle.parse.proofs.Cycle.{Bare, bare-pointer, bare-atomic, reads_held, reads-simple, items_more}
 use Rattle.parse.proofs.Sheets.{slack-open, slack-le, simple-code}
 
@@ -54,7 +56,7 @@ not_opened b e = ((λ x. false≢true (sym e ∙ ap opens_container x)), λ x. f
 -- The pointer or atomic at `at` over what was read after it.
 pub reads-indirection : (strict : Bool) (text : List ℕ) (at next n k m : ℕ) → next ≡ at + 1 → k ≡ n + 1 → at < length text → is_indirection (get_or text at 0)
     ≡ true
-    → (b a : Lists) (p : Parsed) → Reads strict text next k m b a p
+    → (b a : Lists) (p : Result Parsed ParseError) → Reads strict text next k m b a p
     → Reads strict text at n m b (lists (hold_words p (indirection_word (get_or text at 0)) n a.words) a.names) (hold_out p next n m)
 reads-indirection strict text at next n k m e f h s b a p r =
     let x : Indirection (get_or text at 0) = indirection (get_or text at 0) s in
@@ -66,26 +68,26 @@ reads-indirection strict text at next n k m e f h s b a p r =
 
 -- ---- What the calls ask.
 
-pub after-bound : (text : List ℕ) (at n m : ℕ) (b a : Lists) (p : Parsed) → Bound text at n m b a p → After p n
-after-bound text at n m b a Empty r = tt
-after-bound text at n m b a (Encoding to k j) r = omega (arith, r.more)
-after-bound text at n m b a (ContainerEnd k to) r = tt
-after-bound text at n m b a (ArrayEnd to) r = tt
-after-bound text at n m b a (Refused why to) r = tt
+pub after-bound : (text : List ℕ) (at n m : ℕ) (b a : Lists) (p : Result Parsed ParseError) → Bound text at n m b a p → After p n
+after-bound text at n m b a (Ok Empty) r = tt
+after-bound text at n m b a (Ok (Encoding to k j)) r = omega (arith, r.more)
+after-bound text at n m b a (Ok (ContainerEnd k to)) r = tt
+after-bound text at n m b a (Ok (ArrayEnd to)) r = tt
+after-bound text at n m b a (Err e) r = tt
 
-pub after_less : (p : Parsed) (n k : ℕ) → n ≤ k → After p k → After p n
-after_less Empty n k l r = tt
-after_less (Encoding to j x) n k l r = omega arith
-after_less (ContainerEnd c to) n k l r = tt
-after_less (ArrayEnd to) n k l r = tt
-after_less (Refused why to) n k l r = tt
+pub after_less : (p : Result Parsed ParseError) (n k : ℕ) → n ≤ k → After p k → After p n
+after_less (Ok Empty) n k l r = tt
+after_less (Ok (Encoding to j x)) n k l r = omega arith
+after_less (Ok (ContainerEnd c to)) n k l r = tt
+after_less (Ok (ArrayEnd to)) n k l r = tt
+after_less (Err e) n k l r = tt
 
-pub after-held : (p : Parsed) (next n m : ℕ) → After p n → After (hold_out p next n m) n
-after-held Empty next n m r = omega arith
-after-held (Encoding to j x) next n m r = r
-after-held (ContainerEnd c to) next n m r = omega arith
-after-held (ArrayEnd to) next n m r = omega arith
-after-held (Refused why to) next n m r = tt
+pub after-held : (p : Result Parsed ParseError) (next n m : ℕ) → After p n → After (hold_out p next n m) n
+after-held (Ok Empty) next n m r = omega arith
+after-held (Ok (Encoding to j x)) next n m r = r
+after-held (Ok (ContainerEnd c to)) next n m r = omega arith
+after-held (Ok (ArrayEnd to)) next n m r = omega arith
+after-held (Err e) next n m r = tt
 
 module _ (text : List ℕ) (at n m to : ℕ) (b : Lists) (r : Ready text at n m b) (e : RunTo is_indirection text at to) where
   run-slack : at < to → slack (drop at text) ≡ length text - at + 1
@@ -118,11 +120,11 @@ module _ (text : List ℕ) (at n p : ℕ) (h : at < length text) (st : start (ge
   unfolding closes
   code-slack = omega (arith, slack-open text at h (ap closes st), slack-le text (at + 1))
 
-  pub items-code : (strict : Bool) (kind : ContainerKind) (m : ℕ) (w ns : List ℕ) (z : Lists) (i : Items)
+  pub items-code : (strict : Bool) (kind : ContainerKind) (m : ℕ) (w ns : List ℕ) (z : Lists) (i : Result (ℕ × ℕ × ℕ) ParseError)
       → ItemsReads strict text (at + 1) kind (n + 1) m (lists (node_put w n p 0 0 1) ns) z i → ItemsReads strict text at kind n m (lists w ns) z i
   items-code strict kind m w ns z i r =
       items_more strict text at kind n m (lists w ns) (lists (node_put w n p 0 0 1) ns) (at + 1) (n + 1) m z i
-      (reads-simple strict text at n m w (node_put w n p 0 0 1) ns (Encoding (at + 1) (n + 1) m) h (simple-code text at n m w h strict p st)) r
+      (reads-simple strict text at n m w (node_put w n p 0 0 1) ns (Ok (Encoding (at + 1) (n + 1) m)) h (simple-code text at n m w h strict p st)) r
 
 pub ready-codes : (text : List ℕ) (at n m to : ℕ) (w w' ns : List ℕ) → Ready text at n m (lists w ns) → CodesRead text at n w w' to → length w' ≡ length w
     → Ready text to (n + (to - at)) m (lists w' ns)

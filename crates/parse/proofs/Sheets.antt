@@ -1,4 +1,6 @@
 -- What reading a byte without parts gives, against the definitions.
+use Rattle.parse.specs.declared.Parsed.TheVariants.{Encoding}
+use Rattle.parse.specs.declared.Parsed.{Parsed}
 use Prim.Native.Nat.{ℕ, suc, ◌+◌, ◌*◌, ◌-◌, ◌≤◌, ◌<◌}
 use mathlib.Core.Path.{◌≡◌, refl, sym, ap, ◌∙◌, subst}
 use mathlib.Core.List.{List, [], ◌∷◌}
@@ -20,8 +22,8 @@ use Rattle.parse.specs.Out.{token_out, token_words, TokenRoom, node_put}
 use Rattle.parse.specs.Room.{slack, closes}
 use Rattle.kinds.specs.declared.ContainerKind.{ContainerKind}
 use Rattle.kinds.specs.declared.ErrorKind.TheVariants.{UnexpectedEnd, SurplusZero}
-use Rattle.parse.specs.declared.Parsed.{Parsed}
-use Rattle.parse.specs.declared.Parsed.TheVariants.{Encoding, Refused}
+use Rattle.std.specs.Prelude.{Ok, Err}
+use Rattle.kinds.specs.Refusal.{parse_error}
 use Rattle.kinds.proofs.ListLaws.{unread, unread-end}
 use Rattle.parse.specs.Strictly.{judged}
 use Rattle.parse.proofs.Judge.{Clean, clean-single}
@@ -173,7 +175,7 @@ module _ (text : List ℕ) (at n m : ℕ) (w : List ℕ) (h : at < length text) 
   -- A bitfield with a surplus zero, where reading is strict.
   pub simple-surplus : (strict : Bool) (p : ℕ) → p ≤ length text
       → ((q : R.Parsed) → judged strict (start (get_or text at 0)) (drop (at + 1) text) q ≡ refused SurplusZero (drop p text))
-      → Simple strict text at n m w w (Refused SurplusZero p)
+      → Simple strict text at n m w w (Err (parse_error SurplusZero p))
   simple-surplus strict p l e = record {
     bound = λ ns. (l, record { words-frame = λ e _. refl; names-frame = λ e _. refl });
     says = λ ns inner fields. e _;
@@ -191,7 +193,7 @@ module _ (text : List ℕ) (at n m : ℕ) (w : List ℕ) (h : at < length text) 
   token-room T.End i r = tt
 
   pub simple-code : (strict : Bool) (p : ℕ) → start (get_or text at 0) ≡ R.single p
-      → Simple strict text at n m w (node_put w n p 0 0 1) (Encoding (at + 1) (n + 1) m)
+      → Simple strict text at n m w (node_put w n p 0 0 1) (Ok (Encoding (at + 1) (n + 1) m))
   unfolding begin leaf
   simple-code strict p e = simple-token strict (clean-single strict text at e) (T.Primitive p (at + 1))
       (record { bound = omega arith; says = λ inner fields. begins text at e inner fields })

@@ -5,14 +5,13 @@ use Rattle.kinds.specs.Parse.{Start, start, begin, next_item, Parsed, empty, ref
 use Rattle.kinds.specs.Strict.{numbers_of, first_surplus, from_str_strict}
 use Rattle.kinds.specs.declared.ContainerKind.{ContainerKind}
 use Rattle.kinds.specs.declared.ErrorKind.TheVariants.{UnexpectedEnd, SurplusZero}
-use Rattle.numbers.specs.Answer.{digits_in}
+use Rattle.kinds.specs.Refusal.{parse_error}
 use Rattle.numbers.specs.declared.Number.{Number}
-use Rattle.numbers.specs.declared.Number.TheVariants as N
 use Rattle.codes.specs.declared.BitsDigits.{BitsDigits}
 use Rattle.codes.specs.declared.Token.{Token}
 use Rattle.codes.specs.declared.Token.TheVariants as T
 use Rattle.parse.specs.Answer.{turned_away, answer_or, words_after, names_after, whole_reading, whole_tree}
-use Rattle.std.specs.Prelude.{Result}
+use Rattle.std.specs.Prelude.{Result, Err}
 use Rattle.kinds.specs.declared.Refusal.{Refusal}
 
 unfoldable pub or_surplus : Option (List ℕ) → Parsed → Parsed
@@ -43,7 +42,7 @@ encoded_by strict s = encoding_or_none (parse_inner_by strict (length (strip_lea
 -- A number at `at`.
 abbrev pub judged_number : Bool → ℕ → Number → Number
 judged_number false at n = n
-judged_number true at n = cond (digits_in n).«surplus» (N.Refused SurplusZero at (digits_in n)) n
+judged_number true at n = cond n.«digits».«surplus» (record { «read» = Err (parse_error SurplusZero at); «digits» = n.«digits» }) n
 
 -- Where the first number with a surplus zero begins in the bitfield at `at`; 0 for none. A bitfield's type is one byte.
 abbrev pub surplus_place : ℕ → BitsDigits → ℕ

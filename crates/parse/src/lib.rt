@@ -14,7 +14,7 @@ ghost use Rattle.codes.specs.Answer.{is_indirection, token_at};
 ghost use Rattle.parse.specs.Answer.{used, answer_words, from_str_answer, from_str_words, from_str_names, from_str_strict_answer, from_str_strict_words, from_str_strict_names, from_start_answer, from_start_words, from_start_names, from_start_rest, EndOf};
 ghost use Rattle.parse.specs.Strictly.{judged_number, surplus_place, token_surplus, PlaceFits, TokenFits, whole_answer, whole_words, whole_names};
 ghost use Rattle.parse.specs.Room.{slack};
-ghost use Rattle.parse.specs.Out.{token_out, token_words, TokenRoom, After, AfterItems, hold_out, hold_words, indirection_word, item_out, item_words, none_under};
+ghost use Rattle.parse.specs.Out.{token_out, token_words, TokenRoom, After, AfterItems, hold_out, hold_words, refusal_of, indirection_word, item_out, item_words, none_under};
 ghost use Rattle.parse.specs.Out.{opens_container, opened_container, contain_out, contain_words, end_out, cleared, headed, none_sheet, code_sheet, Fits, encoded_out, encoded_words, encoded_names};
 ghost use Rattle.parse.specs.Agree.{NamedIs, Simple, SimpleReady, Ready, OneReady, Reads, ChildReady, Holds, CodesRead, ContainerReady, lists, EncodedIs};
 
@@ -24,43 +24,38 @@ use codes::{
 };
 use kinds::{
     ARRAY, ATOMIC, BIT_FIELD, ContainerKind, ErrorKind, MAX_TEXT, NONE, POINTER, PRIMITIVES,
-    Refusal, TYPED_BIT_FIELD, unknown_digit,
+    ParseError, Refusal, TYPED_BIT_FIELD, unknown_digit,
 };
-use names::{Name, parse_name};
-use numbers::{Number, number_digits, parse_u64};
+use names::parse_name;
+use numbers::{Number, parse_u64};
 use parser::strip_leading_qualifiers;
 use sheet::HEADER;
 
-// The place after a container's name and the name bytes written so far, or why there is none and where.
-#[derive(Clone, Copy)]
-enum Named {
-    Is(usize, usize),
-    Refused(ErrorKind, usize),
-}
-
-// What reading at a place gives: the place after it, the nodes and the name bytes written so far.
+// What reading at a place gives, with the place after it; a type with the nodes and the name bytes written so far.
 #[derive(Clone, Copy)]
 enum Parsed {
     Empty,
     Encoding(usize, usize, usize),
     ContainerEnd(ContainerKind, usize),
     ArrayEnd(usize),
-    Refused(ErrorKind, usize),
 }
 
-// What all readings begin with: the place after the tree that the lists now hold, why nothing was read, or why there is no tree and where.
+// Why there is no tree: nothing was read and the lists are as they were, or the text cannot be read and they are cleared.
 #[derive(Clone, Copy)]
-enum Encoded {
-    Tree(usize),
+enum NotRead {
     Away(Refusal),
-    Refused(ErrorKind, usize),
+    Refused(ParseError),
 }
 
-// The place after a container's closer, and the nodes and name bytes written so far.
-#[derive(Clone, Copy)]
-enum Items {
-    Read(usize, usize, usize),
-    Refused(ErrorKind, usize),
+impl From<NotRead> for Refusal {
+    ghost from_gives = { λ e r. r ≡ refusal_of e };
+
+    fn from(e: NotRead) -> Refusal {
+        match e {
+            NotRead::Away(why) => why,
+            NotRead::Refused(why) => Refusal::Parse(why.kind, why.split_point),
+        }
+    }
 }
 
 // Node `n`, where its words are known to fit: handed on as they are, so that nothing is left to test.
@@ -94,14 +89,20 @@ fn token_here(text: &[u8], at: usize) -> Token
 fn judged_number(number: Number, at: usize) -> Number
     ensures { result ≡ judged_number true at number }
 {
-    let digits = number_digits(number);
+    let digits = number.digits;
     if digits.surplus {
-        return Number::Refused(ErrorKind::SurplusZero, at, digits);
+        return Number {
+            read: Err(ParseError {
+                kind: ErrorKind::SurplusZero,
+                split_point: at,
+            }),
+            digits,
+        };
     }
     number
 }
 
-fn name_here(text: &[u8], at: usize, kind: ContainerKind) -> Name
+fn name_here(text: &[u8], at: usize, kind: ContainerKind) -> Result<(usize, usize), ParseError>
     ensures { result ≡ name_at text.now at (parse_name kind [] (drop at text.now)) }
 {
     parse_name(&text[0..], at, kind)
@@ -125,43 +126,45 @@ fn run_end(text: &[u8], at: usize) -> usize
 }
 
 // A container's name, with its bytes packed from `m` on.
-fn put_name(text: &[u8], at: usize, kind: ContainerKind, names: &mut [u8], m: usize) -> Named
+fn put_name(
+    text: &[u8],
+    at: usize,
+    kind: ContainerKind,
+    names: &mut [u8],
+    m: usize,
+) -> Result<(usize, usize), ParseError>
     requires { (at ≤ length text.now) × (m + (length text.now - at) ≤ length names.old) }
     ensures { NamedIs text.now at m names.old names.new result (parse_name kind [] (drop at text.now)) }
 {
-    match name_here(text, at, kind) {
-        Name::Refused(why, to) => Named::Refused(why, to),
-        Name::Is(e, to) => {
-            copy_name(names, m, &text[at..e]);
-            Named::Is(to, m + (e - at))
-        }
-    }
+    let (e, to) = name_here(text, at, kind)?;
+    copy_name(names, m, &text[at..e]);
+    Ok((to, m + (e - at)))
 }
 
 // A token's nodes; `Parts` and `End` are not handed in.
-fn put_token(t: Token, words: &mut [u64], n: usize, m: usize) -> Parsed
+fn put_token(t: Token, words: &mut [u64], n: usize, m: usize) -> Result<Parsed, ParseError>
     requires { TokenRoom t n (length words.old) }
     ensures { (result ≡ token_out t n m) × (words.new ≡ token_words t n words.old) }
 {
     match t {
         Token::Primitive(p, to) => {
             put_node(words, n, p, 0, 0, 1);
-            Parsed::Encoding(to, n + 1, m)
+            Ok(Parsed::Encoding(to, n + 1, m))
         }
         Token::BitField(size, to, _) => {
             put_node(words, n, BIT_FIELD, 0, size, 1);
-            Parsed::Encoding(to, n + 1, m)
+            Ok(Parsed::Encoding(to, n + 1, m))
         }
         Token::TypedBitField(offset, p, size, to, _) => {
             put_node(words, n + 1, p, 0, 0, 1);
             put_node(words, n, TYPED_BIT_FIELD, offset, size, 2);
-            Parsed::Encoding(to, n + 2, m)
+            Ok(Parsed::Encoding(to, n + 2, m))
         }
-        Token::ArrayEnd(to) => Parsed::ArrayEnd(to),
-        Token::ContainerEnd(kind, to) => Parsed::ContainerEnd(kind, to),
-        Token::Refused(why, to, _) => Parsed::Refused(why, to),
-        Token::Parts => Parsed::Empty,
-        Token::End => Parsed::Empty,
+        Token::ArrayEnd(to) => Ok(Parsed::ArrayEnd(to)),
+        Token::ContainerEnd(kind, to) => Ok(Parsed::ContainerEnd(kind, to)),
+        Token::Refused(kind, split_point, _) => Err(ParseError { kind, split_point }),
+        Token::Parts => Ok(Parsed::Empty),
+        Token::End => Ok(Parsed::Empty),
     }
 }
 
@@ -176,83 +179,92 @@ fn put_none_under(words: &mut [u64], n: usize, kind: u64, first: u64)
 
 // Ends a pointer or an atomic, whose child `p` was read: a closer is given back.
 fn put_indirection(
-    p: Parsed,
+    p: Result<Parsed, ParseError>,
     next: usize,
     kind: u64,
     words: &mut [u64],
     n: usize,
     m: usize,
-) -> Parsed
+) -> Result<Parsed, ParseError>
     requires { (4 * n + 8 ≤ length words.old) × After p n }
     ensures { (result ≡ hold_out p next n m) × (words.new ≡ hold_words p kind n words.old) }
 {
     match p {
-        Parsed::Encoding(to, k, l) => {
+        Ok(Parsed::Encoding(to, k, l)) => {
             put_node(words, n, kind, 0, 0, (k - n) as u64);
-            Parsed::Encoding(to, k, l)
+            Ok(Parsed::Encoding(to, k, l))
         }
-        Parsed::Refused(why, to) => Parsed::Refused(why, to),
-        Parsed::Empty => {
+        Err(e) => Err(e),
+        Ok(Parsed::Empty) => {
             put_none_under(words, n, kind, 0);
-            Parsed::Encoding(next, n + 2, m)
+            Ok(Parsed::Encoding(next, n + 2, m))
         }
-        Parsed::ContainerEnd(_, _) => {
+        Ok(Parsed::ContainerEnd(_, _)) => {
             put_none_under(words, n, kind, 0);
-            Parsed::Encoding(next, n + 2, m)
+            Ok(Parsed::Encoding(next, n + 2, m))
         }
-        Parsed::ArrayEnd(_) => {
+        Ok(Parsed::ArrayEnd(_)) => {
             put_none_under(words, n, kind, 0);
-            Parsed::Encoding(next, n + 2, m)
+            Ok(Parsed::Encoding(next, n + 2, m))
         }
     }
 }
 
 // Ends an array, whose item `p` was read from `item` on.
 fn put_array(
-    p: Parsed,
+    p: Result<Parsed, ParseError>,
     text: &[u8],
     item: usize,
     len: u64,
     words: &mut [u64],
     n: usize,
     m: usize,
-) -> Parsed
+) -> Result<Parsed, ParseError>
     requires { (4 * n + 8 ≤ length words.old) × After p n }
     ensures { (result ≡ item_out p text.now item n m) × (words.new ≡ item_words p text.now len n words.old) }
 {
     match p {
-        Parsed::Empty => Parsed::Refused(ErrorKind::WrongEndArray, item),
-        Parsed::Encoding(to, k, l) => {
+        Ok(Parsed::Empty) => Err(ParseError {
+            kind: ErrorKind::WrongEndArray,
+            split_point: item,
+        }),
+        Ok(Parsed::Encoding(to, k, l)) => {
             if closes_item(text, to) {
                 put_node(words, n, ARRAY, len, 0, (k - n) as u64);
-                Parsed::Encoding(to + 1, k, l)
+                Ok(Parsed::Encoding(to + 1, k, l))
             } else {
-                Parsed::Refused(ErrorKind::WrongEndArray, to)
+                Err(ParseError {
+                    kind: ErrorKind::WrongEndArray,
+                    split_point: to,
+                })
             }
         }
-        Parsed::ContainerEnd(kind, to) => Parsed::Refused(ErrorKind::Unknown(kind.end_byte()), to),
-        Parsed::ArrayEnd(to) => {
+        Ok(Parsed::ContainerEnd(kind, to)) => Err(ParseError {
+            kind: ErrorKind::Unknown(kind.end_byte()),
+            split_point: to,
+        }),
+        Ok(Parsed::ArrayEnd(to)) => {
             put_none_under(words, n, ARRAY, len);
-            Parsed::Encoding(to, n + 2, m)
+            Ok(Parsed::Encoding(to, n + 2, m))
         }
-        Parsed::Refused(why, to) => Parsed::Refused(why, to),
+        Err(e) => Err(e),
     }
 }
 
 // Ends a container, whose fields were read: children first, so that the count is known when the node is written.
 fn put_container(
-    i: Items,
+    i: Result<(usize, usize, usize), ParseError>,
     kind: ContainerKind,
     words: &mut [u64],
     n: usize,
     m: usize,
     named: usize,
-) -> Parsed
+) -> Result<Parsed, ParseError>
     requires { ((4 * n + 4 ≤ length words.old) × (m ≤ named)) × AfterItems i n }
     ensures { (result ≡ contain_out i) × (words.new ≡ contain_words i kind n m named words.old) }
 {
     match i {
-        Items::Read(to, k, l) => {
+        Ok((to, k, l)) => {
             put_node(
                 words,
                 n,
@@ -261,28 +273,45 @@ fn put_container(
                 (named - m) as u64,
                 (k - n) as u64,
             );
-            Parsed::Encoding(to, k, l)
+            Ok(Parsed::Encoding(to, k, l))
         }
-        Items::Refused(why, to) => Parsed::Refused(why, to),
+        Err(e) => Err(e),
     }
 }
 
 // What ends a container's fields.
-fn end_items(p: Parsed, kind: ContainerKind, at: usize, n: usize, m: usize) -> Items
+fn end_items(
+    p: Parsed,
+    kind: ContainerKind,
+    at: usize,
+    n: usize,
+    m: usize,
+) -> Result<(usize, usize, usize), ParseError>
     ensures { result ≡ end_out p kind at n m }
 {
     match p {
-        Parsed::Empty => Items::Refused(ErrorKind::WrongEndContainer(kind), at),
-        Parsed::Encoding(_, _, _) => Items::Refused(ErrorKind::WrongEndContainer(kind), at),
+        Parsed::Empty => Err(ParseError {
+            kind: ErrorKind::WrongEndContainer(kind),
+            split_point: at,
+        }),
+        Parsed::Encoding(_, _, _) => Err(ParseError {
+            kind: ErrorKind::WrongEndContainer(kind),
+            split_point: at,
+        }),
         Parsed::ContainerEnd(other, to) => {
             if same_container(kind, other) {
-                Items::Read(to, n, m)
+                Ok((to, n, m))
             } else {
-                Items::Refused(ErrorKind::Unknown(other.end_byte()), to)
+                Err(ParseError {
+                    kind: ErrorKind::Unknown(other.end_byte()),
+                    split_point: to,
+                })
             }
         }
-        Parsed::ArrayEnd(to) => Items::Refused(ErrorKind::Unknown(b']'), to),
-        Parsed::Refused(why, to) => Items::Refused(why, to),
+        Parsed::ArrayEnd(to) => Err(ParseError {
+            kind: ErrorKind::Unknown(b']'),
+            split_point: to,
+        }),
     }
 }
 
@@ -320,14 +349,23 @@ fn token_surplus(text: &[u8], at: usize, t: Token) -> usize
 }
 
 // A bitfield's numbers are judged before it is written.
-fn parse_strictly(text: &[u8], at: usize, words: &mut [u64], n: usize, m: usize) -> Parsed
+fn parse_strictly(
+    text: &[u8],
+    at: usize,
+    words: &mut [u64],
+    n: usize,
+    m: usize,
+) -> Result<Parsed, ParseError>
     requires { SimpleReady text.now at n words.old }
     ensures { Simple true text.now at n m words.old words.new result }
 {
     let t = token_here(text, at);
     let place = token_surplus(text, at, t);
     if 0 < place {
-        return Parsed::Refused(ErrorKind::SurplusZero, place);
+        return Err(ParseError {
+            kind: ErrorKind::SurplusZero,
+            split_point: place,
+        });
     }
     put_token(t, words, n, m)
 }
@@ -340,7 +378,7 @@ fn parse_simple(
     words: &mut [u64],
     n: usize,
     m: usize,
-) -> Parsed
+) -> Result<Parsed, ParseError>
     requires { SimpleReady text.now at n words.old }
     ensures { Simple strict text.now at n m words.old words.new result }
 {
@@ -358,14 +396,14 @@ fn indirection_word(b: u8) -> u64
 
 // Ends the pointers and atomics from `at` up to `to`, whose child was read there: the innermost first, since each counts what is under it.
 fn put_indirections(
-    child: Parsed,
+    child: Result<Parsed, ParseError>,
     text: &[u8],
     at: usize,
     to: usize,
     words: &mut [u64],
     n: usize,
     m: usize,
-) -> Parsed
+) -> Result<Parsed, ParseError>
     requires { ChildReady text.now at to n words.old child }
     ensures { Holds text.now at to n m words.old words.new child result }
 {
@@ -396,7 +434,7 @@ fn parse_inner(
     n: usize,
     names: &mut [u8],
     m: usize,
-) -> Parsed
+) -> Result<Parsed, ParseError>
     requires { Ready text.now at n m (lists words.old names.old) }
     ensures { Reads strict text.now at n m (lists words.old names.old) (lists words.new names.new) result }
 {
@@ -434,22 +472,20 @@ fn parse_one(
     n: usize,
     names: &mut [u8],
     m: usize,
-) -> Parsed
+) -> Result<Parsed, ParseError>
     requires { OneReady text.now at n m (lists words.old names.old) }
     ensures { Reads strict text.now at n m (lists words.old names.old) (lists words.new names.new) result }
 {
     if text.len() <= at {
-        return Parsed::Empty;
+        return Ok(Parsed::Empty);
     }
     let b = text[at];
     match b {
-        b'[' => match length_here(text, at + 1, strict) {
-            Number::Refused(why, end, _) => Parsed::Refused(why, end),
-            Number::Value(len, item, _) => {
-                let p = parse_inner(&text[0..], item, strict, words, n + 1, names, m);
-                put_array(p, text, item, len, words, n, m)
-            }
-        },
+        b'[' => {
+            let (len, item) = length_here(text, at + 1, strict).read?;
+            let p = parse_inner(&text[0..], item, strict, words, n + 1, names, m);
+            put_array(p, text, item, len, words, n, m)
+        }
         _ => {
             if opens_container(b) {
                 let kind = opened_container(b);
@@ -487,7 +523,7 @@ fn parse_field(
     n: usize,
     names: &mut [u8],
     m: usize,
-) -> Parsed
+) -> Result<Parsed, ParseError>
     requires { Ready text.now at n m (lists words.old names.old) }
     ensures { Reads strict text.now at n m (lists words.old names.old) (lists words.new names.new) result }
 {
@@ -512,41 +548,30 @@ fn parse_container(
     n: usize,
     names: &mut [u8],
     m: usize,
-) -> Parsed
+) -> Result<Parsed, ParseError>
     requires { ContainerReady text.now at kind n m (lists words.old names.old) }
     ensures { Reads strict text.now at n m (lists words.old names.old) (lists words.new names.new) result }
 {
-    match put_name(text, at + 1, kind, names, m) {
-        Named::Refused(why, to) => Parsed::Refused(why, to),
-        Named::Is(start, named) => {
-            let mut to = start;
-            let mut k = n + 1;
-            let mut l = named;
-            loop {
-                let past = put_codes(text, to, words, k);
-                k += past - to;
-                to = past;
-                if closes_fields(text, to, kind) {
-                    return put_container(Items::Read(to + 1, k, l), kind, words, n, m, named);
-                }
-                let p = parse_field(&text[0..], to, strict, words, k, names, l);
-                match p {
-                    Parsed::Encoding(to2, k2, l2) => {
-                        to = to2;
-                        k = k2;
-                        l = l2;
-                    }
-                    _ => {
-                        return put_container(
-                            end_items(p, kind, to, k, l),
-                            kind,
-                            words,
-                            n,
-                            m,
-                            named,
-                        );
-                    }
-                }
+    let (start, named) = put_name(text, at + 1, kind, names, m)?;
+    let mut to = start;
+    let mut k = n + 1;
+    let mut l = named;
+    loop {
+        let past = put_codes(text, to, words, k);
+        k += past - to;
+        to = past;
+        if closes_fields(text, to, kind) {
+            return put_container(Ok((to + 1, k, l)), kind, words, n, m, named);
+        }
+        let p = parse_field(&text[0..], to, strict, words, k, names, l)?;
+        match p {
+            Parsed::Encoding(to2, k2, l2) => {
+                to = to2;
+                k = k2;
+                l = l2;
+            }
+            _ => {
+                return put_container(end_items(p, kind, to, k, l), kind, words, n, m, named);
             }
         }
     }
@@ -598,30 +623,41 @@ fn put_none(words: &mut [u64])
 }
 
 // Ends the reading: the tree's header, None's sheet for an empty text, or the lists cleared again.
-fn encoding_or_none(p: Parsed, n: usize, words: &mut [u64], names: &mut [u8]) -> Encoded
+fn encoding_or_none(
+    p: Result<Parsed, ParseError>,
+    n: usize,
+    words: &mut [u64],
+    names: &mut [u8],
+) -> Result<usize, NotRead>
     requires { ((used n ≤ length words.old) × (n ≤ length names.old)) × Fits p (length words.old) }
     ensures { ((result ≡ encoded_out p n) × (words.new ≡ encoded_words p n words.old)) × (names.new ≡ encoded_names p n names.old) }
 {
     match p {
-        Parsed::Empty => {
+        Ok(Parsed::Empty) => {
             put_none(words);
-            Encoded::Tree(n)
+            Ok(n)
         }
-        Parsed::Encoding(to, k, l) => {
+        Ok(Parsed::Encoding(to, k, l)) => {
             put_header(words, k, l);
-            Encoded::Tree(to)
+            Ok(to)
         }
-        Parsed::ContainerEnd(kind, to) => {
+        Ok(Parsed::ContainerEnd(kind, to)) => {
             clear_sheet(n, words, names);
-            Encoded::Refused(ErrorKind::Unknown(kind.end_byte()), to)
+            Err(NotRead::Refused(ParseError {
+                kind: ErrorKind::Unknown(kind.end_byte()),
+                split_point: to,
+            }))
         }
-        Parsed::ArrayEnd(to) => {
+        Ok(Parsed::ArrayEnd(to)) => {
             clear_sheet(n, words, names);
-            Encoded::Refused(ErrorKind::Unknown(b']'), to)
+            Err(NotRead::Refused(ParseError {
+                kind: ErrorKind::Unknown(b']'),
+                split_point: to,
+            }))
         }
-        Parsed::Refused(why, to) => {
+        Err(e) => {
             clear_sheet(n, words, names);
-            Encoded::Refused(why, to)
+            Err(NotRead::Refused(e))
         }
     }
 }
@@ -638,25 +674,30 @@ fn put_code(p: u64, words: &mut [u64], names: &mut [u8])
 }
 
 // What all readings begin with.
-fn parse_encoding_or_none(text: &[u8], strict: bool, words: &mut [u64], names: &mut [u8]) -> Encoded
+fn parse_encoding_or_none(
+    text: &[u8],
+    strict: bool,
+    words: &mut [u64],
+    names: &mut [u8],
+) -> Result<usize, NotRead>
     ensures { EncodedIs strict text.now (lists words.old names.old) (lists words.new names.new) result }
 {
     let n = text.len();
     if MAX_TEXT < n {
-        return Encoded::Away(Refusal::TextTooLong);
+        return Err(NotRead::Away(Refusal::TextTooLong));
     }
     if words.len() < HEADER + 4 * (n + 1) {
-        return Encoded::Away(Refusal::ListTooShort);
+        return Err(NotRead::Away(Refusal::ListTooShort));
     }
     if names.len() < n {
-        return Encoded::Away(Refusal::ListTooShort);
+        return Err(NotRead::Away(Refusal::ListTooShort));
     }
     // A text of one code needs no walk.
     if n == 1 {
         let p = single_kind(text[0]);
         if p < PRIMITIVES {
             put_code(p, words, names);
-            return Encoded::Tree(1);
+            return Ok(1);
         }
     }
     clear_sheet(n, words, names);
@@ -672,17 +713,12 @@ fn read_whole(text: &[u8], strict: bool, words: &mut [u64], names: &mut [u8]) ->
     ensures names { names.new ≡ whole_names strict text.now words.old names.old }
 {
     let n = text.len();
-    match parse_encoding_or_none(text, strict, words, names) {
-        Encoded::Away(why) => Err(why),
-        Encoded::Refused(why, to) => Err(Refusal::Parse(why, to)),
-        Encoded::Tree(to) => {
-            if to < n {
-                clear_sheet(n, words, names);
-                Err(Refusal::Parse(ErrorKind::NotAllConsumed, to))
-            } else {
-                Ok(())
-            }
-        }
+    let to = parse_encoding_or_none(text, strict, words, names)?;
+    if to < n {
+        clear_sheet(n, words, names);
+        Err(Refusal::Parse(ErrorKind::NotAllConsumed, to))
+    } else {
+        Ok(())
     }
 }
 
@@ -725,21 +761,22 @@ pub fn from_start_of_str<'a>(
     ensures names { names.new ≡ from_start_names text.now words.old names.old }
 {
     match parse_encoding_or_none(text, false, words, names) {
-        Encoded::Tree(to) => {
+        Ok(to) => {
             *answer = [0, 0, 0, 0];
             &text[to..]
         }
-        Encoded::Away(why) => {
+        Err(NotRead::Away(why)) => {
             *answer = refusal_words(why);
             text
         }
-        Encoded::Refused(why, to) => {
-            if unknown_digit(why) {
+        Err(NotRead::Refused(e)) => {
+            if unknown_digit(e.kind) {
                 put_none(words);
                 *answer = [0, 0, 0, 0];
+                let to = e.split_point;
                 &text[to..]
             } else {
-                *answer = refusal_words(Refusal::Parse(why, to));
+                *answer = refusal_words(Refusal::Parse(e.kind, e.split_point));
                 text
             }
         }

@@ -9,6 +9,7 @@ use Rattle.kinds.proofs.ListLaws.{unread, unread-end}
 use Rattle.kinds.specs.Byte.{is_digit, starts_digit}
 use Rattle.kinds.specs.Parse.{max_u32, value, no_number, parse_number, not_encoded, parse_encoding_or_none, unknown_digit, refusal, from_start}
 use Rattle.kinds.specs.declared.ErrorKind.{ErrorKind}
+use Rattle.kinds.specs.declared.Refusal.{Refusal}
 use Rattle.kinds.specs.declared.Refusal.TheVariants.{Parse, ExpectedOffset, OffsetTooLarge}
 use Rattle.parser.proofs.RestLaws.{place-of-drop}
 use Rattle.numbers.specs.Answer.{digits_of}
@@ -18,7 +19,7 @@ use Rattle.skip.proofs.RestLaws.{EncodingPassed}
 use Rattle.signature.specs.Signature.{entry, refused, type_from_start, Offset, no_offset, limited, parse_offset, add_entry, number_then, type_then, signature_from}
 use Rattle.signature.specs.Reads.{own_place, NumberIs, NextIs}
 use Rattle.signature.specs.declared.Next.{Next}
-use Rattle.signature.specs.declared.Next.TheVariants as N
+use Rattle.std.specs.Prelude.{Result, Ok, Err}
 
 -- ---- A digit at a place.
 
@@ -34,7 +35,7 @@ digit-end text at h = ap starts_digit (unread-end text at h)
 
 module _ (text : List ℕ) (at : ℕ) (inside : at ≤ length text) where
   pub number_read : (start v to : ℕ) (d : Digits) → to ≤ length text → parse_number max_u32 (drop at text) ≡ value v (drop to text) → d ≡ digits_of (drop at text)
-      → NumberIs text start at (N.Entry (at - start) v to d)
+      → NumberIs text start at (Ok (record { «size» = at - start; «number» = v; «next» = to; «digits» = d }))
   unfolding parse_offset limited
   number_read start v to d l e shown = (
     refl,
@@ -80,7 +81,7 @@ module _ (text : List ℕ) (at : ℕ) (h : at < length text) where
       ∙ sym (ap (λ (s : List ℕ). type_then (length text) s (type_from_start (length text) (parse_encoding_or_none s)) (λ t. signature_from f (length text) t)) (unread text at h))
 
   pub type-refused : (why : ErrorKind) (to : ℕ) → to ≤ length text → parse_encoding_or_none (drop at text) ≡ not_encoded why (drop to text)
-      → NextIs text at (N.Refused (Parse why (own_place why to)))
+      → NextIs text at (Err (Parse why (own_place why to)))
   unfolding type_then
   type-refused why to l e f =
       begins f
@@ -97,24 +98,24 @@ module _ (text : List ℕ) (at : ℕ) (h : at < length text) where
         ∙ ap (λ x. type_then (length text) (drop at text) (type_from_start (length text) x) (λ t. signature_from f (length text) t)) p.is
         ∙ ap (λ x. number_then (length text) (drop at text) (drop to text) x (λ t. signature_from f (length text) t)) e
 
-    entry_next : (r : Next) → NumberIs text at to r → NextIs text at r
+    entry_next : (r : Result Next Refusal) → NumberIs text at to r → NextIs text at r
     unfolding number_then
-    entry_next (N.Entry size v next d) n =
+    entry_next (Ok e) n =
         let l = p.onward h in
         let w = p.within in
         let o = n.1 in
         let a = length-drop at text in
         let b = length-drop to text in
         let begin : length text - length (drop at text) ≡ at = omega arith in
-        let long : length (drop at text) - length (drop to text) ≡ size = omega (arith, n.0) in
-        let behind : to ≡ at + size = omega (arith, n.0) in
+        let long : length (drop at text) - length (drop to text) ≡ e.«size» = omega (arith, n.0) in
+        let behind : to ≡ at + e.«size» = omega (arith, n.0) in
         record {
           onward = omega (arith, o.onward);
           within = o.within;
-          says = λ f. goes_on f _ o.is ∙ ap₂ (λ (x y : ℕ). add_entry (entry x y v) (signature_from f (length text) (drop next text))) begin long;
+          says = λ f. goes_on f _ o.is ∙ ap₂ (λ (x y : ℕ). add_entry (entry x y e.«number») (signature_from f (length text) (drop e.«next» text))) begin long;
           shown = o.shown ∙ ap (λ (k : ℕ). digits_of (drop k text)) behind;
         }
-    entry_next (N.Refused why) n = λ f. goes_on f _ n
+    entry_next (Err why) n = λ f. goes_on f _ n
 
-    pub entry-is : (r : Next) → NumberIs text at to r → NextIs text at r
+    pub entry-is : (r : Result Next Refusal) → NumberIs text at to r → NextIs text at r
     entry-is r n = entry_next r n

@@ -8,7 +8,6 @@ use Rattle.numbers.specs.declared.Digits.{Digits}
 use Rattle.signature.specs.Answer.{numbers}
 use Rattle.signature.specs.Signature.{Entry, entry, Signature, entries, refused, add_entry, Offset, offset, no_offset, parse_offset, signature_from}
 use Rattle.signature.specs.declared.Next.{Next}
-use Rattle.signature.specs.declared.Next.TheVariants as N
 use Rattle.std.specs.Prelude.{Result, Ok, Err}
 use Rattle.kinds.specs.declared.Refusal.{Refusal}
 
@@ -23,9 +22,9 @@ pub record OffsetAt (text : List ℕ) (at number next : ℕ) (digits : Digits) (
   pub within : next ≤ length text
   pub shown : digits ≡ digits_of (drop at text)
 
-abbrev pub NumberIs : List ℕ → ℕ → ℕ → Next → Type 0
-NumberIs text start at (N.Entry size number next digits) = (size ≡ at - start) × OffsetAt text at number next digits (parse_offset (length text) (drop at text))
-NumberIs text start at (N.Refused why) = parse_offset (length text) (drop at text) ≡ no_offset why
+abbrev pub NumberIs : List ℕ → ℕ → ℕ → Result Next Refusal → Type 0
+NumberIs text start at (Ok e) = (e.«size» ≡ at - start) × OffsetAt text at e.«number» e.«next» e.«digits» (parse_offset (length text) (drop at text))
+NumberIs text start at (Err why) = parse_offset (length text) (drop at text) ≡ no_offset why
 
 -- An entry of two bytes at least begins at a place; its number stands after its type.
 pub record EntryAt (text : List ℕ) (at size number next : ℕ) (digits : Digits) : Type 0 where
@@ -35,9 +34,9 @@ pub record EntryAt (text : List ℕ) (at size number next : ℕ) (digits : Digit
   pub shown : digits ≡ digits_of (drop (at + size) text)
 
 -- Reading a signature goes on with an entry, or is refused, whatever the fuel.
-abbrev pub NextIs : List ℕ → ℕ → Next → Type 0
-NextIs text at (N.Entry size number next digits) = EntryAt text at size number next digits
-NextIs text at (N.Refused why) = (f : ℕ) → signature_from (suc f) (length text) (drop at text) ≡ refused why
+abbrev pub NextIs : List ℕ → ℕ → Result Next Refusal → Type 0
+NextIs text at (Ok e) = EntryAt text at e.«size» e.«number» e.«next» e.«digits»
+NextIs text at (Err why) = (f : ℕ) → signature_from (suc f) (length text) (drop at text) ≡ refused why
 
 -- The entries before those of a signature, where it is not refused.
 unfoldable pub add_entries : List Entry → Signature → Signature

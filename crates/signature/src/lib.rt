@@ -8,15 +8,17 @@ ghost use Rattle.signature.specs.Answer.{used, signature_answer, signature_list}
 ghost use Rattle.signature.specs.Reads.{own_place, NumberIs, NextIs, EntriesRead};
 
 use kinds::{ErrorKind, MAX_TEXT, Refusal, unknown_digit};
-use numbers::{Digits, Number, is_digit, parse_u32};
+use numbers::{Digits, is_digit, parse_u32};
 use sheet::clear_words;
-use skip::{SkippedPart, skip_encoding_or_none};
+use skip::skip_encoding_or_none;
 
-// A type's length and number with the place after the number and what its digits show, or why there is no entry.
+// A type's length and number, the place after the number and what its digits show.
 #[derive(Clone, Copy)]
-enum Next {
-    Entry(usize, u64, usize, Digits),
-    Refused(Refusal),
+struct Next {
+    size: usize,
+    number: u64,
+    next: usize,
+    digits: Digits,
 }
 
 // A digit stands at `at`.
@@ -39,30 +41,36 @@ fn own_place(why: ErrorKind, to: usize) -> usize
 }
 
 // The number behind a type that began at `start` and ended at `at`.
-fn next_number(text: &[u8], start: usize, at: usize) -> Next
+fn next_number(text: &[u8], start: usize, at: usize) -> Result<Next, Refusal>
     requires { (start ≤ at) × (at ≤ length text.now) }
     ensures { NumberIs text.now start at result }
 {
-    match parse_u32(text, at) {
-        Number::Value(number, next, digits) => Next::Entry(at - start, number, next, digits),
-        Number::Refused(_, to, _) => {
+    let offset = parse_u32(text, at);
+    match offset.read {
+        Ok((number, next)) => Ok(Next {
+            size: at - start,
+            number,
+            next,
+            digits: offset.digits,
+        }),
+        Err(e) => {
             if starts_digit(text, at) {
-                Next::Refused(Refusal::OffsetTooLarge(to))
+                Err(Refusal::OffsetTooLarge(e.split_point))
             } else {
-                Next::Refused(Refusal::ExpectedOffset(to))
+                Err(Refusal::ExpectedOffset(e.split_point))
             }
         }
     }
 }
 
 // The entry that begins at `at`: a type, then a number.
-fn next_entry(text: &[u8], at: usize) -> Next
+fn next_entry(text: &[u8], at: usize) -> Result<Next, Refusal>
     requires { at < length text.now }
     ensures { NextIs text.now at result }
 {
     match skip_encoding_or_none(text, at) {
-        SkippedPart::To(to) => next_number(text, at, to),
-        SkippedPart::Refused(why, to) => Next::Refused(Refusal::Parse(why, own_place(why, to))),
+        Ok(to) => next_number(text, at, to),
+        Err(e) => Err(Refusal::Parse(e.kind, own_place(e.kind, e.split_point))),
     }
 }
 
@@ -84,16 +92,10 @@ fn read_entries(text: &[u8], list: &mut [u64]) -> Result<usize, Refusal>
     let mut at = 0;
     let mut k = 0;
     while at < text.len() {
-        match next_entry(text, at) {
-            Next::Refused(why) => {
-                return Err(why);
-            }
-            Next::Entry(size, number, next, _) => {
-                put_entry(list, k, at, size, number);
-                k += 1;
-                at = next;
-            }
-        }
+        let entry = next_entry(text, at)?;
+        put_entry(list, k, at, entry.size, entry.number);
+        k += 1;
+        at = entry.next;
     }
     Ok(k)
 }

@@ -1,6 +1,8 @@
+use Rattle.parse.specs.declared.Parsed.TheVariants.{Empty, Encoding, ContainerEnd, ArrayEnd}
+use Rattle.parse.specs.declared.Parsed.{Parsed}
 use borrow.Enum.Refused.{opened}
 use Prim.Native.Nat.{ℕ, ◌+◌, ◌-◌}
-use mathlib.Core.Path.{refl, sym, ap, ◌∙◌}
+use mathlib.Core.Path.{◌≡◌, refl, sym, ap, ◌∙◌}
 use mathlib.Core.List.{List, [], ◌∷◌}
 use native.Mathlib.Omega.{arith}
 use borrow.Author.Rules.{rules}
@@ -13,26 +15,24 @@ use Rattle.codes.specs.Answer.{is_indirection}
 use Rattle.codes.proofs.CodeLaws.{starts, without-parts, not-indirection}
 use Rattle.parse.specs.Agree.{lists, Lists, ItemsReads}
 use Rattle.parse.specs.Room.{closes}
-use Rattle.parse.specs.declared.Items.{Items}
-use Rattle.parse.specs.declared.Items.TheVariants.{Read}
-use Rattle.parse.specs.declared.Parsed.{Parsed}
-use Rattle.parse.specs.declared.Parsed.TheVariants.{Empty, Encoding, ContainerEnd, ArrayEnd, Refused}
+use Rattle.std.specs.Prelude.{Result, Ok, Err}
+use Rattle.kinds.specs.declared.ParseError.{ParseError}
+use Rattle.kinds.specs.Refusal.{parse_error}
 use Rattle.parse.specs.contracts.Parsed.{the_type}
 use Rattle.parse.proofs.Sheets.{slack-some}
 use Rattle.codes.proofs.StepLaws.{closes_in}
-use Rattle.parse.proofs.Cycle.{reads_end, reads-simple, reads-item, reads-no-number, reads-no-name, reads-contained, items-end, items_more, items-closed, NotFound}
+use Rattle.parse.proofs.Cycle.{reads_end, reads-simple, reads-item, reads-no-number, reads-no-name, reads-contained, items-end, items-refused, items_more, items-closed, NotFound}
 use Rattle.parse.proofs.Cycle.{ready-part, room-two, after-parsed, after_items, ready-fields, ready-more, opens-closes}
 use Rattle.parse.proofs.Judge.{length-is}
 use Rattle.parse.proofs.Runs.{opened-is, not_opened, ready-codes, ready-run, run_room, after-bound}
 use Rattle.parse.proofs.+parse_container_parse_field_parse_inner_parse_one.Goals as goal
 
 -- An outcome whose tag is not that of `Encoding`.
-not_found : (p : Parsed) → OneOf (0 ∷ 2 ∷ 3 ∷ 4 ∷ []) (tag_of the_type p) → NotFound p
+not_found : (p : Parsed) → OneOf (0 ∷ 2 ∷ 3 ∷ []) (tag_of the_type p) → NotFound p
 not_found Empty h = tt
-not_found (Encoding to k j) h = miss (0 ∷ 2 ∷ 3 ∷ 4 ∷ []) 1 tt h
+not_found (Encoding to k j) h = miss (0 ∷ 2 ∷ 3 ∷ []) 1 tt h
 not_found (ContainerEnd k to) h = tt
 not_found (ArrayEnd to) h = tt
-not_found (Refused why to) h = tt
 
 pub parse_container-overflow_add-at : goal.parse_container-overflow_add-at
 parse_container-overflow_add-at t c = omega (arith, c.requires.at_byte)
@@ -50,7 +50,7 @@ parse_container-loop-words-init t c =
     let a = c.args in
     let p = c.requires in
     let b : Lists = lists a.words.now a.names.now in
-    let q = rw c.in-Is.is at c.put_name.ensures in
+    let q = rw c.in_ok-start.was at c.put_name.ensures in
     let names : List ℕ = c.put_name.new.names in
     let ready = ready-fields a.text.now a.at a.n a.m b names _ _ _ p.ready p.at_byte (opens-closes _ _ p.opens)
     c.put_name.auto.names q in
@@ -82,13 +82,12 @@ parse_container-put_container-requires t c =
     let a = c.args in
     let k : ℕ = l.k + (x.result - l.to) in
     let b : Lists = lists x.new.words l.names in
-    let o : Items = Read (x.result + 1) k l.l in
+    let o : Result (ℕ × ℕ × ℕ) ParseError = Ok (x.result + 1, k, l.l) in
     let ends : ItemsReads a.strict a.text.now x.result a.kind k l.l b b o = items-closed a.strict a.text.now x.result a.kind k
     l.l b
     (sym c.closes_fields.ensures ∙ c.if-closes_fields.true) in
     let f = l.invariant.1.1.1 b o (x.ensures.reads a.strict a.kind l.l l.names b o ends) in
-    let q = rw c.in-Is.is
-    at c.put_name.ensures in
+    let q = rw c.in_ok-start.was at c.put_name.ensures in
     let p = c.requires in
     let two = room-two a.text.now a.at a.n a.m (lists a.words.now a.names.now) p.ready p.at_byte (opens-closes _ _ p.opens) in
     ((omega (arith, two, x.auto.words, l.invariant.1.1.0.0), omega (arith, q.names-is)), after_items _ _ _ _ b b o f.bound)
@@ -100,24 +99,22 @@ parse_container-returns-then-closes_fields t c =
     let a = c.args in
     let k : ℕ = l.k + (x.result - l.to) in
     let b : Lists = lists x.new.words l.names in
-    let o : Items = Read (x.result + 1) k l.l in
+    let o : Result (ℕ × ℕ × ℕ) ParseError = Ok (x.result + 1, k, l.l) in
     let ends : ItemsReads a.strict a.text.now x.result a.kind k l.l b b o = items-closed a.strict a.text.now x.result a.kind k
     l.l b
     (sym c.closes_fields.ensures ∙ c.if-closes_fields.true) in
     let f = l.invariant.1.1.1 b o (x.ensures.reads a.strict a.kind l.l l.names b o ends) in
-    let q = rw c.in-Is.is
-    at c.put_name.ensures in
+    let q = rw c.in_ok-start.was at c.put_name.ensures in
     let p = c.requires in
     let d = c.put_container.ensures in
     rw (d.0, d.1) (reads-contained a.strict a.text.now a.at a.kind a.n a.m p.at_byte p.opens (lists a.words.now a.names.now)
     c.put_name.new.names _ _ q b o f)
 
-pub parse_container-parse_field-p-requires : goal.parse_container-parse_field-p-requires
-parse_container-parse_field-p-requires t c =
+pub parse_container-parse_field-requires : goal.parse_container-parse_field-requires
+parse_container-parse_field-requires t c =
     let x = c.put_codes-past in
     let l = c.loop-words in
-    let q = rw c.in-Is.is
-    at c.put_name.ensures in
+    let q = rw c.in_ok-start.was at c.put_name.ensures in
     let ready = ready-codes
     c.args.text.now l.to l.k l.l x.result l.words x.new.words l.names l.invariant.0 x.ensures
     x.auto.words in
@@ -127,7 +124,7 @@ parse_container-parse_field-p-requires t c =
 pub parse_container-loop-words-smaller : goal.parse_container-loop-words-smaller
 parse_container-loop-words-smaller t c =
     let r = rw (whole
-    c.args.text.now) at (rw c.in-Encoding.is at c.parse_field-p.ensures) in
+    c.args.text.now) at (rw (c.in_ok-p.was, c.in-Encoding.is) at c.parse_field.ensures) in
     omega (
       arith,
       c.put_codes-past.ensures.onward,
@@ -137,14 +134,14 @@ parse_container-loop-words-smaller t c =
 
 pub parse_container-loop-words-preserved : goal.parse_container-loop-words-preserved
 parse_container-loop-words-preserved t c =
-    let i = c.parse_field-p in
+    let i = c.parse_field in
     let x = c.put_codes-past in
     let l = c.loop-words in
     let a = c.args in
     let k : ℕ = l.k + (x.result - l.to) in
     let b : Lists = lists x.new.words l.names in
     let z : Lists = lists i.new.words i.new.names in
-    let r = rw (whole a.text.now) at (rw c.in-Encoding.is at i.ensures) in
+    let r = rw (whole a.text.now) at (rw (c.in_ok-p.was, c.in-Encoding.is) at i.ensures) in
     let ready = ready-codes a.text.now l.to l.k l.l x.result l.words x.new.words l.names l.invariant.0 x.ensures
     x.auto.words in (
       ready-more a.text.now x.result k l.l b z _ _ _ ready i.auto.words i.auto.names r.bound,
@@ -160,20 +157,20 @@ parse_container-loop-words-preserved t c =
 
 pub parse_container-put_container-requires-in_default : goal.parse_container-put_container-requires-in_default
 parse_container-put_container-requires-in_default t c =
-    let i = c.parse_field-p in
+    let i = c.parse_field in
     let x = c.put_codes-past in
     let l = c.loop-words in
     let a = c.args in
     let k : ℕ = l.k + (x.result - l.to) in
     let b : Lists = lists x.new.words l.names in
     let z : Lists = lists i.new.words i.new.names in
-    let o : Items = c.end_items.result in
-    let none = not_found i.result (opened c.in_default.in_default-own.keys2) in
+    let o : Result (ℕ × ℕ × ℕ) ParseError = c.end_items.result in
+    let none = not_found c.in_ok-p.p (opened c.in_default.in_default-own.keys2) in
     let ends : ItemsReads a.strict a.text.now x.result a.kind k l.l b z o =
-    rw c.end_items.ensures (items-end a.strict a.text.now x.result a.kind k l.l b z i.result none
-    (rw (whole a.text.now) at i.ensures)) in
+    rw c.end_items.ensures (items-end a.strict a.text.now x.result a.kind k l.l b z c.in_ok-p.p none
+    (rw (whole a.text.now, c.in_ok-p.was) at i.ensures)) in
     let f = l.invariant.1.1.1 z o (x.ensures.reads a.strict a.kind l.l l.names z o ends) in
-    let q = rw c.in-Is.is at c.put_name.ensures in
+    let q = rw c.in_ok-start.was at c.put_name.ensures in
     let p = c.requires in
     let two = room-two a.text.now a.at a.n a.m (lists a.words.now a.names.now) p.ready p.at_byte (opens-closes _ _ p.opens) in
     ((omega (arith, two, i.auto.words, x.auto.words, l.invariant.1.1.0.0), omega (arith, q.names-is)), after_items _ _ _ _ _ _ o f.bound)
@@ -181,43 +178,63 @@ parse_container-put_container-requires-in_default t c =
 pub parse_container-shape_of-words-in_default : goal.parse_container-shape_of-words-in_default
 parse_container-shape_of-words-in_default t c =
     c.put_container-in_default.auto.words
-    ∙ c.parse_field-p.auto.words
+    ∙ c.parse_field.auto.words
     ∙ c.put_codes-past.auto.words ∙ c.loop-words.invariant.1.1.0.0
 
 pub parse_container-shape_of-names-in_default : goal.parse_container-shape_of-names-in_default
 parse_container-shape_of-names-in_default t c =
-    c.parse_field-p.auto.names
+    c.parse_field.auto.names
     ∙ c.loop-words.invariant.1.1.0.1
     ∙ c.put_name.auto.names
 
 pub parse_container-returns-in_default : goal.parse_container-returns-in_default
 parse_container-returns-in_default t c =
-    let i = c.parse_field-p in
+    let i = c.parse_field in
     let x = c.put_codes-past in
     let l = c.loop-words in
     let a = c.args in
     let k : ℕ = l.k + (x.result - l.to) in
     let b : Lists = lists x.new.words l.names in
     let z : Lists = lists i.new.words i.new.names in
-    let o : Items = c.end_items.result in
-    let none = not_found i.result (opened c.in_default.in_default-own.keys2) in
+    let o : Result (ℕ × ℕ × ℕ) ParseError = c.end_items.result in
+    let none = not_found c.in_ok-p.p (opened c.in_default.in_default-own.keys2) in
     let ends : ItemsReads a.strict a.text.now x.result a.kind k l.l b z o =
-    rw c.end_items.ensures (items-end a.strict a.text.now x.result a.kind k l.l b z i.result none
-    (rw (whole a.text.now) at i.ensures)) in
+    rw c.end_items.ensures (items-end a.strict a.text.now x.result a.kind k l.l b z c.in_ok-p.p none
+    (rw (whole a.text.now, c.in_ok-p.was) at i.ensures)) in
     let f = l.invariant.1.1.1 z o (x.ensures.reads a.strict a.kind l.l l.names z o ends) in
-    let q = rw c.in-Is.is at c.put_name.ensures in
+    let q = rw c.in_ok-start.was at c.put_name.ensures in
     let p = c.requires in
     let d = c.put_container-in_default.ensures in
     rw (d.0, d.1) (reads-contained a.strict a.text.now a.at a.kind a.n a.m p.at_byte p.opens (lists a.words.now a.names.now)
     c.put_name.new.names _ _ q z o f)
 
-pub parse_container-returns : goal.parse_container-returns
-parse_container-returns t c =
+pub parse_container-returns-in_err-start : goal.parse_container-returns-in_err-start
+parse_container-returns-in_err-start t c =
     let a = c.args in
     let p = c.requires in
-    let q = rw c.in-Refused.is at c.put_name.ensures in
-    reads-no-name a.strict a.text.now a.at a.kind a.n a.m p.at_byte p.opens (lists a.words.now a.names.now)
-    c.put_name.new.names _ _ q
+    let q = rw c.in_err-start.was at c.put_name.ensures in
+    let r : c.from_residual.result ≡ Err c.in_err-start.field-0.0 = search rules in
+    rw r (reads-no-name a.strict a.text.now a.at a.kind a.n a.m p.at_byte p.opens (lists a.words.now a.names.now)
+    c.put_name.new.names _ _ q)
+
+pub parse_container-returns-in_err-p : goal.parse_container-returns-in_err-p
+parse_container-returns-in_err-p t c =
+    let i = c.parse_field in
+    let x = c.put_codes-past in
+    let l = c.loop-words in
+    let a = c.args in
+    let k : ℕ = l.k + (x.result - l.to) in
+    let b : Lists = lists x.new.words l.names in
+    let z : Lists = lists i.new.words i.new.names in
+    let o : Result (ℕ × ℕ × ℕ) ParseError = Err c.in_err-p.field-0.0 in
+    let ends : ItemsReads a.strict a.text.now x.result a.kind k l.l b z o =
+    items-refused a.strict a.text.now x.result a.kind k l.l b z _ (rw (whole a.text.now, c.in_err-p.was) at i.ensures) in
+    let f = l.invariant.1.1.1 z o (x.ensures.reads a.strict a.kind l.l l.names z o ends) in
+    let q = rw c.in_ok-start.was at c.put_name.ensures in
+    let p = c.requires in
+    let r : c.from_residual-in_err-p.result ≡ Err c.in_err-p.field-0.0 = search rules in
+    rw r (reads-contained a.strict a.text.now a.at a.kind a.n a.m p.at_byte p.opens (lists a.words.now a.names.now)
+    c.put_name.new.names _ _ q z o f)
 
 pub parse_field-parse_container-requires : goal.parse_field-parse_container-requires
 parse_field-parse_container-requires t c =
@@ -334,7 +351,7 @@ parse_one-parse_inner-p-requires t c =
     let h = c.if-text-at.false in
     let b : Lists = lists a.words.now a.names.now in
     let st = starts _ 91 c.in-91.is refl in
-    let q = rw c.in-Value.is
+    let q = rw c.in_ok-len-in-91.was
     at (length-is a.text.now a.at h st a.strict _ c.length_here.ensures) in
     let ready = ready-part a.text.now a.at a.n a.m b _
     c.requires.ready h (ap closes st) q.1.1.0
@@ -389,32 +406,33 @@ parse_one-parse_simple-requires t c =
           (((d, c.in_default.in_default-own.rest.1), o.0), o.1);
     }
 
-pub parse_one-returns-in-Refused : goal.parse_one-returns-in-Refused
+pub parse_one-returns-in_err-len-in-91 : goal.parse_one-returns-in_err-len-in-91
 unfolding start in_singles singles in_others others closes
-parse_one-returns-in-Refused t c =
+parse_one-returns-in_err-len-in-91 t c =
     let a = c.args in
     let h = c.if-text-at.false in
     let b : Lists = lists a.words.now a.names.now in
     let st = starts _ 91 c.in-91.is refl in
-    let q = rw c.in-Refused.is at (length-is a.text.now a.at h st a.strict _ c.length_here.ensures) in
-    reads-no-number a.strict a.text.now _ a.n a.m b _ _ h q.0 q.1
+    let q = rw c.in_err-len-in-91.was at (length-is a.text.now a.at h st a.strict _ c.length_here.ensures) in
+    let r : c.from_residual.result ≡ Err c.in_err-len-in-91.field-0.0 = search rules in
+    rw r (reads-no-number a.strict a.text.now _ a.n a.m b _ _ h q.0 q.1)
 
-pub parse_one-shape_of-words-in-Value : goal.parse_one-shape_of-words-in-Value
-parse_one-shape_of-words-in-Value t c =
+pub parse_one-shape_of-words-in_ok-len-in-91 : goal.parse_one-shape_of-words-in_ok-len-in-91
+parse_one-shape_of-words-in_ok-len-in-91 t c =
     c.put_array.auto.words ∙ c.parse_inner-p.auto.words
 
 pub parse_one-shape_of-names : goal.parse_one-shape_of-names
 parse_one-shape_of-names t c = c.parse_inner-p.auto.names
 
-pub parse_one-returns-in-Value : goal.parse_one-returns-in-Value
+pub parse_one-returns-in_ok-len-in-91 : goal.parse_one-returns-in_ok-len-in-91
 unfolding start in_singles singles in_others others closes
-parse_one-returns-in-Value t c =
+parse_one-returns-in_ok-len-in-91 t c =
     let a = c.args in
     let h = c.if-text-at.false in
     let b : Lists = lists a.words.now a.names.now in
     let st = starts _ 91
     c.in-91.is refl in
-    let q = rw c.in-Value.is
+    let q = rw c.in_ok-len-in-91.was
     at (length-is a.text.now a.at h st a.strict _
     c.length_here.ensures) in
     let i = c.parse_inner-p in

@@ -15,6 +15,3 @@ returns-else-same_container c = rw (c.in-ContainerEnd.is, sym c.same_container.e
 
 pub returns-in-ArrayEnd : goal.returns-in-ArrayEnd
 returns-in-ArrayEnd c = rw c.in-ArrayEnd.is refl
-
-pub returns-in-Refused : goal.returns-in-Refused
-returns-in-Refused c = rw c.in-Refused.is refl

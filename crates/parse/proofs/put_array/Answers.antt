@@ -5,29 +5,29 @@ use Rattle.parse.proofs.put_array.Goals as goal
 
 pub overflow_sub-k : goal.overflow_sub-k
 overflow_sub-k c =
-    rw c.in-Encoding.is at c.requires.1
+    rw (c.in-Ok-Encoding.is, rw c.in-Ok-Encoding.is at c.in-Ok-Encoding.field-0-is) at c.requires.1
 
 pub overflow_add-result : goal.overflow_add-result
 overflow_add-result c =
-    let h = closed_in c.args.text.now c.in-Encoding.to (sym c.closes_item.ensures ∙ c.if-closes_item.true) in omega (arith, c.well_formed.1.0)
+    let h = closed_in c.args.text.now c.in-Ok-Encoding.to (sym c.closes_item.ensures ∙ c.if-closes_item.true) in omega (arith, c.well_formed.1.0)
 
-pub returns-in-Empty : goal.returns-in-Empty
-returns-in-Empty c = rw c.in-Empty.is (refl, refl)
+pub returns-in-Ok-Empty : goal.returns-in-Ok-Empty
+returns-in-Ok-Empty c = rw (c.in-Ok-Empty.is, rw c.in-Ok-Empty.is at c.in-Ok-Empty.field-0-is) (refl, refl)
 
 pub returns-then-closes_item : goal.returns-then-closes_item
 returns-then-closes_item c =
-    rw (c.in-Encoding.is, sym c.closes_item.ensures ∙ c.if-closes_item.true) (refl, c.put_node.ensures)
+    rw (c.in-Ok-Encoding.is, rw c.in-Ok-Encoding.is at c.in-Ok-Encoding.field-0-is, sym c.closes_item.ensures ∙ c.if-closes_item.true) (refl, c.put_node.ensures)
 
 pub returns-else-closes_item : goal.returns-else-closes_item
 returns-else-closes_item c =
-    rw (c.in-Encoding.is, sym c.closes_item.ensures ∙ c.if-closes_item.false) (refl, refl)
+    rw (c.in-Ok-Encoding.is, rw c.in-Ok-Encoding.is at c.in-Ok-Encoding.field-0-is, sym c.closes_item.ensures ∙ c.if-closes_item.false) (refl, refl)
 
-pub returns-in-ContainerEnd : goal.returns-in-ContainerEnd
-returns-in-ContainerEnd c = rw (c.in-ContainerEnd.is, c.end_byte.ensures) (refl, refl)
+pub returns-in-Ok-ContainerEnd : goal.returns-in-Ok-ContainerEnd
+returns-in-Ok-ContainerEnd c = rw (c.in-Ok-ContainerEnd.is, rw c.in-Ok-ContainerEnd.is at c.in-Ok-ContainerEnd.field-0-is, c.end_byte.ensures) (refl, refl)
 
-pub returns-in-ArrayEnd : goal.returns-in-ArrayEnd
-returns-in-ArrayEnd c =
-    rw c.in-ArrayEnd.is (refl, c.put_none_under.ensures)
+pub returns-in-Ok-ArrayEnd : goal.returns-in-Ok-ArrayEnd
+returns-in-Ok-ArrayEnd c =
+    rw (c.in-Ok-ArrayEnd.is, rw c.in-Ok-ArrayEnd.is at c.in-Ok-ArrayEnd.field-0-is) (refl, c.put_none_under.ensures)
 
-pub returns-in-Refused : goal.returns-in-Refused
-returns-in-Refused c = rw c.in-Refused.is (refl, refl)
+pub returns-in-Err : goal.returns-in-Err
+returns-in-Err c = rw c.in-Err.is (refl, refl)

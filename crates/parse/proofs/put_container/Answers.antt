@@ -3,11 +3,11 @@ use Rattle.parse.proofs.put_container.Goals as goal
 
 pub overflow_sub-k : goal.overflow_sub-k
 overflow_sub-k c =
-    rw c.in-Read.is at c.requires.1
+    rw c.in-Ok.is at c.requires.1
 
-pub returns-in-Read : goal.returns-in-Read
-returns-in-Read c =
-    rw c.in-Read.is (refl, c.put_node.ensures ∙ rw c.kind.ensures refl)
+pub returns-in-Ok : goal.returns-in-Ok
+returns-in-Ok c =
+    rw c.in-Ok.is (refl, c.put_node.ensures ∙ rw c.kind.ensures refl)
 
-pub returns-in-Refused : goal.returns-in-Refused
-returns-in-Refused c = rw c.in-Refused.is (refl, refl)
+pub returns-in-Err : goal.returns-in-Err
+returns-in-Err c = rw c.in-Err.is (refl, refl)

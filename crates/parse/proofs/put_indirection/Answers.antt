@@ -3,23 +3,23 @@ use Rattle.parse.proofs.put_indirection.Goals as goal
 
 pub overflow_sub-k : goal.overflow_sub-k
 overflow_sub-k c =
-    rw c.in-Encoding.is at c.requires.1
+    rw (c.in-Ok-Encoding.is, rw c.in-Ok-Encoding.is at c.in-Ok-Encoding.field-0-is) at c.requires.1
 
-pub returns-in-Encoding : goal.returns-in-Encoding
-returns-in-Encoding c =
-    rw c.in-Encoding.is (refl, c.put_node.ensures)
+pub returns-in-Ok-Encoding : goal.returns-in-Ok-Encoding
+returns-in-Ok-Encoding c =
+    rw (c.in-Ok-Encoding.is, rw c.in-Ok-Encoding.is at c.in-Ok-Encoding.field-0-is) (refl, c.put_node.ensures)
 
-pub returns-in-Refused : goal.returns-in-Refused
-returns-in-Refused c = rw c.in-Refused.is (refl, refl)
+pub returns-in-Err : goal.returns-in-Err
+returns-in-Err c = rw c.in-Err.is (refl, refl)
 
-pub returns-in-Empty : goal.returns-in-Empty
-returns-in-Empty c =
-    rw c.in-Empty.is (refl, c.put_none_under.ensures)
+pub returns-in-Ok-Empty : goal.returns-in-Ok-Empty
+returns-in-Ok-Empty c =
+    rw (c.in-Ok-Empty.is, rw c.in-Ok-Empty.is at c.in-Ok-Empty.field-0-is) (refl, c.put_none_under.ensures)
 
-pub returns-in-ContainerEnd : goal.returns-in-ContainerEnd
-returns-in-ContainerEnd c =
-    rw c.in-ContainerEnd.is (refl, c.put_none_under-in-ContainerEnd.ensures)
+pub returns-in-Ok-ContainerEnd : goal.returns-in-Ok-ContainerEnd
+returns-in-Ok-ContainerEnd c =
+    rw (c.in-Ok-ContainerEnd.is, rw c.in-Ok-ContainerEnd.is at c.in-Ok-ContainerEnd.field-0-is) (refl, c.put_none_under-in-Ok-ContainerEnd.ensures)
 
-pub returns-in-ArrayEnd : goal.returns-in-ArrayEnd
-returns-in-ArrayEnd c =
-    rw c.in-ArrayEnd.is (refl, c.put_none_under-in-ArrayEnd.ensures)
+pub returns-in-Ok-ArrayEnd : goal.returns-in-Ok-ArrayEnd
+returns-in-Ok-ArrayEnd c =
+    rw (c.in-Ok-ArrayEnd.is, rw c.in-Ok-ArrayEnd.is at c.in-Ok-ArrayEnd.field-0-is) (refl, c.put_none_under-in-Ok-ArrayEnd.ensures)

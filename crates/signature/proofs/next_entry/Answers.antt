@@ -6,18 +6,18 @@ use Rattle.signature.proofs.next_entry.Goals as goal
 pub next_number-requires : goal.next_number-requires
 next_number-requires c =
     let h = c.requires in
-    let r = rw c.in-To.is at (encoding-is c.args.text.now c.args.at _ (omega arith) c.skip_encoding_or_none.ensures) in
+    let r = rw c.in-Ok.is at (encoding-is c.args.text.now c.args.at _ (omega arith) c.skip_encoding_or_none.ensures) in
     let on = r.onward h in
     (omega arith, r.within)
 
-pub returns-in-To : goal.returns-in-To
-returns-in-To c =
+pub returns-in-Ok : goal.returns-in-Ok
+returns-in-Ok c =
     let h = c.requires in
-    let r = rw c.in-To.is at (encoding-is c.args.text.now c.args.at _ (omega arith) c.skip_encoding_or_none.ensures) in
+    let r = rw c.in-Ok.is at (encoding-is c.args.text.now c.args.at _ (omega arith) c.skip_encoding_or_none.ensures) in
     entry-is _ _ h _ r c.next_number.result c.next_number.ensures
 
-pub returns-in-Refused : goal.returns-in-Refused
-returns-in-Refused c =
+pub returns-in-Err : goal.returns-in-Err
+returns-in-Err c =
     let h = c.requires in
-    let r = rw c.in-Refused.is at (encoding-is c.args.text.now c.args.at _ (omega arith) c.skip_encoding_or_none.ensures) in
+    let r = rw c.in-Err.is at (encoding-is c.args.text.now c.args.at _ (omega arith) c.skip_encoding_or_none.ensures) in
     rw c.own_place.ensures (type-refused _ _ h _ _ r.1 r.0)

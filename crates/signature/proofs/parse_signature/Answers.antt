@@ -13,28 +13,28 @@ returns-then-n-eq0 c = let p = answer-empty _ _ c.if-n-eq0.true in record { answ
 
 pub overflow_mul-from : goal.overflow_mul-from
 overflow_mul-from c =
-    let r = rw c.in-Entries.is at c.read_entries.ensures in
+    let r = rw c.in-Ok.is at c.read_entries.ensures in
     omega (arith, few-entries _ _ _ _ r, c.if-n-gt-MAX_TEXT.false)
 
 pub offset_bounds-list-from : goal.offset_bounds-list-from
 offset_bounds-list-from c =
-    let r = rw c.in-Entries.is at c.read_entries.ensures in
+    let r = rw c.in-Ok.is at c.read_entries.ensures in
     omega (arith, few-entries _ _ _ _ r, c.if-n-gt-MAX_TEXT.false)
 
-pub slice_bounds-clear_words-count-in-Entries : goal.slice_bounds-clear_words-count-in-Entries
-slice_bounds-clear_words-count-in-Entries c =
-    let r = rw c.in-Entries.is at c.read_entries.ensures in
+pub slice_bounds-clear_words-count-in-Ok : goal.slice_bounds-clear_words-count-in-Ok
+slice_bounds-clear_words-count-in-Ok c =
+    let r = rw c.in-Ok.is at c.read_entries.ensures in
     omega (arith, few-entries _ _ _ _ r)
 
-pub slice_bounds-clear_words-start-in-Entries : goal.slice_bounds-clear_words-start-in-Entries
-slice_bounds-clear_words-start-in-Entries c =
-    let r = rw c.in-Entries.is at c.read_entries.ensures in
+pub slice_bounds-clear_words-start-in-Ok : goal.slice_bounds-clear_words-start-in-Ok
+slice_bounds-clear_words-start-in-Ok c =
+    let r = rw c.in-Ok.is at c.read_entries.ensures in
     omega (arith, few-entries _ _ _ _ r)
 
-pub returns-in-Refused : goal.returns-in-Refused
-returns-in-Refused c = let r = rw c.in-Refused.is at c.read_entries.ensures in let p = refused-answered _ _ _ (omega (arith, c.if-n-eq0.false)) (omega (arith, c.if-n-gt-MAX_TEXT.false)) (omega (arith, c.if-list-part.false)) r.0 _ _ r.1
+pub returns-in-Err : goal.returns-in-Err
+returns-in-Err c = let r = rw c.in-Err.is at c.read_entries.ensures in let p = refused-answered _ _ _ (omega (arith, c.if-n-eq0.false)) (omega (arith, c.if-n-gt-MAX_TEXT.false)) (omega (arith, c.if-list-part.false)) r.0 _ _ r.1
     c.clear_words.ensures in record { answers = p.0; fills = p.1 }
 
-pub returns-in-Entries : goal.returns-in-Entries
-returns-in-Entries c = let r = rw c.in-Entries.is at c.read_entries.ensures in let p = all-answered _ _ _ (omega (arith, c.if-n-eq0.false)) (omega (arith, c.if-n-gt-MAX_TEXT.false)) (omega (arith, c.if-list-part.false)) r.0 _ _ r.1.0 r.1.1
-    c.clear_words-in-Entries.ensures in record { answers = p.0; fills = p.1 }
+pub returns-in-Ok : goal.returns-in-Ok
+returns-in-Ok c = let r = rw c.in-Ok.is at c.read_entries.ensures in let p = all-answered _ _ _ (omega (arith, c.if-n-eq0.false)) (omega (arith, c.if-n-gt-MAX_TEXT.false)) (omega (arith, c.if-list-part.false)) r.0 _ _ r.1.0 r.1.1
+    c.clear_words-in-Ok.ensures in record { answers = p.0; fills = p.1 }

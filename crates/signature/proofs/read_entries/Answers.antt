@@ -9,18 +9,18 @@ loop-at-init c = read-start _ _
 pub next_entry-requires : goal.next_entry-requires
 next_entry-requires c = c.loop-at-test.true
 
-pub shape_of-list-in-Refused : goal.shape_of-list-in-Refused
-shape_of-list-in-Refused c = read_length _ _ _ _ _ c.loop-at.invariant
+pub shape_of-list-in_err-entry : goal.shape_of-list-in_err-entry
+shape_of-list-in_err-entry c = read_length _ _ _ _ _ c.loop-at.invariant
 
-pub returns-in-Refused : goal.returns-in-Refused
-returns-in-Refused c =
+pub returns-in_err-entry : goal.returns-in_err-entry
+returns-in_err-entry c =
     let l = c.loop-at in
-    read-refused _ _ _ _ _ l.invariant _ c.loop-at-test.true (rw c.in-Refused.is at c.next_entry.ensures)
+    read-refused _ _ _ _ _ l.invariant _ c.loop-at-test.true (rw c.in_err-entry.was at c.next_entry.ensures)
 
 pub put_entry-requires : goal.put_entry-requires
 put_entry-requires c =
     let l = c.loop-at in
-    let e = rw c.in-Entry.is at c.next_entry.ensures in
+    let e = rw c.in_ok-entry.was at c.next_entry.ensures in
     omega (arith, read_length _ _ _ _ _ l.invariant, l.invariant.few, e.onward, e.within, c.requires)
 
 pub overflow_add-k : goal.overflow_add-k
@@ -30,13 +30,13 @@ overflow_add-k c =
 
 pub loop-at-smaller : goal.loop-at-smaller
 loop-at-smaller c =
-    let e = rw c.in-Entry.is at c.next_entry.ensures in
+    let e = rw c.in_ok-entry.was at c.next_entry.ensures in
     omega (arith, e.onward, e.within)
 
 pub loop-at-preserved : goal.loop-at-preserved
 loop-at-preserved c =
     let l = c.loop-at in
-    let e = rw c.in-Entry.is at c.next_entry.ensures in
+    let e = rw c.in_ok-entry.was at c.next_entry.ensures in
     read_more _ _ _ _ _ l.invariant _ _ _ _ _ e c.put_entry.ensures
 
 pub shape_of-list : goal.shape_of-list
