@@ -69,6 +69,9 @@ moved {list} {before} {words} {words'} {i} {m} {w} {m'} {w'} p q o s =
     (subst (λ (k : ℕ). Scan list before words i m' k) (sym q)
     (subst (λ (z : List ℕ). Scan list before z i m' w') (sym o) s))
 
+some-pair : {p q m n : ℕ} → ◌≡◌ {A = Option (ℕ × ℕ)} (Some (p, q)) (Some (m, n)) → (p ≡ m) × (q ≡ n)
+some-pair {p} {q} {m} {n} h = let d : ◌≡◌ {A = ℕ × ℕ} (p, q) (m, n) = cc in (ap (λ (x : ℕ × ℕ). x.0) d, ap (λ (x : ℕ × ℕ). x.1) d)
+
 module _ {list before words : List ℕ} {i n v : ℕ} where
   on-comma : i < length list → eqb (get_or list i 0) 44 ≡ true → Scan list before words i n v → Scan list before (set words n v) (i + 1) (n + 1) 0
   unfolding decimals is_decimals
@@ -114,15 +117,14 @@ module _ {list before words : List ℕ} {i n v : ℕ} where
     where
       digit : (g : Option ℕ) → eqb (get_or list i 0) 44 ≡ false → grown v (get_or list i 0) ≡ g → Some (m, w) ≡ step_grown n g → words' ≡ words
           → Scan list before words' (i + 1) m w
-      digit (Some x) c q k z = let p : m ≡ n = cc in let y : w ≡ x = cc in moved p y z (on-digit x h c q r)
+      digit (Some x) c q k z = let p = some-pair k in moved p.0 p.1 z (on-digit x h c q r)
       digit None c q k z = let f : ◌≡◌ {A = ℕ} 0 1 = cc in absurd (omega arith)
 
       go : (y : Bool) → eqb (get_or list i 0) 44 ≡ y → Scan list before words' (i + 1) m w
       go true c =
           let k : Some (m, w) ≡ Some (n + 1, 0) = e ∙ rw c in
-          let p : m ≡ n + 1 = cc in
-          let q : w ≡ 0 = cc in
-          moved p q (o ∙ rw c) (on-comma h c r)
+          let p = some-pair k in
+          moved p.0 p.1 (o ∙ rw c) (on-comma h c r)
       go false c = digit (grown v (get_or list i 0)) c refl (e ∙ rw c) (o ∙ rw c)
 
   pub scan-bad : (room : ℕ) (words' : List ℕ) → i < length list → Scan list before words i n v → None ≡ stepped n v (get_or list i 0) → words'

@@ -170,10 +170,8 @@ fn advance(words: &mut [u64], n: usize, value: u64, b: u8) -> Option<(usize, u64
         put_word(words, n, value);
         return Some((n + 1, 0));
     }
-    match grow(value, b) {
-        Some(v) => Some((n, v)),
-        None => None,
-    }
+    let v = grow(value, b)?;
+    Some((n, v))
 }
 
 // Reads numbers in decimal with commas between. An empty number counts as 0.
@@ -185,9 +183,7 @@ pub fn decode_words(list: &[u8], words: &mut [u64]) -> Option<usize>
     let mut n = 0;
     let mut value = 0;
     while i < list.len() {
-        let Some((m, v)) = advance(words, n, value, list[i]) else {
-            return None;
-        };
+        let (m, v) = advance(words, n, value, list[i])?;
         n = m;
         value = v;
         i += 1;

@@ -1,6 +1,8 @@
 -- `lines::decode_words` meets its contract. Assumes nothing.
 use mathlib.Core.Path.{sym, ◌∙◌}
 use Prim.Native.Nat.{◌-◌}
+use borrow.Author.Rules.{rules}
+use lib.ListN.{length}
 use native.Mathlib.Omega.{arith}
 use Rattle.lines.proofs.DecimalLaws.{scan-start, scan-more, scan-bad, scan-short, scan-items}
 use Rattle.lines.proofs.decode_words.Goals as goal
@@ -14,12 +16,11 @@ bounds-list-i c = omega arith
 pub advance-requires : goal.advance-requires
 advance-requires c = omega (arith, c.loop-i.invariant.few)
 
-pub shape_of-words-in_default : goal.shape_of-words-in_default
-shape_of-words-in_default c =
-    c.advance.auto.words ∙ c.loop-i.invariant.same
-
-pub returns-in_default : goal.returns-in_default
-returns-in_default c = let p = scan-bad _ _ c.loop-i-test.true c.loop-i.invariant (sym c.in_default.is ∙ c.advance.ensures.answers) c.advance.ensures.fills in record { answers = p.0; fills = p.1 }
+pub returns-in_err-m : goal.returns-in_err-m
+returns-in_err-m c =
+    let p = scan-bad (length c.args.words.now) c.advance.new.words c.loop-i-test.true c.loop-i.invariant (sym c.in_err-m.was ∙ c.advance.ensures.answers) c.advance.ensures.fills in
+    let k = p.0 in
+    record { answers = search rules; fills = p.1 }
 
 pub overflow_add-i : goal.overflow_add-i
 overflow_add-i c = omega arith
@@ -29,7 +30,7 @@ loop-i-smaller c = omega arith
 
 pub loop-i-preserved : goal.loop-i-preserved
 loop-i-preserved c =
-    scan-more _ _ _ c.loop-i-test.true c.loop-i.invariant (sym c.in-To.is ∙ c.advance.ensures.answers) c.advance.ensures.fills
+    scan-more _ _ _ c.loop-i-test.true c.loop-i.invariant (sym c.in_ok-m.was ∙ c.advance.ensures.answers) c.advance.ensures.fills
 
 pub shape_of-words-then-words-n : goal.shape_of-words-then-words-n
 shape_of-words-then-words-n c =

@@ -1,3 +1,6 @@
+use mathlib.Core.Path.{◌≡◌}
+use borrow.Author.Rules.{rules}
+use Rattle.std.specs.Prelude.{Err}
 use Prim.Native.Nat.{◌-◌}
 use native.Mathlib.Omega.{arith}
 use Rattle.signature.proofs.AnswerLaws.{read-start, read_more, read-refused, read_all, read_length}
@@ -15,7 +18,8 @@ shape_of-list-in_err-entry c = read_length _ _ _ _ _ c.loop-at.invariant
 pub returns-in_err-entry : goal.returns-in_err-entry
 returns-in_err-entry c =
     let l = c.loop-at in
-    read-refused _ _ _ _ _ l.invariant _ c.loop-at-test.true (rw c.in_err-entry.was at c.next_entry.ensures)
+    let q : c.from_residual.result ≡ Err c.in_err-entry.field-0.0 = search rules in
+    rw q (read-refused _ _ _ _ _ l.invariant _ c.loop-at-test.true (rw c.in_err-entry.was at c.next_entry.ensures))
 
 pub put_entry-requires : goal.put_entry-requires
 put_entry-requires c =
