@@ -275,14 +275,14 @@ module _ (row k : ℕ) where
     unfolding list_in fitted all_within plain_extent
     code-bytes z p {a} f = (sym laid, set_first list l ∙ sym (ap₂ (λ (x : Result (Option (ℕ × ℕ)) Refusal) (ns : List ℕ). list_after x ns list) laid lone-offsets))
       where
-        Some : 0 < get_or sizes k 0
-        Some = omega arith
+        some : 0 < get_or sizes k 0
+        some = omega arith
 
         positive : 0 < get_or sizes (part_kind k) 0
-        positive = (p k g Some).0.0
+        positive = (p k g some).0.0
 
         low : b < 256
-        low = let q = (p k g Some).1 in omega arith
+        low = let q = (p k g some).1 in omega arith
 
         takes : plain_extent sizes k ≡ record { bytes = b; alignment = a }
         takes = rw (lt-ltb k 24 g) (ap₂ (λ (x y : ℕ). record { bytes = x; alignment = y }) (sym e) (let q = positive in omega arith))

@@ -135,4 +135,4 @@ module _ (limit : ℕ) (x : Placed) (ns : List ℕ) where
 
   pub written_both : (list after : List ℕ) (n a : ℕ) → finished limit x ns ≡ Ok (Some (n, x.alignment)) → a ≡ x.alignment → after ≡ ns ++ drop (length ns) list
       → (Ok (Some (n, a)) ≡ finished limit x ns) × (after ≡ list_after (finished limit x ns) ns list)
-  written_both list after n a e d f = (ap (?Ok(Some) n) d ∙ sym e, f ∙ sym (ap (λ z. list_after z ns list) e))
+  written_both list after n a e d f = (ap (λ (x : ℕ). Ok (Some (n, x))) d ∙ sym e, f ∙ sym (ap (λ z. list_after z ns list) e))

@@ -68,11 +68,17 @@ fn code_layout(row: u64, kind: u64, offsets: &mut [u64]) -> Result<Option<(u64, 
 }
 
 // The layout in a row of the tree in a sheet: the number of each node is put into the list, and with it come the padded size and the alignment of the whole.
-pub fn layout(words: &[u64], names: &[u8], row: u64, offsets: &mut [u64]) -> Result<Option<(u64, u64)>, Refusal>
+pub fn layout(
+    words: &[u64],
+    names: &[u8],
+    row: u64,
+    offsets: &mut [u64],
+) -> Result<Option<(u64, u64)>, Refusal>
     ensures answers { result ≡ layout_answer row words.now names.now offsets.old }
     ensures fills { offsets.new ≡ layout_list row words.now names.now offsets.old }
 {
-    match check(words, names)? {
+    let found = check(words, names)?;
+    match found {
         Found::Code(_, kind) => code_layout(row, kind, offsets),
         Found::Nodes(first, n) => nodes_layout(row, &words[first..], n, offsets),
     }
@@ -83,9 +89,11 @@ pub fn extents(words: &[u64], names: &[u8], row: u64, list: &mut [u64]) -> bool
     ensures answers { result ≡ extents_answer row words.now names.now list.old }
     ensures fills { list.new ≡ extents_list row words.now names.now list.old }
 {
-    match check(words, names) {
-        Err(_) => false,
-        Ok(Found::Code(first, _)) => nodes_extents(row, &words[first..], 1, list),
-        Ok(Found::Nodes(first, n)) => nodes_extents(row, &words[first..], n, list),
+    let Ok(found) = check(words, names) else {
+        return false;
+    };
+    match found {
+        Found::Code(first, _) => nodes_extents(row, &words[first..], 1, list),
+        Found::Nodes(first, n) => nodes_extents(row, &words[first..], n, list),
     }
 }

@@ -347,7 +347,12 @@ fn copy_numbers(numbers: &[u64], offsets: &mut [u64])
 }
 
 // The answer for a whole tree: its numbers are written where the size and each of them is at most `limit`.
-pub(crate) fn finish(whole: Placed, numbers: &[u64], limit: u64, offsets: &mut [u64]) -> Result<Option<(u64, u64)>, Refusal>
+pub(crate) fn finish(
+    whole: Placed,
+    numbers: &[u64],
+    limit: u64,
+    offsets: &mut [u64],
+) -> Result<Option<(u64, u64)>, Refusal>
     requires { length numbers.now ≤ length offsets.old }
     ensures answers { result ≡ finished limit whole numbers.now }
     ensures fills { offsets.new ≡ list_after (finished limit whole numbers.now) numbers.now offsets.old }
@@ -374,7 +379,13 @@ pub(crate) fn finish(whole: Placed, numbers: &[u64], limit: u64, offsets: &mut [
 
 // The layout of the `n` nodes of a tree in which each laid-out node has a size. Nothing is written before it is known that there is a layout: the numbers
 // are gathered in another list.
-fn lay_out(sizes: &[u8; 24], nodes: &[u64], n: usize, limit: u64, offsets: &mut [u64]) -> Result<Option<(u64, u64)>, Refusal>
+fn lay_out(
+    sizes: &[u8; 24],
+    nodes: &[u64],
+    n: usize,
+    limit: u64,
+    offsets: &mut [u64],
+) -> Result<Option<(u64, u64)>, Refusal>
     requires { NodeAt nodes.now 0 × (count_at nodes.now 0 ≡ n) × (n ≤ 2001) × (n ≤ length offsets.old) }
     ensures answers { (m : Widths) → RowOf sizes.now m → (s : List ℕ) → result ≡ fitted_at m s nodes.now limit }
     ensures fills { (m : Widths) → RowOf sizes.now m → (s : List ℕ) → offsets.new ≡ list_at m s nodes.now limit offsets.old }

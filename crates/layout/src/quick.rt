@@ -372,7 +372,13 @@ fn lay_out_quick(
 }
 
 // The list for the numbers is no longer than the tree wants, since all of it is cleared.
-fn lay_out_32(sizes: &[u8; 24], nodes: &[u64], n: usize, limit: u64, offsets: &mut [u64]) -> Result<Option<(u64, u64)>, Refusal>
+fn lay_out_32(
+    sizes: &[u8; 24],
+    nodes: &[u64],
+    n: usize,
+    limit: u64,
+    offsets: &mut [u64],
+) -> Result<Option<(u64, u64)>, Refusal>
     requires { Powers sizes.now × NodeAt nodes.now 0 × (count_at nodes.now 0 ≡ n) × (n ≤ 32) × (n ≤ length offsets.old) }
     ensures answers { (m : Widths) → RowOf sizes.now m → (s : List ℕ) → result ≡ answer_at m s nodes.now limit }
     ensures fills { (m : Widths) → RowOf sizes.now m → (s : List ℕ) → offsets.new ≡ list_for m s nodes.now limit offsets.old }
@@ -469,7 +475,12 @@ fn lay_out_nodes(
 }
 
 // The layout in a row of the tree of the nodes.
-pub(crate) fn nodes_layout(row: u64, nodes: &[u64], n: usize, offsets: &mut [u64]) -> Result<Option<(u64, u64)>, Refusal>
+pub(crate) fn nodes_layout(
+    row: u64,
+    nodes: &[u64],
+    n: usize,
+    offsets: &mut [u64],
+) -> Result<Option<(u64, u64)>, Refusal>
     requires { NodeAt nodes.now 0 × (count_at nodes.now 0 ≡ n) × (n ≤ 2001) }
     ensures answers { (s : List ℕ) → result ≡ layout_in row (length offsets.old) (trees s nodes.now n 0) }
     ensures fills { (s : List ℕ) → offsets.new ≡ list_in row (trees s nodes.now n 0) offsets.old }
