@@ -31,7 +31,6 @@ use Rattle.std.specs.Prelude.{Result}
 use Rattle.sheet.specs.declared.FoundBoth.{FoundBoth}
 use Rattle.sheet.specs.declared.FoundBoth.TheVariants as FoundBoth
 use Rattle.sheet.specs.declared.Found.{Found}
-use Rattle.sheet.specs.declared.Found.TheVariants as Found
 use Rattle.sheet.proofs.GivenLaws.{both-gives, answer-refused-both, answer-held-both}
 use Rattle.static_str.specs.Answer.{placed}
 use Rattle.lines.specs.Answer.{Put}
@@ -41,11 +40,8 @@ use Rattle.reason.specs.Answer.{measured, fitted_reason, placed_reason, reason_l
 use Rattle.reason.specs.Spot.{Spot, spotted, node_spot, items_spot, NodeOf, below, Named, number_at, difference_length, NameWithin, NameShort, ValueAt, Finds, path_to, path_from, Inside, reason_at, Rooted, codes_difference}
 use Rattle.reason.specs.declared.find.Aspect.{Aspect}
 use Rattle.reason.specs.declared.find.Aspect.TheVariants as A
-use Rattle.reason.specs.declared.find.Found.{Found}
-use Rattle.reason.specs.declared.find.Found.TheVariants as F
+use Rattle.reason.specs.declared.find.FirstDifference.{FirstDifference}
 use Rattle.std.specs.Prelude.{Ok, Err}
-use Rattle.sheet.specs.declared.FoundBoth.{FoundBoth}
-use Rattle.sheet.specs.declared.FoundBoth.TheVariants as FoundBoth
 use Rattle.reason.proofs.ValueLaws.{short-name, reason-length}
 
 -- ---- The answers, by the first difference; `n` is the length that the code has counted.
@@ -66,7 +62,7 @@ module _ {d : Option Reason} (e : d ≡ None) where
 module _ {d : Option Reason} (r : Reason) (e : d ≡ Some r) {n : ℕ} (l : n ≡ length (reason_text r)) where
   pub bytes-measured : Ok (Some n) ≡ measured d
   unfolding measured
-  bytes-measured = ap Ok (Some l) ∙ sym (ap measured e)
+  bytes-measured = ap (λ (x : ℕ). Ok (Some x)) l ∙ sym (ap measured e)
 
   module _ (out : List ℕ) where
     pub short-fitted : length out < n → Err R.OutputTooShort ≡ fitted_reason (length out) d
@@ -79,7 +75,7 @@ module _ {d : Option Reason} (r : Reason) (e : d ≡ Some r) {n : ℕ} (l : n �
 
     pub bytes-fitted : n ≤ length out → Ok (Some n) ≡ fitted_reason (length out) d
     unfolding fitted_reason
-    bytes-fitted h = ap Ok (Some l) ∙ sym (ap (fitted_reason (length out)) e ∙ rw (le-leb (length (reason_text r)) (length out) (omega arith)))
+    bytes-fitted h = ap (λ (x : ℕ). Ok (Some x)) l ∙ sym (ap (fitted_reason (length out)) e ∙ rw (le-leb (length (reason_text r)) (length out) (omega arith)))
 
     pub bytes-placed : {after : List ℕ} {next : ℕ} → n ≤ length out → Put out 0 (reason_text r) after next → after ≡ placed_reason out d
     unfolding placed_reason placed
@@ -90,7 +86,7 @@ module _ {d : Option Reason} (r : Reason) (e : d ≡ Some r) {n : ℕ} (l : n �
         ∙ sym (ap (placed_reason out) e ∙ rw (le-leb (length (reason_text r)) (length out) (omega arith)))
 
     pub put-fitted : {after : List ℕ} {next : ℕ} → n ≤ length out → Put out 0 (reason_text r) after next → Ok (Some next) ≡ fitted_reason (length out) d
-    put-fitted {after} {next} h p = let q = p.place in let e : next ≡ n = omega arith in ap Ok (Some e) ∙ bytes-fitted h
+    put-fitted {after} {next} h p = let q = p.place in let e : next ≡ n = omega arith in ap (λ (x : ℕ). Ok (Some x)) e ∙ bytes-fitted h
 
 -- ---- Two codes.
 
@@ -342,16 +338,16 @@ pub record Differs (all : Bool) (an a : List ℕ) (n : ℕ) (bn b : List ℕ) (m
   pub lent : NameWithin aspect (length an) a x × NameWithin aspect (length bn) b y
   pub numbers : (k ≡ number_at aspect a x) × (j ≡ number_at aspect b y)
 
-module _ (all : Bool) (v : NestingLevel) (top : v ≡ Top) (an a : List ℕ) (n : ℕ) (bn b : List ℕ) (m : ℕ) (g : Rooted an a n) (h : Rooted bn b m) {r : Found}
+module _ (all : Bool) (v : NestingLevel) (top : v ≡ Top) (an a : List ℕ) (n : ℕ) (bn b : List ℕ) (m : ℕ) (g : Rooted an a n) (h : Rooted bn b m) {r : Option FirstDifference}
     (f : Finds an a 0 n bn b 0 m (items_spot all v 0 (trees an a n 0) (trees bn b m 0)) r) where
-  pub found-same : r ≡ F.Same → first_difference all Top (trees an a n 0) (trees bn b m 0) ≡ None
+  pub found-same : r ≡ None → first_difference all Top (trees an a n 0) (trees bn b m 0) ≡ None
   unfolding with_path
   found-same e = top-spot all v an a n bn b m g h top ∙ ap (with_path (path_from a 0)) (subst (Finds an a 0 n bn b 0 m (items_spot all v 0 (trees an a n 0) (trees bn b m 0))) e f)
 
-  pub found_at : {x y k j : ℕ} {aspect : Aspect} → r ≡ F.At x y aspect k j → Differs all an a n bn b m x y aspect k j
+  pub found_at : {d : FirstDifference} → r ≡ Some d → Differs all an a n bn b m d.«at» d.«bt» d.«aspect» d.«k» d.«j»
   unfolding with_path reason_at
-  found_at {x} {y} {k} {j} {aspect} e =
-      let at : Finds an a 0 n bn b 0 m (items_spot all v 0 (trees an a n 0) (trees bn b m 0)) (F.At x y aspect k j) =
+  found_at {d} e =
+      let at : Finds an a 0 n bn b 0 m (items_spot all v 0 (trees an a n 0) (trees bn b m 0)) (Some d) =
       subst (Finds an a 0 n bn b 0 m (items_spot all v 0 (trees an a n 0) (trees bn b m 0))) e f in
       record {
         reason = top-spot all v an a n bn b m g h top ∙ ap (with_path (path_from a 0)) at.0;
@@ -379,7 +375,7 @@ pub checks-give : (aw an bw bn : List ℕ) {x y : Result Found Refusal} {r : Res
 checks-give aw an bw bn e p q = (both-gives aw an bw bn e (p ∙ ap₂ checked (whole aw) (whole an)) (q ∙ ap₂ checked (whole bw) (whole bn))).1.0
 
 pub rooted : {words names w : List ℕ} {n : ℕ} → NodesAre words names w n → Rooted names w n
-rooted h = record { Some = h.some; few = h.few; count = h.count; root = h.root; whole = h.whole; lent-names = h.lent-names; short-names = h.short-names }
+rooted h = record { some = h.some; few = h.few; count = h.count; root = h.root; whole = h.whole; lent-names = h.lent-names; short-names = h.short-names }
 
 module _ (all : Bool) (aw an bw bn : List ℕ) where
   pub len-refused : {r : Refusal} → held_both aw an bw bn ≡ refused_both r → Err r ≡ reason_len all aw an bw bn

@@ -1,9 +1,10 @@
 -- What the walk for the first difference keeps from one node to the next.
+use Rattle.reason.specs.declared.find.FirstDifference.{FirstDifference}
 use Prim.Native.Nat.{ℕ, ◌+◌, ◌-◌, ◌*◌, ◌≤◌, ◌<◌}
 use native.Mathlib.Omega.{arith}
 use mathlib.Core.Path.{◌≡◌, refl, ap, sym, ◌∙◌, subst}
 use mathlib.Core.List.{List}
-use Rattle.std.specs.Prelude.{Option, None}
+use Rattle.std.specs.Prelude.{Option, Some, None}
 use mathlib.Core.Bool.{Bool, true, false}
 use lib.ListN.{length}
 use Rattle.kinds.specs.Compare.{level_for}
@@ -18,11 +19,10 @@ use Rattle.kinds.proofs.NodeLaws.{node-inner, first_some, first-within, first-no
 use Rattle.helper.specs.Measure.{level_after}
 use Rattle.helper.proofs.CompareLaws.{Bounds, plain-partner, level-container, after-trees}
 use Rattle.reason.specs.Reason.{or_else, own_difference}
-use Rattle.reason.specs.Spot.{Spot, spotted, items_spot, NodeOf, below, number_at, difference_at, ValueAt, Finds, CountsAre}
+use Rattle.reason.specs.Spot.{difference_found, Spot, spotted, items_spot, NodeOf, below, number_at, difference_at, ValueAt, Finds, CountsAre}
 use Rattle.reason.specs.declared.find.Aspect.{Aspect}
 use Rattle.reason.specs.declared.find.Aspect.TheVariants as A
 use Rattle.reason.specs.declared.find.Counts.TheVariants as C
-use Rattle.reason.specs.declared.find.Found.TheVariants as F
 use Rattle.reason.proofs.SpotLaws.{resume, resume-level, resume-end, resume-short, resume-own, resume-over, resume-count, resume-items, resume-plain, spotted-kinds}
 use Rattle.reason.proofs.ReasonLaws.{else-none}
 
@@ -119,8 +119,8 @@ module _ {all : Bool} {v : NestingLevel} {an a bn b : List ℕ} {at n bt m : ℕ
     widened : {aspect : Aspect} {w : List ℕ} {i k x : ℕ} → 0 < k → ValueAt aspect w i 1 x → ValueAt aspect w i k x
     widened h o = record { node = one_of h o.node; whole = o.whole; named = o.named }
 
-    pub left-own : {x y k j : ℕ} {aspect : Aspect} → Finds an a at 1 bn b bt 1 (spotted at (own_difference (label_at an a at) (label_at bn b bt))) (F.At x y aspect k j)
-        → Finds an a at₀ n₀ bn b bt₀ m₀ s (F.At x y aspect k j)
+    pub left-own : {d : FirstDifference} → Finds an a at 1 bn b bt 1 (spotted at (own_difference (label_at an a at) (label_at bn b bt))) (Some d)
+        → Finds an a at₀ n₀ bn b bt₀ m₀ s (Some d)
     left-own f = (
       sym l.rest ∙ resume-own all here v an a bn b n m at bt l.first l.second p q f.0,
       (part-value l.first_part (widened p f.1.0), part-value l.second-part (widened q f.1.1)),
@@ -172,7 +172,7 @@ module _ {all : Bool} {v : NestingLevel} {an a bn b : List ℕ} {at n bt m : ℕ
             → Left all v an a bn b (at + 4 * i) (n - i) (bt + 4 * j) (m - j) x at₀ n₀ bt₀ m₀ s
         left_over f = later (resume-over all here v an a bn b n m at bt l.first l.second p q e (rw lu at f))
 
-        pub left-count : {k j : ℕ} → CountsAre an a at bn b bt u (C.Unequal k j) → Finds an a at₀ n₀ bn b bt₀ m₀ s (F.At at bt A.Count k j)
+        pub left-count : {k j : ℕ} → CountsAre an a at bn b bt u (C.Unequal k j) → Finds an a at₀ n₀ bn b bt₀ m₀ s (Some (difference_found at bt A.Count k j))
         unfolding difference_at number_at
         left-count f = (
           sym l.rest ∙ resume-count all here v an a bn b n m at bt l.first l.second p q e (rw lu at f.0) f.1,
@@ -210,9 +210,9 @@ module _ {all : Bool} {v : NestingLevel} {an a bn b : List ℕ} {at n bt m : ℕ
                 (walk-inner a (length an) at n l.first_walk (count_at a at - 1) (omega arith), walk-inner b (length bn) bt m l.second_walk (count_at b bt - 1) (omega arith)),
               )
 
-          pub left-fields : {x y k j : ℕ} {aspect : Aspect}
-              → Finds an a (at + 4) (count_at a at - 1) bn b (bt + 4) (count_at b bt - 1) (items_spot all Within (at + 4) (below an a at) (below bn b bt)) (F.At x y aspect k j)
-              → Finds an a at₀ n₀ bn b bt₀ m₀ s (F.At x y aspect k j)
+          pub left-fields : {d : FirstDifference}
+              → Finds an a (at + 4) (count_at a at - 1) bn b (bt + 4) (count_at b bt - 1) (items_spot all Within (at + 4) (below an a at) (below bn b bt)) (Some d)
+              → Finds an a at₀ n₀ bn b bt₀ m₀ s (Some d)
           unfolding or_else
           left-fields g = (
             sym l.rest ∙ items-then

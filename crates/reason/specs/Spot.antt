@@ -16,8 +16,7 @@ use Rattle.reason.specs.declared.find.Aspect.{Aspect}
 use Rattle.reason.specs.declared.find.Aspect.TheVariants as A
 use Rattle.reason.specs.declared.find.Counts.{Counts}
 use Rattle.reason.specs.declared.find.Counts.TheVariants as C
-use Rattle.reason.specs.declared.find.Found.{Found}
-use Rattle.reason.specs.declared.find.Found.TheVariants as F
+use Rattle.reason.specs.declared.find.FirstDifference.{FirstDifference}
 
 -- ---- Places.
 
@@ -144,12 +143,16 @@ pub record ValueAt (aspect : Aspect) (w : List ℕ) (at n x : ℕ) : Type 0 wher
   pub whole : NodeAt w x
   pub named : Named aspect w x
 
+-- What differs first: the words at which the two nodes begin, the aspect, and the number of each.
+abbrev pub difference_found : ℕ → ℕ → Aspect → ℕ → ℕ → FirstDifference
+difference_found x y aspect k j = record { «at» = x; «bt» = y; «aspect» = aspect; «k» = k; «j» = j }
+
 -- What a walk over the `n` nodes from `at` on and the `m` nodes from `bt` on hands out for the spot that there is to find.
-abbrev pub Finds : List ℕ → List ℕ → ℕ → ℕ → List ℕ → List ℕ → ℕ → ℕ → Option Spot → Found → Type 0
-Finds an a at n bn b bt m s F.Same = s ≡ None
-Finds an a at n bn b bt m s (F.At x y aspect k j) =
-    (s ≡ Some (record { place = x; differs = difference_at aspect an a x bn b y })) × (ValueAt aspect a at n x × ValueAt aspect b bt m y)
-    × ((k ≡ number_at aspect a x) × (j ≡ number_at aspect b y))
+abbrev pub Finds : List ℕ → List ℕ → ℕ → ℕ → List ℕ → List ℕ → ℕ → ℕ → Option Spot → Option FirstDifference → Type 0
+Finds an a at n bn b bt m s None = s ≡ None
+Finds an a at n bn b bt m s (Some d) =
+    (s ≡ Some (record { place = d.«at»; differs = difference_at d.«aspect» an a d.«at» bn b d.«bt» })) × (ValueAt d.«aspect» a at n d.«at» × ValueAt d.«aspect» b bt m d.«bt»)
+    × ((d.«k» ≡ number_at d.«aspect» a d.«at») × (d.«j» ≡ number_at d.«aspect» b d.«bt»))
 
 -- What `compare_counts` finds of the containers at `at` and `bt`.
 abbrev pub CountsAre : List ℕ → List ℕ → ℕ → List ℕ → List ℕ → ℕ → NestingLevel → Counts → Type 0
@@ -203,7 +206,7 @@ reason_at aspect an a at bn b bt = record { path = path_from a 0 at; differs = d
 
 -- What the walk from the root relies on: a tree of `n` nodes, whose names lie within the name bytes lent and within a sheet's.
 pub record Rooted (names w : List ℕ) (n : ℕ) : Type 0 where
-  pub Some : 1 ≤ n
+  pub some : 1 ≤ n
   pub few : n ≤ max_nodes
   pub count : count_at w 0 ≡ n
   pub root : NodeAt w 0

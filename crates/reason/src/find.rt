@@ -23,12 +23,15 @@ pub(crate) enum Aspect {
     Count,
 }
 
-// What the walk finds: nothing, or the words at which the nodes that differ begin in the first tree and in the second, what of them differs, and the
-// number of each side; a name has its length.
+// The first difference: the words at which the nodes that differ begin in the first tree and in the second, what of them differs, and the number of
+// each side; a name has its length.
 #[derive(Clone, Copy)]
-pub(crate) enum Found {
-    Same,
-    At(usize, usize, Aspect, u64, u64),
+pub(crate) struct FirstDifference {
+    pub(crate) at: usize,
+    pub(crate) bt: usize,
+    pub(crate) aspect: Aspect,
+    pub(crate) k: u64,
+    pub(crate) j: u64,
 }
 
 // How the counts of two containers' fields compare, where the fields are compared at all.
@@ -52,7 +55,7 @@ fn same_name(a: &[u64], an: &[u8], at: usize, b: &[u64], bn: &[u8], bt: usize) -
 }
 
 // What of the numbers of two nodes of one kind, which is neither a primitive's nor a container's, differs first.
-fn number_difference(a: &[u64], at: usize, b: &[u64], bt: usize) -> Found
+fn number_difference(a: &[u64], at: usize, b: &[u64], bt: usize) -> Option<FirstDifference>
     requires node_at { NodeAt a.now at × NodeAt b.now bt × (kind_at b.now bt ≡ kind_at a.now at) }
     requires bound { (24 ≤ kind_at a.now at) × (kind_at a.now at ≤ 31) × (is_container_kind (kind_at a.now at) ≡ false) }
     ensures { (an bn : List ℕ) → Finds an a.now at 1 bn b.now bt 1 (spotted at (own_difference (label_at an a.now at) (label_at bn b.now bt))) result }
@@ -64,27 +67,52 @@ fn number_difference(a: &[u64], at: usize, b: &[u64], bt: usize) -> Found
         let n = a[at + 2];
         let m = b[bt + 2];
         if n != m {
-            return Found::At(at, bt, Aspect::Size, n, m);
+            return Some(FirstDifference {
+                at,
+                bt,
+                aspect: Aspect::Size,
+                k: n,
+                j: m,
+            });
         }
         if kind == BIT_FIELD {
-            return Found::Same;
+            return None;
         }
         if k != j {
-            return Found::At(at, bt, Aspect::Offset, k, j);
+            return Some(FirstDifference {
+                at,
+                bt,
+                aspect: Aspect::Offset,
+                k,
+                j,
+            });
         }
-        return Found::Same;
+        return None;
     }
     if kind != ARRAY {
-        return Found::Same;
+        return None;
     }
     if k != j {
-        return Found::At(at, bt, Aspect::Length, k, j);
+        return Some(FirstDifference {
+            at,
+            bt,
+            aspect: Aspect::Length,
+            k,
+            j,
+        });
     }
-    Found::Same
+    None
 }
 
 // What of two nodes, their children aside, differs first.
-fn own_difference(a: &[u64], an: &[u8], at: usize, b: &[u64], bn: &[u8], bt: usize) -> Found
+fn own_difference(
+    a: &[u64],
+    an: &[u8],
+    at: usize,
+    b: &[u64],
+    bn: &[u8],
+    bt: usize,
+) -> Option<FirstDifference>
     requires node_at { NodeAt a.now at × NodeAt b.now bt }
     requires kind_and_name { KindAndName a.now (length an.now) at × KindAndName b.now (length bn.now) bt }
     ensures { Finds an.now a.now at 1 bn.now b.now bt 1 (spotted at (own_difference (label_at an.now a.now at) (label_at bn.now b.now bt))) result }
@@ -92,18 +120,30 @@ fn own_difference(a: &[u64], an: &[u8], at: usize, b: &[u64], bn: &[u8], bt: usi
     let kind = a[at];
     let other = b[bt];
     if !equivalent_kinds(kind, other) {
-        return Found::At(at, bt, Aspect::Kind, kind, other);
+        return Some(FirstDifference {
+            at,
+            bt,
+            aspect: Aspect::Kind,
+            k: kind,
+            j: other,
+        });
     }
     if kind < PRIMITIVES {
-        return Found::Same;
+        return None;
     }
     if !is_container(kind) {
         return number_difference(a, at, b, bt);
     }
     if same_name(a, an, at, b, bn, bt) {
-        return Found::Same;
+        return None;
     }
-    Found::At(at, bt, Aspect::Name, a[at + 2], b[bt + 2])
+    Some(FirstDifference {
+        at,
+        bt,
+        aspect: Aspect::Name,
+        k: a[at + 2],
+        j: b[bt + 2],
+    })
 }
 
 // How many nodes the subtree at `at` has. Most nodes are codes, and asking for the kind first does not wait for the count.
@@ -167,7 +207,7 @@ fn items_difference(
     bt: usize,
     d: usize,
     all: bool,
-) -> Found
+) -> Option<FirstDifference>
     requires c_nonzero { (0 < c) × (0 < d) × TreesAt a.now (at + 4) (c - 1) × TreesAt b.now (bt + 4) (d - 1) }
     requires kinds_and_names { KindsAndNames a.now (length an.now) (at + 4) (c - 1) × KindsAndNames b.now (length bn.now) (bt + 4) (d - 1) }
     ensures { Finds an.now a.now (at + 4) (c - 1) bn.now b.now (bt + 4) (d - 1)
@@ -202,7 +242,7 @@ pub(crate) fn first_difference(
     mut more: usize,
     mut level: NestingLevel,
     all: bool,
-) -> Found
+) -> Option<FirstDifference>
     requires trees_at { TreesAt a.now at left × TreesAt b.now bt more }
     requires kinds_and_names { KindsAndNames a.now (length an.now) at left × KindsAndNames b.now (length bn.now) bt more }
     ensures { Finds an.now a.now at left bn.now b.now bt more
@@ -211,10 +251,10 @@ pub(crate) fn first_difference(
     let mut here = level;
     while 0 < left {
         if more == 0 {
-            return Found::Same;
+            return None;
         }
-        if let Found::At(x, y, aspect, k, j) = own_difference(a, an, at, b, bn, bt) {
-            return Found::At(x, y, aspect, k, j);
+        if let Some(d) = own_difference(a, an, at, b, bn, bt) {
+            return Some(d);
         }
         let mut c = 1;
         let mut d = 1;
@@ -223,7 +263,13 @@ pub(crate) fn first_difference(
             d = b[bt + 3] as usize;
             match compare_counts(a, at, b, bt, level_for(all, here)) {
                 Counts::NotCompared => {}
-                Counts::Unequal(k, j) => return Found::At(at, bt, Aspect::Count, k, j),
+                Counts::Unequal(k, j) => return Some(FirstDifference {
+                    at,
+                    bt,
+                    aspect: Aspect::Count,
+                    k,
+                    j,
+                }),
                 Counts::Equal => {
                     if left == c {
                         at += 4;
@@ -235,8 +281,8 @@ pub(crate) fn first_difference(
                         continue;
                     }
                     let below = items_difference(a, an, at, c, b, bn, bt, d, all);
-                    if let Found::At(x, y, aspect, k, l) = below {
-                        return Found::At(x, y, aspect, k, l);
+                    if let Some(d) = below {
+                        return Some(d);
                     }
                 }
             }
@@ -247,5 +293,5 @@ pub(crate) fn first_difference(
         bt += 4 * d;
         more -= d;
     }
-    Found::Same
+    None
 }

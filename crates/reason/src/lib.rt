@@ -10,20 +10,28 @@ ghost use Rattle.reason.specs.Reason.{first_difference};
 ghost use Rattle.reason.specs.Answer.{measured, fitted_reason, placed_reason, reason_len, reason_answer, reason_output};
 ghost use Rattle.reason.specs.Spot.{Rooted, codes_difference};
 
-use find::{Found, first_difference};
+use find::first_difference;
 use kinds::{NestingLevel, Refusal, equivalent_kinds};
 use lines::put_bytes;
 use sheet::{FoundBoth, both_of, check, code_alone};
 use words::{difference_len, number_len, path_len, put_number_value, put_reason, reason_fits};
 
 // The length of the reason of two trees of `n` and `m` nodes.
-fn nodes_len(a: &[u64], an: &[u8], n: usize, b: &[u64], bn: &[u8], m: usize, all: bool) -> Result<Option<usize>, Refusal>
+fn nodes_len(
+    a: &[u64],
+    an: &[u8],
+    n: usize,
+    b: &[u64],
+    bn: &[u8],
+    m: usize,
+    all: bool,
+) -> Result<Option<usize>, Refusal>
     requires { Rooted an.now a.now n × Rooted bn.now b.now m }
     ensures { result ≡ measured (first_difference all NestingLevel.Top (trees an.now a.now n 0) (trees bn.now b.now m 0)) }
 {
     match first_difference(a, an, 0, n, b, bn, 0, m, NestingLevel::new(), all) {
-        Found::Same => Ok(None),
-        Found::At(x, _, aspect, k, j) => Ok(Some(path_len(a, x) + difference_len(aspect, k, j))),
+        None => Ok(None),
+        Some(d) => Ok(Some(path_len(a, d.at) + difference_len(d.aspect, d.k, d.j))),
     }
 }
 
@@ -43,12 +51,12 @@ fn write_nodes(
     ensures writes { out.new ≡ placed_reason out.old (first_difference all NestingLevel.Top (trees an.now a.now n 0) (trees bn.now b.now m 0)) }
 {
     match first_difference(a, an, 0, n, b, bn, 0, m, NestingLevel::new(), all) {
-        Found::Same => Ok(None),
-        Found::At(x, y, aspect, k, j) => {
-            if !reason_fits(a, x, aspect, k, j, out.len()) {
+        None => Ok(None),
+        Some(d) => {
+            if !reason_fits(a, d.at, d.aspect, d.k, d.j, out.len()) {
                 return Err(Refusal::OutputTooShort);
             }
-            Ok(Some(put_reason(out, a, an, x, b, bn, y, aspect, k, j)))
+            Ok(Some(put_reason(out, a, an, d.at, b, bn, d.bt, d.aspect, d.k, d.j)))
         }
     }
 }
@@ -81,10 +89,17 @@ fn write_codes(k: u64, j: u64, out: &mut [u8]) -> Result<Option<usize>, Refusal>
     Ok(Some(len))
 }
 
-fn sheets_len(aw: &[u64], an: &[u8], bw: &[u64], bn: &[u8], all: bool) -> Result<Option<usize>, Refusal>
+fn sheets_len(
+    aw: &[u64],
+    an: &[u8],
+    bw: &[u64],
+    bn: &[u8],
+    all: bool,
+) -> Result<Option<usize>, Refusal>
     ensures { result ≡ reason_len all aw.now an.now bw.now bn.now }
 {
-    match both_of(check(&aw[0..], &an[0..]), check(&bw[0..], &bn[0..]))? {
+    let found = both_of(check(&aw[0..], &an[0..]), check(&bw[0..], &bn[0..]))?;
+    match found {
         FoundBoth::Codes(k, j) => codes_len(k, j),
         FoundBoth::Nodes(f, n, g, m) => nodes_len(
             &aw[f..],
@@ -99,7 +114,13 @@ fn sheets_len(aw: &[u64], an: &[u8], bw: &[u64], bn: &[u8], all: bool) -> Result
 }
 
 // The length of the reason why the trees in two sheets do not match, by levels or with `all` fields. Two codes are told before the check.
-pub fn reason_len(aw: &[u64], an: &[u8], bw: &[u64], bn: &[u8], all: bool) -> Result<Option<usize>, Refusal>
+pub fn reason_len(
+    aw: &[u64],
+    an: &[u8],
+    bw: &[u64],
+    bn: &[u8],
+    all: bool,
+) -> Result<Option<usize>, Refusal>
     ensures { result ≡ reason_len all aw.now an.now bw.now bn.now }
 {
     if let Some(k) = code_alone(aw) {
@@ -111,11 +132,19 @@ pub fn reason_len(aw: &[u64], an: &[u8], bw: &[u64], bn: &[u8], all: bool) -> Re
 }
 
 // Writes the reason why the trees in two sheets do not match, by levels or with `all` fields, at the front of the output.
-pub fn reason(aw: &[u64], an: &[u8], bw: &[u64], bn: &[u8], all: bool, out: &mut [u8]) -> Result<Option<usize>, Refusal>
+pub fn reason(
+    aw: &[u64],
+    an: &[u8],
+    bw: &[u64],
+    bn: &[u8],
+    all: bool,
+    out: &mut [u8],
+) -> Result<Option<usize>, Refusal>
     ensures answers { result ≡ reason_answer all aw.now an.now bw.now bn.now (length out.old) }
     ensures writes { out.new ≡ reason_output all aw.now an.now bw.now bn.now out.old }
 {
-    match both_of(check(&aw[0..], &an[0..]), check(&bw[0..], &bn[0..]))? {
+    let found = both_of(check(&aw[0..], &an[0..]), check(&bw[0..], &bn[0..]))?;
+    match found {
         FoundBoth::Codes(k, j) => write_codes(k, j, out),
         FoundBoth::Nodes(f, n, g, m) => write_nodes(
             &aw[f..],

@@ -1,3 +1,4 @@
+use borrow.Author.Rules.{rules}
 use native.Mathlib.Omega.{arith}
 use Rattle.kinds.proofs.ListLaws.{whole}
 use Rattle.sheet.proofs.GivenLaws.{given-refused-both, given-codes, given-nodes-both, nodes-part}
@@ -8,7 +9,7 @@ pub offset_bounds-aw-f : goal.offset_bounds-aw-f
 offset_bounds-aw-f c =
     let a = c.args in
     let g = given-nodes-both a.aw.now a.an.now a.bw.now a.bn.now
-    (checks-give a.aw.now a.an.now a.bw.now a.bn.now c.both_of.ensures c.check.ensures.answers c.check-2.ensures.answers) c.in-Nodes.is in
+    (checks-give a.aw.now a.an.now a.bw.now a.bn.now c.both_of.ensures c.check.ensures.answers c.check-2.ensures.answers) c.in_ok-found.was c.in-Nodes.is in
     let s = g.0.starts in
     omega arith
 
@@ -16,7 +17,7 @@ pub slice_bounds-nodes_len-count : goal.slice_bounds-nodes_len-count
 slice_bounds-nodes_len-count c =
     let a = c.args in
     let g = given-nodes-both a.aw.now a.an.now a.bw.now a.bn.now
-    (checks-give a.aw.now a.an.now a.bw.now a.bn.now c.both_of.ensures c.check.ensures.answers c.check-2.ensures.answers) c.in-Nodes.is in
+    (checks-give a.aw.now a.an.now a.bw.now a.bn.now c.both_of.ensures c.check.ensures.answers c.check-2.ensures.answers) c.in_ok-found.was c.in-Nodes.is in
     let s = g.0.starts in
     omega arith
 
@@ -24,7 +25,7 @@ pub slice_bounds-nodes_len-start : goal.slice_bounds-nodes_len-start
 slice_bounds-nodes_len-start c =
     let a = c.args in
     let g = given-nodes-both a.aw.now a.an.now a.bw.now a.bn.now
-    (checks-give a.aw.now a.an.now a.bw.now a.bn.now c.both_of.ensures c.check.ensures.answers c.check-2.ensures.answers) c.in-Nodes.is in
+    (checks-give a.aw.now a.an.now a.bw.now a.bn.now c.both_of.ensures c.check.ensures.answers c.check-2.ensures.answers) c.in_ok-found.was c.in-Nodes.is in
     let s = g.0.starts in
     omega arith
 
@@ -32,7 +33,7 @@ pub offset_bounds-bw-g : goal.offset_bounds-bw-g
 offset_bounds-bw-g c =
     let a = c.args in
     let g = given-nodes-both a.aw.now a.an.now a.bw.now a.bn.now
-    (checks-give a.aw.now a.an.now a.bw.now a.bn.now c.both_of.ensures c.check.ensures.answers c.check-2.ensures.answers) c.in-Nodes.is in
+    (checks-give a.aw.now a.an.now a.bw.now a.bn.now c.both_of.ensures c.check.ensures.answers c.check-2.ensures.answers) c.in_ok-found.was c.in-Nodes.is in
     let s = g.1.starts in
     omega arith
 
@@ -40,7 +41,7 @@ pub slice_bounds-nodes_len-count-in-Nodes-2 : goal.slice_bounds-nodes_len-count-
 slice_bounds-nodes_len-count-in-Nodes-2 c =
     let a = c.args in
     let g = given-nodes-both a.aw.now a.an.now a.bw.now a.bn.now
-    (checks-give a.aw.now a.an.now a.bw.now a.bn.now c.both_of.ensures c.check.ensures.answers c.check-2.ensures.answers) c.in-Nodes.is in
+    (checks-give a.aw.now a.an.now a.bw.now a.bn.now c.both_of.ensures c.check.ensures.answers c.check-2.ensures.answers) c.in_ok-found.was c.in-Nodes.is in
     let s = g.1.starts in
     omega arith
 
@@ -48,7 +49,7 @@ pub slice_bounds-nodes_len-start-in-Nodes-2 : goal.slice_bounds-nodes_len-start-
 slice_bounds-nodes_len-start-in-Nodes-2 c =
     let a = c.args in
     let g = given-nodes-both a.aw.now a.an.now a.bw.now a.bn.now
-    (checks-give a.aw.now a.an.now a.bw.now a.bn.now c.both_of.ensures c.check.ensures.answers c.check-2.ensures.answers) c.in-Nodes.is in
+    (checks-give a.aw.now a.an.now a.bw.now a.bn.now c.both_of.ensures c.check.ensures.answers c.check-2.ensures.answers) c.in_ok-found.was c.in-Nodes.is in
     let s = g.1.starts in
     omega arith
 
@@ -56,25 +57,26 @@ pub nodes_len-requires : goal.nodes_len-requires
 nodes_len-requires c =
     let a = c.args in
     let g = given-nodes-both a.aw.now a.an.now a.bw.now a.bn.now
-    (checks-give a.aw.now a.an.now a.bw.now a.bn.now c.both_of.ensures c.check.ensures.answers c.check-2.ensures.answers) c.in-Nodes.is in
+    (checks-give a.aw.now a.an.now a.bw.now a.bn.now c.both_of.ensures c.check.ensures.answers c.check-2.ensures.answers) c.in_ok-found.was c.in-Nodes.is in
     rw (whole, whole) (rooted (nodes-part g.0), rooted (nodes-part g.1))
 
-pub returns-in-Refused : goal.returns-in-Refused
-returns-in-Refused c =
+pub returns-in_err-found : goal.returns-in_err-found
+returns-in_err-found c =
     let a = c.args in
-    len-refused a.all _ _ _ _ (given-refused-both a.aw.now a.an.now a.bw.now a.bn.now
-    (checks-give a.aw.now a.an.now a.bw.now a.bn.now c.both_of.ensures c.check.ensures.answers c.check-2.ensures.answers) c.in-Refused.is)
+    let k = len-refused a.all a.aw.now a.an.now a.bw.now a.bn.now (given-refused-both a.aw.now a.an.now a.bw.now a.bn.now
+    (checks-give a.aw.now a.an.now a.bw.now a.bn.now c.both_of.ensures c.check.ensures.answers c.check-2.ensures.answers) c.in_err-found.was) in
+    search rules
 
 pub returns-in-Codes : goal.returns-in-Codes
 returns-in-Codes c =
     let a = c.args in
     let g = given-codes a.aw.now a.an.now a.bw.now a.bn.now
-    (checks-give a.aw.now a.an.now a.bw.now a.bn.now c.both_of.ensures c.check.ensures.answers c.check-2.ensures.answers) c.in-Codes.is in
+    (checks-give a.aw.now a.an.now a.bw.now a.bn.now c.both_of.ensures c.check.ensures.answers c.check-2.ensures.answers) c.in_ok-found.was c.in-Codes.is in
     len-codes a.all _ _ _ _ g (c.codes_len.ensures a.all)
 
 pub returns-in-Nodes : goal.returns-in-Nodes
 returns-in-Nodes c =
     let a = c.args in
     let g = given-nodes-both a.aw.now a.an.now a.bw.now a.bn.now
-    (checks-give a.aw.now a.an.now a.bw.now a.bn.now c.both_of.ensures c.check.ensures.answers c.check-2.ensures.answers) c.in-Nodes.is in
+    (checks-give a.aw.now a.an.now a.bw.now a.bn.now c.both_of.ensures c.check.ensures.answers c.check-2.ensures.answers) c.in_ok-found.was c.in-Nodes.is in
     len-nodes a.all _ _ _ _ (nodes-part g.0) (nodes-part g.1) (rw (whole, whole) at c.nodes_len.ensures)

@@ -29,9 +29,9 @@ first_difference-returns-then-more-eq0 t c = left-short c.loop-left.invariant.1 
 pub first_difference-own_difference-requires : goal.first_difference-own_difference-requires
 first_difference-own_difference-requires t c = let p = left_here c.loop-left.invariant.1 c.loop-left-test.true (some_left _ c.if-more-eq0.false) in record { node_at = p.0; kind_and_name = p.1 }
 
-pub first_difference-returns-in-At : goal.first_difference-returns-in-At
-first_difference-returns-in-At t c =
-    left-own c.loop-left.invariant.1 c.loop-left-test.true (some_left _ c.if-more-eq0.false) (rw c.in-At.is at c.own_difference.ensures)
+pub first_difference-returns-in-Some : goal.first_difference-returns-in-Some
+first_difference-returns-in-Some t c =
+    left-own c.loop-left.invariant.1 c.loop-left-test.true (some_left _ c.if-more-eq0.false) (rw c.in-Some.is at c.own_difference.ensures)
 
 pub first_difference-offset_bounds-a-at : goal.first_difference-offset_bounds-a-at
 first_difference-offset_bounds-a-at t c =
@@ -137,12 +137,12 @@ first_difference-items_difference-below-requires t c = let b = left-bounds c.loo
     (rw c.in_default.is at c.own_difference.ensures) (sym c.is_container.ensures ∙ c.if-is_container.true) c.level_for.ensures
     (rw c.in-Equal.is at (c.compare_counts.ensures c.args.an.now c.args.bn.now)) in (omega arith, ((omega arith, omega arith, i.0.0, i.0.1), i.1))
 
-pub first_difference-returns-in-At-below : goal.first_difference-returns-in-At-below
-first_difference-returns-in-At-below t c =
+pub first_difference-returns-in-Some-below : goal.first_difference-returns-in-Some-below
+first_difference-returns-in-Some-below t c =
     left-fields c.loop-left.invariant.1 c.loop-left-test.true (some_left _ c.if-more-eq0.false) (rw c.in_default.is at c.own_difference.ensures)
     (sym c.is_container.ensures ∙ c.if-is_container.true) c.level_for.ensures
     (rw c.in-Equal.is at (c.compare_counts.ensures c.args.an.now c.args.bn.now))
-    (rw c.in-At-below.is at c.items_difference-below.ensures)
+    (rw c.in-Some-below.is at c.items_difference-below.ensures)
 
 pub first_difference-offset_bounds-a-at-in-loop-left : goal.first_difference-offset_bounds-a-at-in-loop-left
 first_difference-offset_bounds-a-at-in-loop-left t c =
