@@ -5,8 +5,8 @@ ghost use Rattle.std.specs.Prelude.{◌≡◌, false};
 ghost use Rattle.expect.specs.Answer.{compared};
 ghost use Rattle.helper.specs.Answer.{size_answer, compare_answer};
 
+use helper::compare_encodings;
 use kinds::Refusal;
-use helper::{compare_encodings};
 
 // Whether the tree in the first sheet matches that in the second, by levels.
 pub fn equivalent_to(aw: &[u64], an: &[u8], bw: &[u64], bn: &[u8]) -> Result<bool, Refusal>

@@ -6,8 +6,8 @@ ghost use Rattle.helper.specs.Answer.{compare_answer};
 ghost use Rattle.parse.specs.Answer.{answer_words, from_str_answer, from_str_words, from_str_names, from_start_answer, from_start_words, from_start_names, from_start_rest, EndOf};
 ghost use Rattle.parse.specs.Answer.{from_str_strict_answer, from_str_strict_words, from_str_strict_names};
 
-use kinds::Refusal;
 use helper::compare_encodings;
+use kinds::Refusal;
 
 // The tree of a whole text, into lent lists.
 pub fn from_str(text: &[u8], words: &mut [u64], names: &mut [u8]) -> Result<(), Refusal>

@@ -118,9 +118,10 @@ fn parse_number(text: &[u8], at: usize, limit: u64) -> Number
         acc = acc * 10 + d;
         i += 1;
     }
+    let taken = digits_taken(first, i - at);
     Number {
         read: Ok((acc, i)),
-        digits: digits_taken(first, i - at),
+        digits: taken,
     }
 }
 

@@ -105,5 +105,5 @@ returns c =
     let a = c.args in
     let all = all_digits_lem a.text.now a.at (l.i - a.at) (omega (arith, l.invariant.1.3, count-end-at a.text.now l.i c.loop-i-test.false))
     c.if-text-at.false in
-    answer-value _ _ _ _ _ _ (omega arith) (c.digits_taken-2.ensures ∙ all)
+    answer-value _ _ _ _ _ _ (omega arith) (c.digits_taken-taken.ensures ∙ all)
     (l.invariant.0 ∙ ap (bounded _) (digits-end-at _ _ _ c.loop-i-test.false) ∙ within-limit _ _ _ l.invariant.1.2)

@@ -8,10 +8,10 @@ returns-then-s-eq0 c = number-none _ c.if-s-eq0.true
 pub returns-then-s-gt20 : goal.returns-then-s-gt20
 returns-then-s-gt20 c = number-long _ c.if-s-gt20.true
 
-pub returns-in-Items : goal.returns-in-Items
-returns-in-Items c =
-    number_read c.args.s.now c.if-s-eq0.false c.if-s-gt20.false _ _ c.in-Items.is c.decode_words.ensures.answers
+pub returns-in-Some : goal.returns-in-Some
+returns-in-Some c =
+    number_read c.args.s.now c.if-s-eq0.false c.if-s-gt20.false _ _ c.in-Some.is c.decode_words.ensures.answers
 
-pub returns-in-Bad : goal.returns-in-Bad
-returns-in-Bad c =
-    number-bad c.args.s.now c.if-s-eq0.false c.if-s-gt20.false _ c.in-Bad.is c.decode_words.ensures.answers
+pub returns-in-None : goal.returns-in-None
+returns-in-None c =
+    number-bad c.args.s.now c.if-s-eq0.false c.if-s-gt20.false _ c.in-None.is c.decode_words.ensures.answers
