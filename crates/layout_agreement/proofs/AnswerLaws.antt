@@ -5,7 +5,7 @@ use mathlib.Core.Bool.{Bool, true, false, cond, ◌&&◌, false≢true}
 use mathlib.Core.List.{List, [], ◌∷◌}
 use mathlib.Core.Logic.{◌↔◌}
 use Rattle.std.specs.Prelude.{Option, Some, None}
-use mathlib.Core.Path.{◌≡◌, refl, sym, ◌∙◌}
+use mathlib.Core.Path.{◌≡◌, refl, sym, ◌∙◌, ap}
 use borrow.Author.Tests.{le-leb, leb-true}
 use lib.Dec.{leb}
 use lib.ListN.{get_or}
@@ -54,7 +54,7 @@ tells-nothing false true n a e = let z : ◌≡◌ {A = ℕ} 0 1 = cc in absurd 
 tells-nothing false false n a e = let z : ◌≡◌ {A = ℕ} 0 1 = cc in absurd (omega arith)
 
 tells-bytes : (f : Bool) (n a m c : ℕ) → tells None false f n a ≡ Ok (Some (m, c)) → (f ≡ true) × (n ≡ m) × (a ≡ c)
-tells-bytes true n a m c e = (refl, cc, cc)
+tells-bytes true n a m c e = let d : ◌≡◌ {A = ℕ × ℕ} (n, a) (m, c) = cc in (refl, ap (λ (x : ℕ × ℕ). x.0) d, ap (λ (x : ℕ × ℕ). x.1) d)
 tells-bytes false n a m c e = let z : ◌≡◌ {A = ℕ} 0 1 = cc in absurd (omega arith)
 
 -- Bytes are told where nothing else is.

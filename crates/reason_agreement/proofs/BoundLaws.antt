@@ -234,7 +234,7 @@ enough all aw an bw bn out l = go (reason_len all aw an bw bn) refl
     go (Err r) e = (nothing all aw an bw bn out (λ n h. let z : true ≡ false = cc in true≢false z)).0
 
 -- The length itself is refused by 3 or 4 alone.
-other-refusal : {r : Refusal} → (r ≡ R.NotASheet) ⊎ (r ≡ R.BadName) → Err r ≡ Err R.OutputTooShort → ⊥
+other-refusal : {r : Refusal} → (r ≡ R.NotASheet) ⊎ (r ≡ R.BadName) → ◌≡◌ {A = Result (Option ℕ) Refusal} (Err r) (Err R.OutputTooShort) → ⊥
 other-refusal (inl e) h = let z : true ≡ false = cc in true≢false z
 other-refusal (inr e) h = let z : true ≡ false = cc in true≢false z
 
@@ -242,7 +242,7 @@ length-never : (all : Bool) (aw an bw bn : List ℕ) → reason_len all aw an bw
 unfolding reason_len of_sheets held_both measured
 length-never all aw an bw bn = go (held aw an) refl (held bw bn) refl
   where
-    either : {r q : Refusal} → (r ≡ R.NotASheet) ⊎ (r ≡ R.BadName) → (q ≡ R.NotASheet) ⊎ (q ≡ R.BadName) → (b : Bool) → Err (cond b r q) ≡ Err R.OutputTooShort → ⊥
+    either : {r q : Refusal} → (r ≡ R.NotASheet) ⊎ (r ≡ R.BadName) → (q ≡ R.NotASheet) ⊎ (q ≡ R.BadName) → (b : Bool) → ◌≡◌ {A = Result (Option ℕ) Refusal} (Err (cond b r q)) (Err R.OutputTooShort) → ⊥
     either x y true h = other-refusal x h
     either x y false h = other-refusal y h
 

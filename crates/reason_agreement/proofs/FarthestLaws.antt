@@ -170,7 +170,7 @@ held-S = holds-held (sheet_of (far_struct most_pointers 2000 (byte "S"))) (names
 
 farthest : (all : Bool) → measured (first_difference all Top farthest_r farthest_s) ≡ Ok (Some max_reason)
 unfolding farthest_r farthest_s measured
-farthest all = ap measured (far-found all most_pointers 1999) ∙ ap Ok (Some (far-length 1999 2000 (byte "R") (byte "S") 4 four_digits))
+farthest all = ap measured (far-found all most_pointers 1999) ∙ ap (λ (x : ℕ). Ok (Some x)) (far-length 1999 2000 (byte "R") (byte "S") 4 four_digits)
 
 pub reaches : (all : Bool) → reason_len all (sheet_of farthest_r) (names_of farthest_r) (sheet_of farthest_s) (names_of farthest_s) ≡ Ok (Some max_reason)
 unfolding reason_len of_sheets held_both

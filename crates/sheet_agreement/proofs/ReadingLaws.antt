@@ -3,7 +3,7 @@ use Prim.Native.Nat.{ℕ, ◌+◌, ◌-◌, ◌≤◌}
 use native.Mathlib.Omega.{arith}
 use mathlib.Core.Bool.{Bool, true, false, cond, false≢true}
 use mathlib.Core.List.{List, ◌++◌, append_assoc}
-use Rattle.std.specs.Prelude.{Option, Some, None}
+use Rattle.std.specs.Prelude.{Option, Some, None, Result}
 use mathlib.Core.Path.{◌≡◌, refl, sym, ap, ◌∙◌}
 use borrow.Author.Tests.{ltb-false, le-ltb, le-leb, leb-true}
 use lib.Dec.{leb, ltb}
@@ -128,10 +128,10 @@ text-read t h = go (from_str (print Top t)) (reads-back t h) (shown-one t (both 
     go (tree l cs) e o = (ap Some e, refl)
     go (P.Whole.refusal x at) e o = absurd (false≢true (ap is_one e ∙ o))
 
-bytes-are : {a b : ℕ} → Ok a ≡ Ok b → a ≡ b
+bytes-are : {a b : ℕ} → ◌≡◌ {A = Result ℕ Refusal} (Ok a) (Ok b) → a ≡ b
 bytes-are e = cc
 
-not-bytes : {b : ℕ} → Err OutputTooShort ≡ Ok b → ⊥
+not-bytes : {b : ℕ} → ◌≡◌ {A = Result ℕ Refusal} (Err OutputTooShort) (Ok b) → ⊥
 not-bytes e = let z : ◌≡◌ {A = ℕ} 0 1 = cc in omega arith
 
 -- What printing wrote is the text of the tree.
