@@ -19,22 +19,10 @@ pub(crate) enum Found {
     Sized,
 }
 
-fn either(a: bool, b: bool) -> bool
-    ensures { result ≡ (a || b) }
-{
-    if a {
-        return true;
-    }
-    b
-}
-
 fn is_bit_field(kind: u64) -> bool
     ensures { result ≡ (eqb kind 24 || eqb kind 25) }
 {
-    if kind == BIT_FIELD {
-        return true;
-    }
-    kind == TYPED_BIT_FIELD
+    kind == BIT_FIELD || kind == TYPED_BIT_FIELD
 }
 
 // Whether a laid-out node has no size of its own; `bottom` says whether it stands at the bottom level.
@@ -47,29 +35,14 @@ fn is_sizeless(sizes: &[u8; 24], kind: u64, count: usize, bottom: bool) -> bool
     if kind < STRUCT {
         return false;
     }
-    if UNION < kind {
-        return true;
-    }
-    if bottom {
-        return true;
-    }
-    if kind == STRUCT {
-        return false;
-    }
-    count == 1
+    UNION < kind || bottom || (kind == UNION && count == 1)
 }
 
 // Whether the nodes below a node are not laid out: those behind a pointer, and the fields of a container at bottom.
 fn passes(kind: u64, bottom: bool) -> bool
     ensures { result ≡ passes_kind kind bottom }
 {
-    if kind == POINTER {
-        return true;
-    }
-    if kind < STRUCT {
-        return false;
-    }
-    bottom
+    kind == POINTER || (STRUCT <= kind && bottom)
 }
 
 // Whether the next laid-out node stands at the bottom level: what an atomic holds, and an array's item where the array does. After a node that holds nothing
@@ -77,13 +50,7 @@ fn passes(kind: u64, bottom: bool) -> bool
 fn bottom_after(kind: u64, bottom: bool) -> bool
     ensures { result ≡ bottom_after kind bottom }
 {
-    if kind == ATOMIC {
-        return true;
-    }
-    if kind == ARRAY {
-        return bottom;
-    }
-    false
+    kind == ATOMIC || (kind == ARRAY && bottom)
 }
 
 // One pass over the `n` nodes of a tree, from a node on before which there is none of either, for the first bitfield that is laid out, and for a laid-out
@@ -100,7 +67,7 @@ pub(crate) fn find(sizes: &[u8; 24], nodes: &[u64], from: usize, n: usize) -> Fo
         let kind = nodes[at];
         if kind < PRIMITIVES {
             // codes, which come in long rows, before the rest
-            none = either(none, sizes[kind as usize] == 0);
+            none |= sizes[kind as usize] == 0;
             bottom = false;
             i += 1;
             continue;
@@ -109,7 +76,7 @@ pub(crate) fn find(sizes: &[u8; 24], nodes: &[u64], from: usize, n: usize) -> Fo
             return Found::BitField(i);
         }
         let count = nodes[at + 3] as usize;
-        none = either(none, is_sizeless(sizes, kind, count, bottom));
+        none |= is_sizeless(sizes, kind, count, bottom);
         if passes(kind, bottom) {
             bottom = false;
             i += count;

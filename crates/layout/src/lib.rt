@@ -32,23 +32,15 @@ pub enum LaidOut {
     Bytes(u64, u64),
 }
 
-fn wide(x: u8) -> u64
-    ensures { result ≡ x }
-{
-    x as u64
-}
-
 // The kind of a complex number's part, or the primitive's own.
 fn part_kind(kind: usize) -> usize
     ensures { result ≡ part_kind kind }
 {
-    if kind < FLOAT_COMPLEX {
-        return kind;
+    if kind < FLOAT_COMPLEX || LONG_DOUBLE_COMPLEX < kind {
+        kind
+    } else {
+        kind - 3
     }
-    if LONG_DOUBLE_COMPLEX < kind {
-        return kind;
-    }
-    kind - 3
 }
 
 // The layout in a row of a tree that is one code.
@@ -60,17 +52,17 @@ fn code_layout(row: u64, kind: u64, offsets: &mut [u64]) -> LaidOut
     if ROWS <= row {
         return LaidOut::Refused(Refusal::NoSuchRow);
     }
-    if offsets.len() < 1 {
+    if offsets.is_empty() {
         return LaidOut::Refused(Refusal::ListTooShort);
     }
     let table = SIZES;
     let sizes = &table[row as usize];
     let k = kind as usize;
-    let bytes = wide(sizes[k]);
+    let bytes = u64::from(sizes[k]);
     if bytes == 0 {
         return LaidOut::Nothing;
     }
-    let alignment = wide(sizes[part_kind(k)]);
+    let alignment = u64::from(sizes[part_kind(k)]);
     offsets[0] = 0;
     LaidOut::Bytes(bytes, alignment)
 }

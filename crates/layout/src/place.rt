@@ -11,7 +11,7 @@ ghost use Rattle.layout.specs.Placing.{within_limit, finished, fitted_at, answer
 ghost use Rattle.layout.specs.Walking.{Sought};
 
 use super::find::{Found, find};
-use super::{LaidOut, STRING, part_kind, wide};
+use super::{LaidOut, STRING, part_kind};
 use helper::Measured;
 use kinds::{ARRAY, ATOMIC, POINTER, PRIMITIVES, Refusal, STRUCT, UNION};
 
@@ -23,30 +23,12 @@ pub(crate) struct Placed {
     pub(crate) fits: bool,
 }
 
-fn both(a: bool, b: bool) -> bool
-    ensures { result ≡ (a && b) }
-{
-    if a {
-        return b;
-    }
-    false
-}
-
-fn larger(a: u8, b: u8) -> u8
-    ensures { result ≡ max a b }
-{
-    if a < b {
-        return b;
-    }
-    a
-}
-
 // Alignments are powers of two, for which a mask is enough.
 fn remainder(n: u64, alignment: u8) -> u64
     requires { 0 < alignment }
     ensures { result ≡ n % alignment }
 {
-    let a = wide(alignment);
+    let a = u64::from(alignment);
     let mask = a - 1;
     if a & mask == 0 {
         return n & mask;
@@ -63,7 +45,7 @@ fn rounded_last(n: u64, alignment: u8) -> Measured
     if over == 0 {
         return Measured::Bytes(n);
     }
-    let padding = wide(alignment) - over;
+    let padding = u64::from(alignment) - over;
     if n <= 18446744073709551615 - padding {
         return Measured::Bytes(n + padding);
     }
@@ -75,7 +57,7 @@ fn rounded_up(n: u64, alignment: u8) -> Measured
     requires { 0 < alignment }
     ensures { result ≡ fit (next_multiple alignment n) }
 {
-    let most = wide(alignment) - 1;
+    let most = u64::from(alignment) - 1;
     if n <= 18446744073709551615 - most {
         let up = n + most;
         return Measured::Bytes(up - remainder(up, alignment));
@@ -98,10 +80,7 @@ fn next_multiple(n: Measured, alignment: u8) -> Measured
 fn is_plain(kind: u64) -> bool
     ensures { result ≡ is_plain kind }
 {
-    if kind < ATOMIC {
-        return true;
-    }
-    UNION < kind
+    kind < ATOMIC || UNION < kind
 }
 
 // What a node of such a kind takes, by the row of sizes.
@@ -110,8 +89,8 @@ fn plain(sizes: &[u8; 24], kind: u64) -> Placed
 {
     if kind < PRIMITIVES {
         let k = kind as usize;
-        let bytes = Measured::Bytes(wide(sizes[k]));
-        let alignment = larger(1, sizes[part_kind(k)]);
+        let bytes = Measured::Bytes(u64::from(sizes[k]));
+        let alignment = sizes[part_kind(k)].max(1);
         return Placed {
             bytes,
             alignment,
@@ -119,8 +98,8 @@ fn plain(sizes: &[u8; 24], kind: u64) -> Placed
         };
     }
     if kind == POINTER {
-        let bytes = Measured::Bytes(wide(sizes[STRING]));
-        let alignment = larger(1, sizes[STRING]);
+        let bytes = Measured::Bytes(u64::from(sizes[STRING]));
+        let alignment = sizes[STRING].max(1);
         return Placed {
             bytes,
             alignment,
@@ -136,13 +115,7 @@ fn is_simple(nodes: &[u64], at: usize) -> bool
     ensures { result ≡ is_simple nodes.now at }
 {
     let kind = nodes[at];
-    if is_plain(kind) {
-        return true;
-    }
-    if ARRAY < kind {
-        return false;
-    }
-    is_plain(nodes[at + 4])
+    is_plain(kind) || (kind <= ARRAY && is_plain(nodes[at + 4]))
 }
 
 // What it takes.
@@ -262,8 +235,8 @@ fn add_field(run: Placed, kind: u64, x: Placed, offsets: &mut [u64], i: usize) -
     let bytes = x.bytes;
     let begin = begin_of(kind, end, x.alignment);
     let next = end_of(kind, end, begin, bytes);
-    let alignment = larger(run.alignment, x.alignment);
-    let fits = both(run.fits, both(x.fits, is_bytes(begin)));
+    let alignment = run.alignment.max(x.alignment);
+    let fits = run.fits & x.fits & is_bytes(begin);
     offsets[i] = stored(begin);
     Placed {
         bytes: next,
@@ -306,11 +279,9 @@ pub(crate) fn place(sizes: &[u8; 24], nodes: &[u64], i: usize, offsets: &mut [u6
 fn joined(numbers: &[u64]) -> u64
     ensures { (i : ℕ) → get_or numbers.now i 0 ≤ result }
 {
-    let mut i = 0;
     let mut all = 0;
-    while i < numbers.len() {
-        all = all | numbers[i];
-        i += 1;
+    for n in numbers {
+        all |= *n;
     }
     all
 }
@@ -319,31 +290,17 @@ fn joined(numbers: &[u64]) -> u64
 fn within_limit(numbers: &[u64], limit: u64) -> bool
     ensures { result ≡ within_limit limit numbers.now }
 {
-    if limit == 18446744073709551615 {
+    if limit == u64::MAX || joined(numbers) <= limit {
         return true;
     }
-    if joined(numbers) <= limit {
-        return true;
-    }
-    let mut i = 0;
-    while i < numbers.len() {
-        if limit < numbers[i] {
-            return false;
-        }
-        i += 1;
-    }
-    true
+    numbers.iter().all(|n| *n <= limit)
 }
 
 fn copy_numbers(numbers: &[u64], offsets: &mut [u64])
     requires { length numbers.now ≤ length offsets.old }
     ensures { offsets.new ≡ numbers.now ++ drop (length numbers.now) offsets.old }
 {
-    let mut i = 0;
-    while i < numbers.len() {
-        offsets[i] = numbers[i];
-        i += 1;
-    }
+    offsets[..numbers.len()].copy_from_slice(numbers);
 }
 
 // The answer for a whole tree: its numbers are written where the size and each of them is at most `limit`.
@@ -367,7 +324,7 @@ pub(crate) fn finish(whole: Placed, numbers: &[u64], limit: u64, offsets: &mut [
                 return LaidOut::Refused(Refusal::SizeTooLarge);
             }
             copy_numbers(numbers, offsets);
-            LaidOut::Bytes(bytes, wide(whole.alignment))
+            LaidOut::Bytes(bytes, u64::from(whole.alignment))
         }
     }
 }

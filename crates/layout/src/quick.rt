@@ -11,7 +11,7 @@ ghost use Rattle.layout.specs.Placing.{Zeros, answer_at, list_for};
 ghost use Rattle.layout.specs.Walking.{Sought, IsPower, Powers, most, PlainRoom, SimpleRoom, EndedRoom, AddedRoom, Enters, Walking, Settled};
 
 use super::place::{Placed, finish, lay_out_any};
-use super::{FLOAT_COMPLEX, LONG_DOUBLE_COMPLEX, LaidOut, STRING, wide};
+use super::{LaidOut, STRING, part_kind};
 use helper::{Measured, max_size};
 use kinds::{ARRAY, ATOMIC, POINTER, PRIMITIVES, ROWS, Refusal, SIZES, STRUCT, UNION};
 
@@ -33,15 +33,6 @@ struct Open {
     stop: usize,
     next: usize,
     run: Room,
-}
-
-fn greater(a: u64, b: u64) -> u64
-    ensures { result ≡ max a b }
-{
-    if a < b {
-        return b;
-    }
-    a
 }
 
 // The next multiple of a power of two.
@@ -95,25 +86,13 @@ fn code_room(sizes: &[u8; 24], k: usize) -> Room
     requires { Powers sizes.now × (k < 24) }
     ensures { 0 < result.alignment → PlainRoom sizes.now k result }
 {
-    let size = wide(sizes[k]);
-    if size == 0 {
+    let bytes = u64::from(sizes[k]);
+    if bytes == 0 {
         return Room::none();
     }
-    if k < FLOAT_COMPLEX {
-        return Room {
-            bytes: size,
-            alignment: size,
-        };
-    }
-    if LONG_DOUBLE_COMPLEX < k {
-        return Room {
-            bytes: size,
-            alignment: size,
-        };
-    }
     Room {
-        bytes: size,
-        alignment: wide(sizes[k - 3]),
+        bytes,
+        alignment: u64::from(sizes[part_kind(k)]),
     }
 }
 
@@ -126,7 +105,7 @@ fn plain_room(sizes: &[u8; 24], kind: u64) -> Room
         return code_room(sizes, kind as usize);
     }
     if kind == POINTER {
-        let size = wide(sizes[STRING]);
+        let size = u64::from(sizes[STRING]);
         return Room {
             bytes: size,
             alignment: size,
@@ -177,16 +156,7 @@ fn enters(nodes: &[u64], at: usize) -> bool
     ensures { result ≡ true → Enters nodes.now at }
 {
     let kind = nodes[at];
-    if kind < ARRAY {
-        return false;
-    }
-    if UNION < kind {
-        return false;
-    }
-    if kind == UNION {
-        return 1 < nodes[at + 3];
-    }
-    true
+    kind == ARRAY || kind == STRUCT || (kind == UNION && 1 < nodes[at + 3])
 }
 
 // What a node takes whose children take `run` together.
@@ -221,14 +191,14 @@ fn add_room(kind: u64, run: Room, x: Room, numbers: &mut [u64], j: usize) -> Roo
     if x.alignment == 0 {
         return Room::none();
     }
-    let alignment = greater(run.alignment, x.alignment);
+    let alignment = run.alignment.max(x.alignment);
     if kind == STRUCT {
         let begin = power_multiple(run.bytes, x.alignment);
         numbers[j] = begin;
         return small_room(begin + x.bytes, alignment);
     }
     numbers[j] = 0;
-    small_room(greater(run.bytes, x.bytes), alignment)
+    small_room(run.bytes.max(x.bytes), alignment)
 }
 
 // The container at which the walk stands is entered: the word in its place tells of the one around it.
@@ -371,73 +341,20 @@ fn lay_out_quick(
     finish(whole, &numbers[0..], limit, offsets)
 }
 
-// The list for the numbers is no longer than the tree wants, since all of it is cleared.
-fn lay_out_32(sizes: &[u8; 24], nodes: &[u64], n: usize, limit: u64, offsets: &mut [u64]) -> LaidOut
-    requires { Powers sizes.now × NodeAt nodes.now 0 × (count_at nodes.now 0 ≡ n) × (n ≤ 32) × (n ≤ length offsets.old) }
-    ensures answers { (m : Widths) → RowOf sizes.now m → (s : List ℕ) → result ≡ answer_at m s nodes.now limit }
-    ensures fills { (m : Widths) → RowOf sizes.now m → (s : List ℕ) → offsets.new ≡ list_for m s nodes.now limit offsets.old }
-{
-    let mut numbers = [0u64; 32];
-    lay_out_quick(sizes, nodes, n, limit, &mut numbers[0..n], offsets)
-}
-
-fn lay_out_128(
+// The layout by a list of `N` numbers, of which no more is cleared than the size of the tree wants.
+fn lay_out_in<const N: usize>(
     sizes: &[u8; 24],
     nodes: &[u64],
     n: usize,
     limit: u64,
     offsets: &mut [u64],
 ) -> LaidOut
-    requires { Powers sizes.now × NodeAt nodes.now 0 × (count_at nodes.now 0 ≡ n) × (n ≤ 128) × (n ≤ length offsets.old) }
+    requires { Powers sizes.now × NodeAt nodes.now 0 × (count_at nodes.now 0 ≡ n) × (n ≤ N) × (N ≤ 2001) × (n ≤ length offsets.old) }
     ensures answers { (m : Widths) → RowOf sizes.now m → (s : List ℕ) → result ≡ answer_at m s nodes.now limit }
     ensures fills { (m : Widths) → RowOf sizes.now m → (s : List ℕ) → offsets.new ≡ list_for m s nodes.now limit offsets.old }
 {
-    let mut numbers = [0u64; 128];
-    lay_out_quick(sizes, nodes, n, limit, &mut numbers[0..n], offsets)
-}
-
-fn lay_out_512(
-    sizes: &[u8; 24],
-    nodes: &[u64],
-    n: usize,
-    limit: u64,
-    offsets: &mut [u64],
-) -> LaidOut
-    requires { Powers sizes.now × NodeAt nodes.now 0 × (count_at nodes.now 0 ≡ n) × (n ≤ 512) × (n ≤ length offsets.old) }
-    ensures answers { (m : Widths) → RowOf sizes.now m → (s : List ℕ) → result ≡ answer_at m s nodes.now limit }
-    ensures fills { (m : Widths) → RowOf sizes.now m → (s : List ℕ) → offsets.new ≡ list_for m s nodes.now limit offsets.old }
-{
-    let mut numbers = [0u64; 512];
-    lay_out_quick(sizes, nodes, n, limit, &mut numbers[0..n], offsets)
-}
-
-fn lay_out_1024(
-    sizes: &[u8; 24],
-    nodes: &[u64],
-    n: usize,
-    limit: u64,
-    offsets: &mut [u64],
-) -> LaidOut
-    requires { Powers sizes.now × NodeAt nodes.now 0 × (count_at nodes.now 0 ≡ n) × (n ≤ 1024) × (n ≤ length offsets.old) }
-    ensures answers { (m : Widths) → RowOf sizes.now m → (s : List ℕ) → result ≡ answer_at m s nodes.now limit }
-    ensures fills { (m : Widths) → RowOf sizes.now m → (s : List ℕ) → offsets.new ≡ list_for m s nodes.now limit offsets.old }
-{
-    let mut numbers = [0u64; 1024];
-    lay_out_quick(sizes, nodes, n, limit, &mut numbers[0..n], offsets)
-}
-
-fn lay_out_2001(
-    sizes: &[u8; 24],
-    nodes: &[u64],
-    n: usize,
-    limit: u64,
-    offsets: &mut [u64],
-) -> LaidOut
-    requires { Powers sizes.now × NodeAt nodes.now 0 × (count_at nodes.now 0 ≡ n) × (n ≤ 2001) × (n ≤ length offsets.old) }
-    ensures answers { (m : Widths) → RowOf sizes.now m → (s : List ℕ) → result ≡ answer_at m s nodes.now limit }
-    ensures fills { (m : Widths) → RowOf sizes.now m → (s : List ℕ) → offsets.new ≡ list_for m s nodes.now limit offsets.old }
-{
-    let mut numbers = [0u64; 2001];
+    let mut numbers = [0u64; N];
+    let numbers = &mut numbers[..];
     lay_out_quick(sizes, nodes, n, limit, &mut numbers[0..n], offsets)
 }
 
@@ -454,18 +371,18 @@ fn lay_out_nodes(
     ensures fills { (m : Widths) → RowOf sizes.now m → (s : List ℕ) → offsets.new ≡ list_for m s nodes.now limit offsets.old }
 {
     if n <= 32 {
-        return lay_out_32(sizes, nodes, n, limit, offsets);
+        return lay_out_in::<32>(sizes, nodes, n, limit, offsets);
     }
     if n <= 128 {
-        return lay_out_128(sizes, nodes, n, limit, offsets);
+        return lay_out_in::<128>(sizes, nodes, n, limit, offsets);
     }
     if n <= 512 {
-        return lay_out_512(sizes, nodes, n, limit, offsets);
+        return lay_out_in::<512>(sizes, nodes, n, limit, offsets);
     }
     if n <= 1024 {
-        return lay_out_1024(sizes, nodes, n, limit, offsets);
+        return lay_out_in::<1024>(sizes, nodes, n, limit, offsets);
     }
-    lay_out_2001(sizes, nodes, n, limit, offsets)
+    lay_out_in::<2001>(sizes, nodes, n, limit, offsets)
 }
 
 // The layout in a row of the tree of the nodes.

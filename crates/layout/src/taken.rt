@@ -10,7 +10,6 @@ ghost use Rattle.layout.specs.Placing.{room_words, extent_at};
 
 use super::place::{Placed, place};
 use super::quick::Room;
-use super::wide;
 use helper::{Measured, max_size};
 use kinds::{ROWS, SIZES};
 
@@ -26,7 +25,7 @@ fn room_within(x: Placed, limit: u64) -> Room
             if n <= limit {
                 return Room {
                     bytes: n,
-                    alignment: wide(x.alignment),
+                    alignment: u64::from(x.alignment),
                 };
             }
             Room::none()
@@ -48,12 +47,10 @@ fn put_rooms(sizes: &[u8; 24], nodes: &[u64], n: usize, limit: u64, list: &mut [
     requires { TreesAt nodes.now 0 n × (n ≤ 2001) × (2 * n ≤ length list.old) }
     ensures { (m : Widths) → RowOf sizes.now m → (s : List ℕ) → list.new ≡ sets list.old 0 (extents_of m limit (trees s nodes.now n 0)) }
 {
-    let mut i = 0;
-    while i < n {
+    for i in 0..n {
         let x = node_room(sizes, nodes, i, limit);
         list[2 * i] = x.bytes;
         list[2 * i + 1] = x.alignment;
-        i += 1;
     }
 }
 

@@ -1,18 +1,12 @@
-use borrow.Author.Tests.{le-leb, lt-leb}
 use native.Mathlib.Omega.{arith}
+use Rattle.std.proofs.lemmas.Bool.Decides.{nat_tests}
 use Rattle.layout.specs.Placing.{part_kind}
 use Rattle.layout.proofs.part_kind.Goals as goal
 
-pub returns-then-kind-lt-FLOAT_COMPLEX : goal.returns-then-kind-lt-FLOAT_COMPLEX
-unfolding part_kind
-returns-then-kind-lt-FLOAT_COMPLEX c = rw (lt-leb 13 c.args.kind (omega arith))
-
 pub returns-then-kind-gt-LONG_DOUBLE_COMPLEX : goal.returns-then-kind-gt-LONG_DOUBLE_COMPLEX
 unfolding part_kind
-returns-then-kind-gt-LONG_DOUBLE_COMPLEX c =
-    rw (le-leb 13 c.args.kind (omega arith), lt-leb c.args.kind 15 (omega arith))
+returns-then-kind-gt-LONG_DOUBLE_COMPLEX c = grind (arith, nat_tests)
 
-pub returns : goal.returns
+pub returns-else-kind-gt-LONG_DOUBLE_COMPLEX : goal.returns-else-kind-gt-LONG_DOUBLE_COMPLEX
 unfolding part_kind
-returns c =
-    rw (le-leb 13 c.args.kind (omega arith), le-leb c.args.kind 15 (omega arith))
+returns-else-kind-gt-LONG_DOUBLE_COMPLEX c = grind (arith, nat_tests)

@@ -1,18 +1,16 @@
 use native.Mathlib.Omega.{arith}
-use borrow.Author.Tests.{le-leb, lt-leb, eq-eqb, ne_eqb}
+use Rattle.std.proofs.lemmas.Bool.Decides.{nat_tests}
 use Rattle.layout.specs.Placing.{passes_kind}
 use Rattle.layout.proofs.find.passes.Goals as goal
 
 pub returns-then-kind-eq-POINTER : goal.returns-then-kind-eq-POINTER
 unfolding passes_kind
-returns-then-kind-eq-POINTER c = rw (eq-eqb c.args.kind 26 c.if-kind-eq-POINTER.true)
+returns-then-kind-eq-POINTER c = grind (arith, nat_tests)
 
-pub returns-then-kind-lt-STRUCT : goal.returns-then-kind-lt-STRUCT
+pub returns-then-kind-ge-STRUCT : goal.returns-then-kind-ge-STRUCT
 unfolding passes_kind
-returns-then-kind-lt-STRUCT c =
-    rw (ne_eqb c.args.kind 26 c.if-kind-eq-POINTER.false, lt-leb 29 c.args.kind (omega arith))
+returns-then-kind-ge-STRUCT c = grind (arith, nat_tests)
 
-pub returns : goal.returns
+pub returns-else-kind-ge-STRUCT : goal.returns-else-kind-ge-STRUCT
 unfolding passes_kind
-returns c =
-    rw (ne_eqb c.args.kind 26 c.if-kind-eq-POINTER.false, le-leb 29 c.args.kind (omega arith))
+returns-else-kind-ge-STRUCT c = grind (arith, nat_tests)

@@ -1,6 +1,5 @@
 use Rattle.layout.proofs.FillLaws.{walk_end, laid_as, not-simple, simple-laid, filling-start, filling-node, filling-within, filling-zeros, filling-turn}
 use Prim.Native.Nat.{ℕ, ◌-◌, ◌*◌}
-use mathlib.Core.Logic.{⊎_elim}
 use Rattle.layout.specs.Placing.{Laid}
 use Rattle.kinds.specs.Walk.{TreesAt}
 use Rattle.layout.proofs.ExtentLaws.{not_plain}

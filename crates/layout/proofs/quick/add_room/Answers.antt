@@ -32,7 +32,7 @@ returns-then-kind-eq-STRUCT c =
     let q = p.2 (omega arith) in
     λ h.
     let r = c.small_room.ensures h in
-    struct-room a.kind a.run a.x p.0 q.0 c.if-kind-eq-STRUCT.true p.1 c.power_multiple-begin.ensures c.greater-alignment.ensures
+    struct-room a.kind a.run a.x p.0 q.0 c.if-kind-eq-STRUCT.true p.1 c.power_multiple-begin.ensures c.max-alignment.ensures
     r.0 r.1 r.2 a.numbers.now a.j
 
 pub returns : goal.returns
@@ -42,5 +42,5 @@ returns c =
     let q = p.2 (omega arith) in
     λ h.
     let r = c.small_room-2.ensures h in
-    union-room a.kind a.run a.x p.0 q.0 c.if-kind-eq-STRUCT.false c.greater.ensures c.greater-alignment.ensures
+    union-room a.kind a.run a.x p.0 q.0 c.if-kind-eq-STRUCT.false c.max.ensures c.max-alignment.ensures
     r.0 r.1 r.2 a.numbers.now a.j

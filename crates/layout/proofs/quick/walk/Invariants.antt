@@ -1,4 +1,3 @@
-use Prim.Native.Nat.{ℕ}
 use Rattle.layout.specs.Walking.{Walking}
 use Rattle.layout.proofs.WalkLaws.{rank}
 use Rattle.layout.proofs.quick.walk.Given as goal

@@ -7,7 +7,7 @@ use Rattle.layout.proofs.taken.room_within.Goals as goal
 pub returns-then-n-limit : goal.returns-then-n-limit
 returns-then-n-limit c =
     rw (c.in-Bytes.is, le-leb _ _ c.if-n-limit.true)
-    (ap (λ (a : ℕ). c.in-Bytes.n ∷ a ∷ []) c.wide.ensures)
+    (ap (λ (a : ℕ). c.in-Bytes.n ∷ a ∷ []) c.from.ensures)
 
 pub returns-in-Nothing : goal.returns-in-Nothing
 returns-in-Nothing c = rw c.in-Nothing.is (ap₂ (λ (b a : ℕ). b ∷ a ∷ []) c.none.ensures.0 c.none.ensures.1)
