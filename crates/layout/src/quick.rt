@@ -1,6 +1,6 @@
 // The quick walk: a tree that takes little room, in one pass that makes no calls for what is nested. It stops at a node that it does not lay out,
 // as a bitfield or one that has no size, and the tree is left to the longer way.
-ghost use Rattle.std.specs.Prelude.{ℕ, ◌*◌, ◌≤◌, ◌<◌, max, ◌≡◌, true, false, List, length};
+ghost use Rattle.std.specs.Prelude.{ℕ, ◌*◌, ◌≤◌, ◌<◌, ◌≡◌, true, false, List, length, IfSome, IfOk, IfErr};
 ghost use Rattle.kinds.specs.Primitive.{Widths};
 ghost use Rattle.kinds.specs.Sheet.{count_at, trees};
 ghost use Rattle.kinds.specs.Walk.{NodeAt};
@@ -18,11 +18,11 @@ use kinds::{ARRAY, ATOMIC, POINTER, PRIMITIVES, ROWS, Refusal, SIZES, STRUCT, UN
 // The largest end that the quick walk goes by, and the largest count of an array's items.
 const MOST: u64 = 2147483647;
 
-// What trees take where all of it is small; the alignment is 0 where the quick walk does not say.
+// What trees take where all of it is small.
 #[derive(Clone, Copy)]
-pub(crate) struct Room {
-    pub(crate) bytes: u64,
-    pub(crate) alignment: u64,
+struct Room {
+    bytes: u64,
+    alignment: u64,
 }
 
 // Where the quick walk stands: in which container, of what kind and ending before which node, at which node, and what the fields before take.
@@ -46,16 +46,6 @@ fn power_multiple(n: u64, alignment: u64) -> u64
 }
 
 impl Room {
-    // Not said.
-    pub(crate) fn none() -> Self
-        ensures { (result.bytes ≡ 0) × (result.alignment ≡ 0) }
-    {
-        Room {
-            bytes: 0,
-            alignment: 0,
-        }
-    }
-
     // No room.
     fn new() -> Self
         ensures { (result.bytes ≡ 0) × (result.alignment ≡ 1) }
@@ -65,89 +55,68 @@ impl Room {
             alignment: 1,
         }
     }
-
-    // The same, or where it is not said the node up to which it is known that none is a bitfield or has no size.
-    fn or_from(self, from: usize) -> Self
-        ensures said { 0 < self.alignment → result ≡ self }
-        ensures unsaid { self.alignment ≡ 0 → (result.alignment ≡ 0) × (result.bytes ≡ from) }
-    {
-        if self.alignment == 0 {
-            return Room {
-                bytes: from as u64,
-                alignment: 0,
-            };
-        }
-        self
-    }
 }
 
 // What a code takes that has a size.
-fn code_room(sizes: &[u8; 24], k: usize) -> Room
+fn code_room(sizes: &[u8; 24], k: usize) -> Option<Room>
     requires { Powers sizes.now × (k < 24) }
-    ensures { 0 < result.alignment → PlainRoom sizes.now k result }
+    ensures { IfSome result (PlainRoom sizes.now k) }
 {
     let bytes = u64::from(sizes[k]);
     if bytes == 0 {
-        return Room::none();
+        return None;
     }
-    Room {
+    Some(Room {
         bytes,
         alignment: u64::from(sizes[part_kind(k)]),
-    }
+    })
 }
 
 // What a node takes that is such a code or a pointer.
-fn plain_room(sizes: &[u8; 24], kind: u64) -> Room
+fn plain_room(sizes: &[u8; 24], kind: u64) -> Option<Room>
     requires { Powers sizes.now }
-    ensures { 0 < result.alignment → PlainRoom sizes.now kind result }
+    ensures { IfSome result (PlainRoom sizes.now kind) }
 {
     if kind < PRIMITIVES {
         return code_room(sizes, kind as usize);
     }
     if kind == POINTER {
-        let size = u64::from(sizes[STRING]);
-        return Room {
-            bytes: size,
-            alignment: size,
-        };
+        return code_room(sizes, STRING);
     }
-    Room::none()
+    None
 }
 
 // What an array of `n` takes.
-fn array_room(n: u64, item: Room) -> Room
-    requires { 0 < item.alignment → IsPower item.alignment × (item.bytes ≤ most) }
-    ensures { 0 < result.alignment → (0 < item.alignment) × EndedRoom 28 n item result }
+fn array_room(n: u64, item: Room) -> Option<Room>
+    requires { IsPower item.alignment × (item.bytes ≤ most) }
+    ensures { IfSome result (EndedRoom 28 n item) }
 {
-    if item.alignment == 0 {
-        return Room::none();
-    }
     if MOST < n {
-        return Room::none();
+        return None;
     }
-    Room {
+    Some(Room {
         bytes: n * item.bytes,
         alignment: item.alignment,
-    }
+    })
 }
 
 // What the node takes, if it is such a one or an atomic or an array of one.
-fn simple_room(sizes: &[u8; 24], nodes: &[u64], at: usize) -> Room
+fn simple_room(sizes: &[u8; 24], nodes: &[u64], at: usize) -> Option<Room>
     requires { Powers sizes.now × NodeAt nodes.now at }
-    ensures { 0 < result.alignment → SimpleRoom sizes.now nodes.now at result }
+    ensures { IfSome result (SimpleRoom sizes.now nodes.now at) }
 {
     let kind = nodes[at];
     if kind < ATOMIC {
         return plain_room(sizes, kind);
     }
     if ARRAY < kind {
-        return Room::none();
+        return None;
     }
-    let item = plain_room(sizes, nodes[at + 4]);
+    let item = plain_room(sizes, nodes[at + 4])?;
     if kind == ARRAY {
         return array_room(nodes[at + 1], item);
     }
-    item
+    Some(item)
 }
 
 // Whether the node is an array, a struct, or a union that has members.
@@ -160,37 +129,34 @@ fn enters(nodes: &[u64], at: usize) -> bool
 }
 
 // What a node takes whose children take `run` together.
-fn ended_room(kind: u64, n: u64, run: Room) -> Room
+fn ended_room(kind: u64, n: u64, run: Room) -> Option<Room>
     requires { (28 ≤ kind) × (kind ≤ 30) × IsPower run.alignment × (run.bytes ≤ most) }
-    ensures { 0 < result.alignment → EndedRoom kind n run result }
+    ensures { IfSome result (EndedRoom kind n run) }
 {
     if kind == ARRAY {
         return array_room(n, run);
     }
-    Room {
+    Some(Room {
         bytes: power_multiple(run.bytes, run.alignment),
         alignment: run.alignment,
-    }
+    })
 }
 
 // The room, unless it ends too far for the quick walk.
-fn small_room(bytes: u64, alignment: u64) -> Room
-    ensures { 0 < result.alignment → (result.alignment ≡ alignment) × (result.bytes ≡ bytes) × (bytes ≤ most) }
+fn small_room(bytes: u64, alignment: u64) -> Option<Room>
+    ensures { IfSome result (λ x. (x.alignment ≡ alignment) × (x.bytes ≡ bytes) × (bytes ≤ most)) }
 {
     if MOST < bytes {
-        return Room::none();
+        return None;
     }
-    Room { bytes, alignment }
+    Some(Room { bytes, alignment })
 }
 
 // What a container takes with node `j` as a field more, whose number is put into the list.
-fn add_room(kind: u64, run: Room, x: Room, numbers: &mut [u64], j: usize) -> Room
-    requires { IsPower run.alignment × (run.bytes ≤ most) × (0 < x.alignment → IsPower x.alignment × (x.bytes ≤ most * most)) × (j < length numbers.old) }
-    ensures { 0 < result.alignment → AddedRoom kind run x numbers.old numbers.new j result }
+fn add_room(kind: u64, run: Room, x: Room, numbers: &mut [u64], j: usize) -> Option<Room>
+    requires { IsPower run.alignment × (run.bytes ≤ most) × IsPower x.alignment × (x.bytes ≤ most * most) × (j < length numbers.old) }
+    ensures { IfSome result (AddedRoom kind run x numbers.old numbers.new j) }
 {
-    if x.alignment == 0 {
-        return Room::none();
-    }
     let alignment = run.alignment.max(x.alignment);
     if kind == STRUCT {
         let begin = power_multiple(run.bytes, x.alignment);
@@ -219,12 +185,12 @@ fn enter(sizes: &[u8; 24], nodes: &[u64], o: Open, numbers: &mut [u64]) -> Open
 }
 
 // The container in which the walk stands has come to its end, and is a field more of the one around it.
-fn close(sizes: &[u8; 24], nodes: &[u64], o: Open, numbers: &mut [u64]) -> Open
+fn close(sizes: &[u8; 24], nodes: &[u64], o: Open, numbers: &mut [u64]) -> Option<Open>
     requires { Walking sizes.now nodes.now numbers.old o × (o.stop ≤ o.next) × (0 < o.container) }
-    ensures { 0 < result.run.alignment → Walking sizes.now nodes.now numbers.new result × (result.next ≡ o.next) × (result.container < o.container) }
+    ensures { IfSome result (λ r. Walking sizes.now nodes.now numbers.new r × (r.next ≡ o.next) × (r.container < o.container)) }
 {
     let c = o.container;
-    let x = ended_room(o.kind, nodes[4 * c + 1], o.run);
+    let x = ended_room(o.kind, nodes[4 * c + 1], o.run)?;
     let word = numbers[c];
     let i = (word % 2048) as usize;
     let run = Room {
@@ -232,52 +198,49 @@ fn close(sizes: &[u8; 24], nodes: &[u64], o: Open, numbers: &mut [u64]) -> Open
         alignment: word / 2048 % 256,
     };
     let kind = nodes[4 * i];
-    Open {
+    let run = add_room(kind, run, x, numbers, c)?;
+    Some(Open {
         container: i,
         kind,
         stop: i + nodes[4 * i + 3] as usize,
         next: o.next,
-        run: add_room(kind, run, x, numbers, c),
-    }
+        run,
+    })
 }
 
 // One node more.
-fn step(sizes: &[u8; 24], nodes: &[u64], o: Open, numbers: &mut [u64]) -> Open
+fn step(sizes: &[u8; 24], nodes: &[u64], o: Open, numbers: &mut [u64]) -> Option<Open>
     requires { Powers sizes.now × Walking sizes.now nodes.now numbers.old o × (o.next < o.stop) }
-    ensures { 0 < result.run.alignment → Walking sizes.now nodes.now numbers.new result × (o.next < result.next) }
+    ensures { IfSome result (λ r. Walking sizes.now nodes.now numbers.new r × (o.next < r.next)) }
 {
     let j = o.next;
     let kind = nodes[4 * j];
     if kind < PRIMITIVES {
-        return Open {
-            container: o.container,
-            kind: o.kind,
-            stop: o.stop,
+        let x = code_room(sizes, kind as usize)?;
+        let run = add_room(o.kind, o.run, x, numbers, j)?;
+        return Some(Open {
             next: j + 1,
-            run: add_room(o.kind, o.run, code_room(sizes, kind as usize), numbers, j),
-        };
+            run,
+            ..o
+        });
     }
-    let x = simple_room(sizes, nodes, 4 * j);
-    if x.alignment == 0 {
+    let Some(x) = simple_room(sizes, nodes, 4 * j) else {
         if enters(nodes, 4 * j) {
-            return enter(sizes, nodes, o, numbers);
+            return Some(enter(sizes, nodes, o, numbers));
         }
-    }
-    Open {
-        container: o.container,
-        kind: o.kind,
-        stop: o.stop,
-        next: j + nodes[4 * j + 3] as usize,
-        run: add_room(o.kind, o.run, x, numbers, j),
-    }
+        return None;
+    };
+    let next = j + nodes[4 * j + 3] as usize;
+    let run = add_room(o.kind, o.run, x, numbers, j)?;
+    Some(Open { next, run, ..o })
 }
 
 // What the whole tree takes, whose root is entered, in one pass that makes no calls for what is nested; or else up to which node it is known that none is a
 // bitfield or has no size.
-fn walk(sizes: &[u8; 24], nodes: &[u64], n: usize, numbers: &mut [u64]) -> Room
+fn walk(sizes: &[u8; 24], nodes: &[u64], n: usize, numbers: &mut [u64]) -> Result<Room, usize>
     requires { Powers sizes.now × NodeAt nodes.now 0 × Enters nodes.now 0 × (count_at nodes.now 0 ≡ n) × (n ≤ 2001) × (length numbers.old ≡ n) × Zeros numbers.old 0 n }
-    ensures settles { 0 < result.alignment → Settled sizes.now nodes.now numbers.new result }
-    ensures passed { result.alignment ≡ 0 → Sought sizes.now nodes.now n result.bytes false false }
+    ensures settles { IfOk result (Settled sizes.now nodes.now numbers.new) }
+    ensures passed { IfErr result (λ from. Sought sizes.now nodes.now n from false false) }
 {
     let mut o = Open {
         container: 0,
@@ -289,31 +252,26 @@ fn walk(sizes: &[u8; 24], nodes: &[u64], n: usize, numbers: &mut [u64]) -> Room
     loop {
         let from = o.next;
         if from < o.stop {
-            o = step(sizes, nodes, o, numbers);
+            o = step(sizes, nodes, o, numbers).ok_or(from)?;
+        } else if o.container == 0 {
+            return ended_room(o.kind, nodes[1], o.run).ok_or(0);
         } else {
-            if o.container == 0 {
-                return ended_room(o.kind, nodes[1], o.run).or_from(0);
-            }
-            o = close(sizes, nodes, o, numbers);
-        }
-        let run = o.run;
-        if run.alignment == 0 {
-            return run.or_from(from);
+            o = close(sizes, nodes, o, numbers).ok_or(from)?;
         }
     }
 }
 
 // What the whole tree takes, where it is small, each laid-out node has a size and none is a bitfield; the numbers of its nodes are put into the list. Or else
 // up to which node that is known.
-fn quick_room(sizes: &[u8; 24], nodes: &[u64], n: usize, numbers: &mut [u64]) -> Room
+fn quick_room(sizes: &[u8; 24], nodes: &[u64], n: usize, numbers: &mut [u64]) -> Result<Room, usize>
     requires { Powers sizes.now × NodeAt nodes.now 0 × (count_at nodes.now 0 ≡ n) × (n ≤ 2001) × (length numbers.old ≡ n) × Zeros numbers.old 0 n }
-    ensures settles { 0 < result.alignment → Settled sizes.now nodes.now numbers.new result }
-    ensures passed { result.alignment ≡ 0 → Sought sizes.now nodes.now n result.bytes false false }
+    ensures settles { IfOk result (Settled sizes.now nodes.now numbers.new) }
+    ensures passed { IfErr result (λ from. Sought sizes.now nodes.now n from false false) }
 {
     if enters(nodes, 0) {
         return walk(sizes, nodes, n, numbers);
     }
-    simple_room(sizes, nodes, 0).or_from(0)
+    simple_room(sizes, nodes, 0).ok_or(0)
 }
 
 // The layout of any tree, by the quick walk where that comes to the end. The numbers are gathered in another list, which has 0 throughout.
@@ -329,16 +287,17 @@ fn lay_out_quick(
     ensures answers { (m : Widths) → RowOf sizes.now m → (s : List ℕ) → result ≡ answer_at m s nodes.now limit }
     ensures fills { (m : Widths) → RowOf sizes.now m → (s : List ℕ) → offsets.new ≡ list_for m s nodes.now limit offsets.old }
 {
-    let x = quick_room(sizes, nodes, n, numbers);
-    if x.alignment == 0 {
-        return lay_out_any(sizes, &nodes[0..], x.bytes as usize, n, limit, offsets);
+    match quick_room(sizes, nodes, n, numbers) {
+        Err(from) => lay_out_any(sizes, &nodes[0..], from, n, limit, offsets),
+        Ok(x) => {
+            let whole = Placed {
+                bytes: Measured::Bytes(x.bytes),
+                alignment: x.alignment as u8,
+                fits: true,
+            };
+            finish(whole, &numbers[0..], limit, offsets)
+        }
     }
-    let whole = Placed {
-        bytes: Measured::Bytes(x.bytes),
-        alignment: x.alignment as u8,
-        fits: true,
-    };
-    finish(whole, &numbers[0..], limit, offsets)
 }
 
 // The layout by a list of `N` numbers, of which no more is cleared than the size of the tree wants.

@@ -9,4 +9,4 @@ bounds-sizes-part_kind c = part-below c.args.k c.requires.1 c.part_kind.ensures
 pub returns : goal.returns
 returns c =
     let a = c.args in
-    λ h. code-room a.sizes.now a.k c.requires.0 c.requires.1 c.from-bytes.ensures c.if-bytes-eq0.false (sym c.part_kind.ensures) c.from.ensures
+    code-room a.sizes.now a.k c.requires.0 c.requires.1 c.from-bytes.ensures c.if-bytes-eq0.false (sym c.part_kind.ensures) c.from.ensures

@@ -12,8 +12,8 @@ loop-i-init c =
     let a = c.args in
     (subst₂ (TreesAt a.nodes.now) (omega arith) (omega arith) c.requires.0, refl, λ m o s. taken_start m a.limit s a.nodes.now a.n a.list.now)
 
-pub node_room-x-requires : goal.node_room-x-requires
-node_room-x-requires c =
+pub node_room-bytes-requires : goal.node_room-bytes-requires
+node_room-bytes-requires c =
     let a = c.args in
     let v = c.loop-i.invariant in
     let i = c.loop-i.i in
@@ -31,7 +31,7 @@ loop-i-preserved c =
     let i = c.loop-i.i in (
       subst₂ (TreesAt a.nodes.now) (omega arith) (omega arith) (inner-trees a.nodes.now (4 * i) (a.n - i) v.0 (omega arith)),
       simp length-set v.1,
-      λ m o s. taken-turn m a.limit s a.nodes.now a.n i c.loop-i.list v.0 (omega arith) (c.node_room-x.ensures m o s) (v.2 m o s),
+      λ m o s. taken-turn m a.limit s a.nodes.now a.n i c.loop-i.list v.0 (omega arith) (c.node_room-bytes.ensures m o s) (v.2 m o s),
     )
 
 pub shape_of-list : goal.shape_of-list
