@@ -77,6 +77,7 @@ fn next_multiple(n: Measured, alignment: u8) -> Measured
 }
 
 // A kind whose node holds nothing inside: a primitive, a bitfield, a pointer, None.
+#[tactic(auto, using(std::proofs::lemmas::Bool::Decides::nat_tests), unfolding(crate::specs::Placing::is_plain))]
 fn is_plain(kind: u64) -> bool
     ensures { result ≡ is_plain kind }
 {
@@ -258,6 +259,7 @@ pub(crate) fn place(sizes: &[u8; 24], nodes: &[u64], i: usize, offsets: &mut [u6
     let mut j = i + 1;
     let mut left = (nodes[at + 3] as usize) - 1;
     let mut run = Placed::new();
+    // the cursor moves by a node's count, which is no step of an iterator
     while 0 < left {
         let mut x = Placed::new();
         if is_simple(nodes, 4 * j) {

@@ -198,13 +198,12 @@ fn close(sizes: &[u8; 24], nodes: &[u64], o: Open, numbers: &mut [u64]) -> Optio
         alignment: word / 2048 % 256,
     };
     let kind = nodes[4 * i];
-    let run = add_room(kind, run, x, numbers, c)?;
     Some(Open {
         container: i,
         kind,
         stop: i + nodes[4 * i + 3] as usize,
         next: o.next,
-        run,
+        run: add_room(kind, run, x, numbers, c)?,
     })
 }
 
@@ -216,11 +215,9 @@ fn step(sizes: &[u8; 24], nodes: &[u64], o: Open, numbers: &mut [u64]) -> Option
     let j = o.next;
     let kind = nodes[4 * j];
     if kind < PRIMITIVES {
-        let x = code_room(sizes, kind as usize)?;
-        let run = add_room(o.kind, o.run, x, numbers, j)?;
         return Some(Open {
             next: j + 1,
-            run,
+            run: add_room(o.kind, o.run, code_room(sizes, kind as usize)?, numbers, j)?,
             ..o
         });
     }
@@ -230,9 +227,11 @@ fn step(sizes: &[u8; 24], nodes: &[u64], o: Open, numbers: &mut [u64]) -> Option
         }
         return None;
     };
-    let next = j + nodes[4 * j + 3] as usize;
-    let run = add_room(o.kind, o.run, x, numbers, j)?;
-    Some(Open { next, run, ..o })
+    Some(Open {
+        next: j + nodes[4 * j + 3] as usize,
+        run: add_room(o.kind, o.run, x, numbers, j)?,
+        ..o
+    })
 }
 
 // What the whole tree takes, whose root is entered, in one pass that makes no calls for what is nested; or else up to which node it is known that none is a

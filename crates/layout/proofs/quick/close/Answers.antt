@@ -40,7 +40,7 @@ returns c =
     let p = c.requires.2 in
     let i = outer-index g p in
     let w = c.args.nodes.now in (
-      walking-close g p c.requires.1 (c.in_ok-x.ensures) (outer-added g p (c.in_ok-run.ensures)) i (ap (λ (c : ℕ). kind_at w (4 * c)) i)
+      walking-close g p c.requires.1 (c.in_ok-x.ensures) (outer-added g p (c.in_ok-add_room.ensures)) i (ap (λ (c : ℕ). kind_at w (4 * c)) i)
           (ap (λ (c : ℕ). c + count_at w (4 * c)) i) refl refl,
       refl,
       (outer-within g p i).0,
