@@ -339,10 +339,6 @@ module _ {row w : List ℕ} {k first total : ℕ} {entry : List ℕ} where
 
 -- ---- Nodes that hold something inside.
 
-stored-zero : stored 0 ≡ 0
-unfolding stored
-stored-zero = refl
-
 pub no-offsets : (m : Widths) (k : Side) (e : ℕ) (s w : List ℕ) (n at : ℕ) → n ≤ 0 → offsets m k e (trees s w n at) ≡ []
 unfolding offsets
 no-offsets m k e s w n at h = ap (offsets m k e) (no-trees s w n at h)

@@ -387,19 +387,3 @@ module _ {row w numbers : List ℕ} {o : Open} (g : Walking row w numbers o) (h 
 
 abbrev pub rank : List ℕ → Open → ℕ
 rank w o = (count_at w 0 - o.next) * 2048 + o.container
-
-module _ {row w after : List ℕ} (o : Open) {r : Open} where
-  pub stepped : Walking row w after r × (o.next < r.next) → rank w r < rank w o
-  stepped h =
-      let b = walking-within h.0 in
-      let f = h.0.few in
-      let n = h.1 in
-      omega arith
-
-  pub closed : Walking row w after r × (r.next ≡ o.next) × (r.container < o.container) → rank w r < rank w o
-  closed h =
-      let b = walking-within h.0 in
-      let f = h.0.few in
-      let n = h.1 in
-      let c = h.2 in
-      omega arith
