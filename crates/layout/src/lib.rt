@@ -10,6 +10,7 @@ mod find;
 mod place;
 mod quick;
 mod taken;
+mod tree;
 
 use kinds::{ROWS, Refusal, SIZES};
 use quick::nodes_layout;

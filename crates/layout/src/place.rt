@@ -11,6 +11,7 @@ ghost use Rattle.layout.specs.Placing.{within_limit, finished, fitted_at, answer
 ghost use Rattle.layout.specs.Walking.{Sought};
 
 use super::find::{Found, find};
+use super::tree::Tree;
 use super::{LaidOut, STRING, part_kind};
 use helper::Measured;
 use kinds::{ARRAY, ATOMIC, POINTER, PRIMITIVES, Refusal, STRUCT, UNION};
@@ -331,34 +332,28 @@ pub(crate) fn finish(whole: Placed, numbers: &[u64], limit: u64, offsets: &mut [
     }
 }
 
-// The layout of the `n` nodes of a tree in which each laid-out node has a size. Nothing is written before it is known that there is a layout: the numbers
-// are gathered in another list.
-fn lay_out(sizes: &[u8; 24], nodes: &[u64], n: usize, limit: u64, offsets: &mut [u64]) -> LaidOut
-    requires { NodeAt nodes.now 0 × (count_at nodes.now 0 ≡ n) × (n ≤ 2001) × (n ≤ length offsets.old) }
-    ensures answers { (m : Widths) → RowOf sizes.now m → (s : List ℕ) → result ≡ fitted_at m s nodes.now limit }
-    ensures fills { (m : Widths) → RowOf sizes.now m → (s : List ℕ) → offsets.new ≡ list_at m s nodes.now limit offsets.old }
+// The layout of a tree in which each laid-out node has a size. Nothing is written before it is known that there is a layout: the numbers are gathered in
+// another list.
+fn lay_out(tree: Tree, offsets: &mut [u64]) -> LaidOut
+    requires { tree.n ≤ length offsets.old }
+    ensures answers { (m : Widths) → RowOf tree.entry.sizes.now m → (s : List ℕ) → result ≡ fitted_at m s tree.entry.nodes.now tree.entry.limit }
+    ensures fills { (m : Widths) → RowOf tree.entry.sizes.now m → (s : List ℕ) → offsets.new ≡ list_at m s tree.entry.nodes.now tree.entry.limit offsets.old }
 {
+    let n = tree.n;
     let mut numbers = [0u64; 2001];
-    let whole = place(sizes, &nodes[0..], 0, &mut numbers[0..n]);
-    finish(whole, &numbers[0..n], limit, offsets)
+    let whole = place(tree.sizes, tree.nodes, 0, &mut numbers[0..n]);
+    finish(whole, &numbers[0..n], tree.limit, offsets)
 }
 
 // The layout of any tree, in two passes: whether there is one, which is known of the nodes before `from`, then its numbers.
-pub(crate) fn lay_out_any(
-    sizes: &[u8; 24],
-    nodes: &[u64],
-    from: usize,
-    n: usize,
-    limit: u64,
-    offsets: &mut [u64],
-) -> LaidOut
-    requires { NodeAt nodes.now 0 × (count_at nodes.now 0 ≡ n) × (n ≤ 2001) × (n ≤ length offsets.old) × Sought sizes.now nodes.now n from false false }
-    ensures answers { (m : Widths) → RowOf sizes.now m → (s : List ℕ) → result ≡ answer_at m s nodes.now limit }
-    ensures fills { (m : Widths) → RowOf sizes.now m → (s : List ℕ) → offsets.new ≡ list_for m s nodes.now limit offsets.old }
+pub(crate) fn lay_out_any(tree: Tree, from: usize, offsets: &mut [u64]) -> LaidOut
+    requires { (tree.n ≤ length offsets.old) × Sought tree.sizes.now tree.nodes.now tree.n from false false }
+    ensures answers { (m : Widths) → RowOf tree.entry.sizes.now m → (s : List ℕ) → result ≡ answer_at m s tree.entry.nodes.now tree.entry.limit }
+    ensures fills { (m : Widths) → RowOf tree.entry.sizes.now m → (s : List ℕ) → offsets.new ≡ list_for m s tree.entry.nodes.now tree.entry.limit offsets.old }
 {
-    match find(sizes, &nodes[0..], from, n) {
+    match find(tree.sizes, tree.nodes, from, tree.n) {
         Found::BitField(i) => LaidOut::Refused(Refusal::BitFieldInLayout(i)),
         Found::Nothing => LaidOut::Nothing,
-        Found::Sized => lay_out(sizes, &nodes[0..], n, limit, offsets),
+        Found::Sized => lay_out(tree, offsets),
     }
 }

@@ -11,6 +11,7 @@ ghost use Rattle.layout.specs.Placing.{Zeros, answer_at, list_for};
 ghost use Rattle.layout.specs.Walking.{Sought, IsPower, Powers, most, PlainRoom, SimpleRoom, EndedRoom, AddedRoom, Enters, Walking, Settled};
 
 use super::place::{Placed, finish, lay_out_any};
+use super::tree::Tree;
 use super::{LaidOut, STRING, part_kind};
 use helper::{Measured, max_size};
 use kinds::{ARRAY, ATOMIC, POINTER, PRIMITIVES, ROWS, Refusal, SIZES, STRUCT, UNION};
@@ -236,15 +237,17 @@ fn step(sizes: &[u8; 24], nodes: &[u64], o: Open, numbers: &mut [u64]) -> Option
 
 // What the whole tree takes, whose root is entered, in one pass that makes no calls for what is nested; or else up to which node it is known that none is a
 // bitfield or has no size.
-fn walk(sizes: &[u8; 24], nodes: &[u64], n: usize, numbers: &mut [u64]) -> Result<Room, usize>
-    requires { Powers sizes.now × NodeAt nodes.now 0 × Enters nodes.now 0 × (count_at nodes.now 0 ≡ n) × (n ≤ 2001) × (length numbers.old ≡ n) × Zeros numbers.old 0 n }
-    ensures settles { IfOk result (Settled sizes.now nodes.now numbers.new) }
-    ensures passed { IfErr result (λ from. Sought sizes.now nodes.now n from false false) }
+fn walk(tree: Tree, numbers: &mut [u64]) -> Result<Room, usize>
+    requires { Powers tree.sizes.now × Enters tree.nodes.now 0 × (length numbers.old ≡ tree.n) × Zeros numbers.old 0 tree.n }
+    ensures settles { IfOk result (Settled tree.entry.sizes.now tree.entry.nodes.now numbers.new) }
+    ensures passed { IfErr result (λ from. Sought tree.entry.sizes.now tree.entry.nodes.now tree.entry.n from false false) }
 {
+    let sizes = tree.sizes;
+    let nodes = tree.nodes;
     let mut o = Open {
         container: 0,
         kind: nodes[0],
-        stop: n,
+        stop: tree.n,
         next: 1,
         run: Room::new(),
     };
@@ -262,85 +265,67 @@ fn walk(sizes: &[u8; 24], nodes: &[u64], n: usize, numbers: &mut [u64]) -> Resul
 
 // What the whole tree takes, where it is small, each laid-out node has a size and none is a bitfield; the numbers of its nodes are put into the list. Or else
 // up to which node that is known.
-fn quick_room(sizes: &[u8; 24], nodes: &[u64], n: usize, numbers: &mut [u64]) -> Result<Room, usize>
-    requires { Powers sizes.now × NodeAt nodes.now 0 × (count_at nodes.now 0 ≡ n) × (n ≤ 2001) × (length numbers.old ≡ n) × Zeros numbers.old 0 n }
-    ensures settles { IfOk result (Settled sizes.now nodes.now numbers.new) }
-    ensures passed { IfErr result (λ from. Sought sizes.now nodes.now n from false false) }
+fn quick_room(tree: Tree, numbers: &mut [u64]) -> Result<Room, usize>
+    requires { Powers tree.sizes.now × (length numbers.old ≡ tree.n) × Zeros numbers.old 0 tree.n }
+    ensures settles { IfOk result (Settled tree.entry.sizes.now tree.entry.nodes.now numbers.new) }
+    ensures passed { IfErr result (λ from. Sought tree.entry.sizes.now tree.entry.nodes.now tree.entry.n from false false) }
 {
-    if enters(nodes, 0) {
-        return walk(sizes, nodes, n, numbers);
+    if enters(tree.nodes, 0) {
+        return walk(tree, numbers);
     }
-    simple_room(sizes, nodes, 0).ok_or(0)
+    simple_room(tree.sizes, tree.nodes, 0).ok_or(0)
 }
 
 // The layout of any tree, by the quick walk where that comes to the end. The numbers are gathered in another list, which has 0 throughout.
-fn lay_out_quick(
-    sizes: &[u8; 24],
-    nodes: &[u64],
-    n: usize,
-    limit: u64,
-    numbers: &mut [u64],
-    offsets: &mut [u64],
-) -> LaidOut
-    requires { Powers sizes.now × NodeAt nodes.now 0 × (count_at nodes.now 0 ≡ n) × (n ≤ 2001) × (n ≤ length offsets.old) × (length numbers.old ≡ n) × Zeros numbers.old 0 n }
-    ensures answers { (m : Widths) → RowOf sizes.now m → (s : List ℕ) → result ≡ answer_at m s nodes.now limit }
-    ensures fills { (m : Widths) → RowOf sizes.now m → (s : List ℕ) → offsets.new ≡ list_for m s nodes.now limit offsets.old }
+fn lay_out_quick(tree: Tree, numbers: &mut [u64], offsets: &mut [u64]) -> LaidOut
+    requires { Powers tree.sizes.now × (tree.n ≤ length offsets.old) × (length numbers.old ≡ tree.n) × Zeros numbers.old 0 tree.n }
+    ensures answers { (m : Widths) → RowOf tree.entry.sizes.now m → (s : List ℕ) → result ≡ answer_at m s tree.entry.nodes.now tree.entry.limit }
+    ensures fills { (m : Widths) → RowOf tree.entry.sizes.now m → (s : List ℕ) → offsets.new ≡ list_for m s tree.entry.nodes.now tree.entry.limit offsets.old }
 {
-    match quick_room(sizes, nodes, n, numbers) {
-        Err(from) => lay_out_any(sizes, &nodes[0..], from, n, limit, offsets),
+    match quick_room(tree, numbers) {
+        Err(from) => lay_out_any(tree, from, offsets),
         Ok(x) => {
             let whole = Placed {
                 bytes: Measured::Bytes(x.bytes),
                 alignment: x.alignment as u8,
                 fits: true,
             };
-            finish(whole, &numbers[0..], limit, offsets)
+            finish(whole, &numbers[0..], tree.limit, offsets)
         }
     }
 }
 
 // The layout by a list of `N` numbers, of which no more is cleared than the size of the tree wants.
-fn lay_out_in<const N: usize>(
-    sizes: &[u8; 24],
-    nodes: &[u64],
-    n: usize,
-    limit: u64,
-    offsets: &mut [u64],
-) -> LaidOut
-    requires { Powers sizes.now × NodeAt nodes.now 0 × (count_at nodes.now 0 ≡ n) × (n ≤ N) × (N ≤ 2001) × (n ≤ length offsets.old) }
-    ensures answers { (m : Widths) → RowOf sizes.now m → (s : List ℕ) → result ≡ answer_at m s nodes.now limit }
-    ensures fills { (m : Widths) → RowOf sizes.now m → (s : List ℕ) → offsets.new ≡ list_for m s nodes.now limit offsets.old }
+fn lay_out_in<const N: usize>(tree: Tree, offsets: &mut [u64]) -> LaidOut
+    requires { Powers tree.sizes.now × (tree.n ≤ N) × (N ≤ 2001) × (tree.n ≤ length offsets.old) }
+    ensures answers { (m : Widths) → RowOf tree.entry.sizes.now m → (s : List ℕ) → result ≡ answer_at m s tree.entry.nodes.now tree.entry.limit }
+    ensures fills { (m : Widths) → RowOf tree.entry.sizes.now m → (s : List ℕ) → offsets.new ≡ list_for m s tree.entry.nodes.now tree.entry.limit offsets.old }
 {
     let mut numbers = [0u64; N];
     let numbers = &mut numbers[..];
-    lay_out_quick(sizes, nodes, n, limit, &mut numbers[0..n], offsets)
+    lay_out_quick(tree, &mut numbers[0..tree.n], offsets)
 }
 
-// The layout of the `n` nodes of a tree.
-fn lay_out_nodes(
-    sizes: &[u8; 24],
-    nodes: &[u64],
-    n: usize,
-    limit: u64,
-    offsets: &mut [u64],
-) -> LaidOut
-    requires { Powers sizes.now × NodeAt nodes.now 0 × (count_at nodes.now 0 ≡ n) × (n ≤ 2001) × (n ≤ length offsets.old) }
-    ensures answers { (m : Widths) → RowOf sizes.now m → (s : List ℕ) → result ≡ answer_at m s nodes.now limit }
-    ensures fills { (m : Widths) → RowOf sizes.now m → (s : List ℕ) → offsets.new ≡ list_for m s nodes.now limit offsets.old }
+// The layout of a tree.
+fn lay_out_nodes(tree: Tree, offsets: &mut [u64]) -> LaidOut
+    requires { Powers tree.sizes.now × (tree.n ≤ length offsets.old) }
+    ensures answers { (m : Widths) → RowOf tree.entry.sizes.now m → (s : List ℕ) → result ≡ answer_at m s tree.entry.nodes.now tree.entry.limit }
+    ensures fills { (m : Widths) → RowOf tree.entry.sizes.now m → (s : List ℕ) → offsets.new ≡ list_for m s tree.entry.nodes.now tree.entry.limit offsets.old }
 {
+    let n = tree.n;
     if n <= 32 {
-        return lay_out_in::<32>(sizes, nodes, n, limit, offsets);
+        return lay_out_in::<32>(tree, offsets);
     }
     if n <= 128 {
-        return lay_out_in::<128>(sizes, nodes, n, limit, offsets);
+        return lay_out_in::<128>(tree, offsets);
     }
     if n <= 512 {
-        return lay_out_in::<512>(sizes, nodes, n, limit, offsets);
+        return lay_out_in::<512>(tree, offsets);
     }
     if n <= 1024 {
-        return lay_out_in::<1024>(sizes, nodes, n, limit, offsets);
+        return lay_out_in::<1024>(tree, offsets);
     }
-    lay_out_in::<2001>(sizes, nodes, n, limit, offsets)
+    lay_out_in::<2001>(tree, offsets)
 }
 
 // The layout in a row of the tree of the nodes.
@@ -357,5 +342,12 @@ pub(crate) fn nodes_layout(row: u64, nodes: &[u64], n: usize, offsets: &mut [u64
     }
     let table = SIZES;
     let sizes = &table[row as usize];
-    lay_out_nodes(sizes, &nodes[0..], n, max_size(row), offsets)
+    let limit = max_size(row);
+    let tree = Tree {
+        sizes,
+        nodes,
+        n,
+        limit,
+    };
+    lay_out_nodes(tree, offsets)
 }

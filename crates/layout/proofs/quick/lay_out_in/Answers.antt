@@ -1,9 +1,8 @@
-use native.Mathlib.Omega.{arith}
 use Rattle.layout.proofs.AnswerLaws.{zeros-lent}
 use Rattle.layout.proofs.quick.lay_out_in.Goals as goal
 
 pub lay_out_quick-requires : goal.lay_out_quick-requires
 lay_out_quick-requires g c =
     let p = c.requires in
-    let z = zeros-lent _ c.args.n p.3 in
-    (p.0, p.1, p.2, omega arith, p.5, z.0, z.1)
+    let z = zeros-lent _ c.args.tree.n p.1 in
+    (p.0, p.3, z.0, z.1)

@@ -9,11 +9,12 @@ returns-in-Ok c =
     let a = c.args in
     let g = c.in-Ok.ensures.settles in
     let f = rw whole at c.finish.ensures in
-    let n = c.requires.1.some-node in
-    let w = a.nodes.now in record {
-      answers = λ m o s. answer-by m s w a.limit refl (g.sized m o s)
-          (walked-answer m s w _ refl (omega arith) g.first _ g.long g.zeros _ (g.laid.below m o s) a.limit (omega arith) f.answers);
-      fills = λ m o s. list-by m s w a.limit refl (g.sized m o s) a.offsets.now
-          (walked-list m s w _ refl (omega arith) g.first _ g.long g.zeros _ (g.laid.below m o s) a.limit (omega arith) a.offsets.now f.fills
+    let t = a.tree in
+    let n = t.stands.some-node in
+    let w = t.nodes.now in record {
+      answers = λ m o s. answer-by m s w t.limit refl (g.sized m o s)
+          (walked-answer m s w _ refl (omega arith) g.first _ g.long g.zeros _ (g.laid.below m o s) t.limit (omega arith) f.answers);
+      fills = λ m o s. list-by m s w t.limit refl (g.sized m o s) a.offsets.now
+          (walked-list m s w _ refl (omega arith) g.first _ g.long g.zeros _ (g.laid.below m o s) t.limit (omega arith) a.offsets.now f.fills
           ∙ listed m s w _ _);
     }

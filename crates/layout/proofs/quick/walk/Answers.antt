@@ -9,15 +9,16 @@ use Rattle.layout.proofs.quick.walk.Goals as goal
 pub loop-o-init : goal.loop-o-init
 loop-o-init c =
     let p = c.requires in
-    let e = p.3 in
-    walking-first p.1 p.2 (omega arith) (p.5 ∙ sym e) (λ k h. p.6 k (omega arith)) refl refl (sym e) refl c.new.ensures.0 c.new.ensures.1
+    let t = c.args.tree in
+    let e = t.counted in
+    walking-first t.stands p.1 (omega arith) (p.2 ∙ sym e) (λ k h. p.3 k (omega arith)) refl refl (sym e) refl c.new.ensures.0 c.new.ensures.1
 
 pub returns-then-o-eq0-clause-settles : goal.returns-then-o-eq0-clause-settles
 returns-then-o-eq0-clause-settles c =
     IfOk-from_ok_or _ _ _ c.ok_or-then-o-eq0.ensures.value
-    (IfSome_then _ c.ended_room.ensures (λ x q. walking-end c.loop-o.invariant c.if-from-o.false c.if-o-eq0.true (ended-as c.args.nodes.now c.if-o-eq0.true q)))
+    (IfSome_then _ c.ended_room.ensures (λ x q. walking-end c.loop-o.invariant c.if-from-o.false c.if-o-eq0.true (ended-as c.args.tree.nodes.now c.if-o-eq0.true q)))
 
 pub returns-then-o-eq0-clause-passed : goal.returns-then-o-eq0-clause-passed
 returns-then-o-eq0-clause-passed c =
-    let a = c.args in
-    IfErr-from_ok_or _ _ _ c.ok_or-then-o-eq0.ensures.value (sought-first a.sizes.now a.nodes.now a.n c.requires.1 c.requires.3)
+    let t = c.args.tree in
+    IfErr-from_ok_or _ _ _ c.ok_or-then-o-eq0.ensures.value (sought-first t.sizes.now t.nodes.now t.n t.stands t.counted)
