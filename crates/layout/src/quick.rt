@@ -238,7 +238,7 @@ fn step(sizes: &[u8; 24], nodes: &[u64], o: Open, numbers: &mut [u64]) -> Option
 // What the whole tree takes, whose root is entered, in one pass that makes no calls for what is nested; or else up to which node it is known that none is a
 // bitfield or has no size.
 fn walk(tree: Tree, numbers: &mut [u64]) -> Result<Room, usize>
-    requires { Powers tree.sizes.now × Enters tree.nodes.now 0 × (length numbers.old ≡ tree.n) × Zeros numbers.old 0 tree.n }
+    requires { Enters tree.nodes.now 0 × (length numbers.old ≡ tree.n) × Zeros numbers.old 0 tree.n }
     ensures settles { IfOk result (Settled tree.entry.sizes.now tree.entry.nodes.now numbers.new) }
     ensures passed { IfErr result (λ from. Sought tree.entry.sizes.now tree.entry.nodes.now tree.entry.n from false false) }
 {
@@ -266,7 +266,7 @@ fn walk(tree: Tree, numbers: &mut [u64]) -> Result<Room, usize>
 // What the whole tree takes, where it is small, each laid-out node has a size and none is a bitfield; the numbers of its nodes are put into the list. Or else
 // up to which node that is known.
 fn quick_room(tree: Tree, numbers: &mut [u64]) -> Result<Room, usize>
-    requires { Powers tree.sizes.now × (length numbers.old ≡ tree.n) × Zeros numbers.old 0 tree.n }
+    requires { (length numbers.old ≡ tree.n) × Zeros numbers.old 0 tree.n }
     ensures settles { IfOk result (Settled tree.entry.sizes.now tree.entry.nodes.now numbers.new) }
     ensures passed { IfErr result (λ from. Sought tree.entry.sizes.now tree.entry.nodes.now tree.entry.n from false false) }
 {
@@ -278,7 +278,7 @@ fn quick_room(tree: Tree, numbers: &mut [u64]) -> Result<Room, usize>
 
 // The layout of any tree, by the quick walk where that comes to the end. The numbers are gathered in another list, which has 0 throughout.
 fn lay_out_quick(tree: Tree, numbers: &mut [u64], offsets: &mut [u64]) -> LaidOut
-    requires { Powers tree.sizes.now × (tree.n ≤ length offsets.old) × (length numbers.old ≡ tree.n) × Zeros numbers.old 0 tree.n }
+    requires { (tree.n ≤ length offsets.old) × (length numbers.old ≡ tree.n) × Zeros numbers.old 0 tree.n }
     ensures answers { (m : Widths) → RowOf tree.entry.sizes.now m → (s : List ℕ) → result ≡ answer_at m s tree.entry.nodes.now tree.entry.limit }
     ensures fills { (m : Widths) → RowOf tree.entry.sizes.now m → (s : List ℕ) → offsets.new ≡ list_for m s tree.entry.nodes.now tree.entry.limit offsets.old }
 {
@@ -297,7 +297,7 @@ fn lay_out_quick(tree: Tree, numbers: &mut [u64], offsets: &mut [u64]) -> LaidOu
 
 // The layout by a list of `N` numbers, of which no more is cleared than the size of the tree wants.
 fn lay_out_in<const N: usize>(tree: Tree, offsets: &mut [u64]) -> LaidOut
-    requires { Powers tree.sizes.now × (tree.n ≤ N) × (N ≤ 2001) × (tree.n ≤ length offsets.old) }
+    requires { (tree.n ≤ N) × (N ≤ 2001) × (tree.n ≤ length offsets.old) }
     ensures answers { (m : Widths) → RowOf tree.entry.sizes.now m → (s : List ℕ) → result ≡ answer_at m s tree.entry.nodes.now tree.entry.limit }
     ensures fills { (m : Widths) → RowOf tree.entry.sizes.now m → (s : List ℕ) → offsets.new ≡ list_for m s tree.entry.nodes.now tree.entry.limit offsets.old }
 {
@@ -308,24 +308,17 @@ fn lay_out_in<const N: usize>(tree: Tree, offsets: &mut [u64]) -> LaidOut
 
 // The layout of a tree.
 fn lay_out_nodes(tree: Tree, offsets: &mut [u64]) -> LaidOut
-    requires { Powers tree.sizes.now × (tree.n ≤ length offsets.old) }
+    requires { tree.n ≤ length offsets.old }
     ensures answers { (m : Widths) → RowOf tree.entry.sizes.now m → (s : List ℕ) → result ≡ answer_at m s tree.entry.nodes.now tree.entry.limit }
     ensures fills { (m : Widths) → RowOf tree.entry.sizes.now m → (s : List ℕ) → offsets.new ≡ list_for m s tree.entry.nodes.now tree.entry.limit offsets.old }
 {
-    let n = tree.n;
-    if n <= 32 {
-        return lay_out_in::<32>(tree, offsets);
+    match tree.n {
+        ..=32 => lay_out_in::<32>(tree, offsets),
+        ..=128 => lay_out_in::<128>(tree, offsets),
+        ..=512 => lay_out_in::<512>(tree, offsets),
+        ..=1024 => lay_out_in::<1024>(tree, offsets),
+        _ => lay_out_in::<2001>(tree, offsets),
     }
-    if n <= 128 {
-        return lay_out_in::<128>(tree, offsets);
-    }
-    if n <= 512 {
-        return lay_out_in::<512>(tree, offsets);
-    }
-    if n <= 1024 {
-        return lay_out_in::<1024>(tree, offsets);
-    }
-    lay_out_in::<2001>(tree, offsets)
 }
 
 // The layout in a row of the tree of the nodes.

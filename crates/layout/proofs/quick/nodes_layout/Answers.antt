@@ -21,9 +21,8 @@ returns-then-offsets-n c = let a = c.args in record {
       (subst (λ n. length a.offsets.now < n) (sym (trees-count s a.nodes.now a.n 0)) c.if-offsets-n.true)).1;
 }
 
-pub lay_out_nodes-requires : goal.lay_out_nodes-requires
-lay_out_nodes-requires c =
-    (table-powers c.args.row c.if-row-ge-ROWS.false, c.if-offsets-n.false)
+pub invariant_of-tree-clause-powers : goal.invariant_of-tree-clause-powers
+invariant_of-tree-clause-powers c = table-powers c.args.row c.if-row-ge-ROWS.false
 
 pub returns : goal.returns
 returns c = let a = c.args in

@@ -8,7 +8,7 @@ pub returns-clause-settles : goal.returns-clause-settles
 returns-clause-settles c =
     let p = c.requires in
     let t = c.args.tree in
-    IfOk-from_ok_or _ _ _ c.ok_or.ensures.value (IfSome_then _ c.simple_room.ensures (λ x q. quick-settled t.stands t.counted p.1 p.2 q))
+    IfOk-from_ok_or _ _ _ c.ok_or.ensures.value (IfSome_then _ c.simple_room.ensures (λ x q. quick-settled t.stands t.counted p.0 p.1 q))
 
 pub returns-clause-passed : goal.returns-clause-passed
 returns-clause-passed c =

@@ -11,7 +11,7 @@ loop-o-init c =
     let p = c.requires in
     let t = c.args.tree in
     let e = t.counted in
-    walking-first t.stands p.1 (omega arith) (p.2 ∙ sym e) (λ k h. p.3 k (omega arith)) refl refl (sym e) refl c.new.ensures.0 c.new.ensures.1
+    walking-first t.stands p.0 (omega arith) (p.1 ∙ sym e) (λ k h. p.2 k (omega arith)) refl refl (sym e) refl c.new.ensures.0 c.new.ensures.1
 
 pub returns-then-o-eq0-clause-settles : goal.returns-then-o-eq0-clause-settles
 returns-then-o-eq0-clause-settles c =
