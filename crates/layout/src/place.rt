@@ -262,12 +262,11 @@ pub(crate) fn place(sizes: &[u8; 24], nodes: &[u64], i: usize, offsets: &mut [u6
     let mut run = Placed::new();
     // the cursor moves by a node's count, which is no step of an iterator
     while 0 < left {
-        let mut x = Placed::new();
-        if is_simple(nodes, 4 * j) {
-            x = simple(sizes, nodes, 4 * j);
+        let x = if is_simple(nodes, 4 * j) {
+            simple(sizes, nodes, 4 * j)
         } else {
-            x = place(sizes, &nodes[0..], j, offsets);
-        }
+            place(sizes, nodes, j, offsets)
+        };
         // one call for both, so that the compiler puts it into the loop
         run = add_field(run, kind, x, offsets, j);
         // read only here, so that nothing of it is kept over the call

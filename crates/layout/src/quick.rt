@@ -290,7 +290,7 @@ fn lay_out_quick(tree: Tree, numbers: &mut [u64], offsets: &mut [u64]) -> LaidOu
                 alignment: x.alignment as u8,
                 fits: true,
             };
-            finish(whole, &numbers[0..], tree.limit, offsets)
+            finish(whole, numbers, tree.limit, offsets)
         }
     }
 }

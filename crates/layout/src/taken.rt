@@ -57,6 +57,6 @@ pub(crate) fn nodes_extents(row: u64, nodes: &[u64], n: usize, list: &mut [u64])
     }
     let table = SIZES;
     let sizes = &table[row as usize];
-    put_rooms(sizes, &nodes[0..], n, max_size(row), list);
+    put_rooms(sizes, nodes, n, max_size(row), list);
     true
 }

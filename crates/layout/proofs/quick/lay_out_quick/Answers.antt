@@ -1,14 +1,13 @@
 use Rattle.layout.proofs.AnswerLaws.{walked-answer, walked-list, answer-by, list-by, listed}
 use native.Mathlib.Omega.{arith}
 use mathlib.Core.Path.{refl, ◌∙◌}
-use Rattle.kinds.proofs.ListLaws.{whole}
 use Rattle.layout.proofs.quick.lay_out_quick.Goals as goal
 
 pub returns-in-Ok : goal.returns-in-Ok
 returns-in-Ok c =
     let a = c.args in
     let g = c.in-Ok.ensures.settles in
-    let f = rw whole at c.finish.ensures in
+    let f = c.finish.ensures in
     let t = a.tree in
     let n = t.stands.some-node in
     let w = t.nodes.now in record {
