@@ -11,7 +11,7 @@ use kinds::{
     ARRAY, ATOMIC, BIT_FIELD, NestingLevel, POINTER, PRIMITIVES, STRUCT, TYPED_BIT_FIELD, UNION,
 };
 
-// What a pass over the laid-out nodes finds: the first bitfield, that one has no size, or neither.
+// What a pass over the laid-out nodes finds: the first bitfield, that one has no size, or neither. Three answers by name: an Option in a Result is no plainer.
 #[derive(Clone, Copy)]
 pub(crate) enum Found {
     BitField(usize),
@@ -26,7 +26,7 @@ fn is_bit_field(kind: u64) -> bool
 }
 
 // Whether a laid-out node has no size of its own; `bottom` says whether it stands at the bottom level.
-#[tactic(auto, using(std::proofs::lemmas::Bool::Decides::nat_tests), unfolding(crate::specs::Placing::sizeless_kind))]
+#[tactic(auto, unfolding(crate::specs::Placing::sizeless_kind))]
 fn is_sizeless(sizes: &[u8; 24], kind: u64, count: usize, bottom: bool) -> bool
     ensures { result ≡ sizeless_kind sizes.now kind count bottom }
 {
@@ -40,7 +40,7 @@ fn is_sizeless(sizes: &[u8; 24], kind: u64, count: usize, bottom: bool) -> bool
 }
 
 // Whether the nodes below a node are not laid out: those behind a pointer, and the fields of a container at bottom.
-#[tactic(auto, using(std::proofs::lemmas::Bool::Decides::nat_tests), unfolding(crate::specs::Placing::passes_kind))]
+#[tactic(auto, unfolding(crate::specs::Placing::passes_kind))]
 fn passes(kind: u64, bottom: bool) -> bool
     ensures { result ≡ passes_kind kind bottom }
 {
@@ -49,7 +49,7 @@ fn passes(kind: u64, bottom: bool) -> bool
 
 // Whether the next laid-out node stands at the bottom level: what an atomic holds, and an array's item where the array does. After a node that holds nothing
 // inside comes a field of some container, and fields that are laid out are never at bottom.
-#[tactic(auto, using(std::proofs::lemmas::Bool::Decides::nat_tests), unfolding(crate::specs::Placing::bottom_after))]
+#[tactic(auto, unfolding(crate::specs::Placing::bottom_after))]
 fn bottom_after(kind: u64, bottom: bool) -> bool
     ensures { result ≡ bottom_after kind bottom }
 {

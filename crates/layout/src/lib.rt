@@ -34,7 +34,7 @@ pub enum LaidOut {
 }
 
 // The kind of a complex number's part, or the primitive's own.
-#[tactic(auto, using(std::proofs::lemmas::Bool::Decides::nat_tests), unfolding(crate::specs::Placing::part_kind))]
+#[tactic(auto, unfolding(crate::specs::Placing::part_kind))]
 fn part_kind(kind: usize) -> usize
     ensures { result ≡ part_kind kind }
 {

@@ -78,7 +78,7 @@ fn next_multiple(n: Measured, alignment: u8) -> Measured
 }
 
 // A kind whose node holds nothing inside: a primitive, a bitfield, a pointer, None.
-#[tactic(auto, using(std::proofs::lemmas::Bool::Decides::nat_tests), unfolding(crate::specs::Placing::is_plain))]
+#[tactic(auto, unfolding(crate::specs::Placing::is_plain))]
 fn is_plain(kind: u64) -> bool
     ensures { result ≡ is_plain kind }
 {
