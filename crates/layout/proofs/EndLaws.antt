@@ -1,17 +1,14 @@
 -- Laws of the end: the limit, the copy of the numbers, and the answer for a whole tree.
-use Prim.Native.Nat.{ℕ, zero, suc, ◌+◌, ◌-◌, ◌≤◌, ◌<◌}
+use Prim.Native.Nat.{ℕ, suc, ◌+◌, ◌≤◌, ◌<◌}
 use native.Mathlib.Omega.{arith}
-use native.Mathlib.Numerals.{add-one}
 use mathlib.Core.Path.{◌≡◌, refl, ap, ap₂, sym, ◌∙◌, subst}
 use mathlib.Core.List.{List, [], ◌∷◌, ◌++◌}
 use mathlib.Core.Bool.{Bool, true, false, not, ◌&&◌, ◌||◌}
 use borrow.Author.Tests.{le-leb, eq-eqb, ne_eqb, not-true, not-false, ltb-true, ltb-false}
 use lib.Bits.{bit_or, or_add_and, and_le_l, and_le_r}
 use lib.Dec.{leb, ltb, eqb}
-use lib.ListN.{length, get_or, set, drop}
-use lib.Seq.{sets, sets-eq}
+use lib.ListN.{length, get_or, drop}
 use Rattle.kinds.specs.Parse.{max_u64}
-use Rattle.kinds.proofs.ListLaws.{unread, unread-end}
 use Rattle.kinds.specs.declared.Refusal.TheVariants.{SizeTooLarge}
 use Rattle.helper.specs.declared.Measured.{Measured}
 use Rattle.helper.specs.declared.Measured.TheVariants.{Nothing, Bytes, TooLarge}
@@ -21,15 +18,6 @@ use Rattle.std.specs.Prelude.{Some, Ok, Err}
 use Rattle.layout.specs.declared.place.Placed.{Placed}
 
 -- ---- The limit.
-
-module _ (limit : ℕ) (ns : List ℕ) (i : ℕ) where
-  pub within_more : i < length ns → all_within limit (drop i ns) ≡ (leb (get_or ns i 0) limit && all_within limit (drop (i + 1) ns))
-  unfolding all_within
-  within_more h = rw (unread ns i h)
-
-  pub within_end : length ns ≤ i → all_within limit (drop i ns) ≡ true
-  unfolding all_within
-  within_end h = rw (unread-end ns i h)
 
 pub limit-largest : (limit : ℕ) (ns : List ℕ) → limit ≡ max_u64 → true ≡ within_limit limit ns
 unfolding within_limit
@@ -53,11 +41,6 @@ limit-joined limit ns {r} h p = sym (rw (all-below limit ns (λ k. let q = h k i
     or-true true = refl
     or-true false = refl
 
-beyond : (ns : List ℕ) (k : ℕ) → length ns ≤ k → get_or ns k 0 ≡ 0
-beyond [] k h = refl
-beyond (n ∷ ns) zero h = absurd (omega arith)
-beyond (n ∷ ns) (suc k) h = beyond ns k (omega arith)
-
 -- All bits together are no less than any.
 or_above : (a b : ℕ) → (a ≤ bit_or a b) × (b ≤ bit_or a b)
 or_above a b =
@@ -76,23 +59,6 @@ module _ (ns : List ℕ) (i all : ℕ) (h : (k : ℕ) → k < i → get_or ns k 
       go : (t : Bool) → ltb k i ≡ t → get_or ns k 0 ≤ bit_or all (get_or ns i 0)
       go true e = let a = h k (ltb-true k i e) in let b = (or_above all (get_or ns i 0)).0 in omega arith
       go false e = subst (λ (j : ℕ). get_or ns j 0 ≤ bit_or all (get_or ns i 0)) (sym (here (ltb-false k i e))) (or_above all (get_or ns i 0)).1
-
-  pub joined_end : length ns ≤ i → (k : ℕ) → get_or ns k 0 ≤ all
-  joined_end p k = go (ltb k i) refl
-    where
-      go : (t : Bool) → ltb k i ≡ t → get_or ns k 0 ≤ all
-      go true e = h k (ltb-true k i e)
-      go false e = let q = ltb-false k i e in let z : get_or ns k 0 ≡ 0 = beyond ns k (omega arith) in omega arith
-
--- ---- The copy.
-
-pub copied_more : (l ns : List ℕ) (i : ℕ) → i < length ns → sets l i (drop i ns) ≡ sets (set l i (get_or ns i 0)) (i + 1) (drop (i + 1) ns)
-copied_more l ns i h = ap (sets l i) (unread ns i h) ∙ ap (λ (j : ℕ). sets (set l i (get_or ns i 0)) j (drop (i + 1) ns)) (sym (add-one i))
-
-pub copied_all : (l k ns : List ℕ) (i : ℕ) → length ns ≤ i → length ns ≤ length k → sets l i (drop i ns) ≡ sets k 0 ns → l ≡ ns ++ drop (length ns) k
-copied_all l k ns i h r e =
-    let z : 0 + length ns ≡ length ns = omega arith in
-    sym (ap (sets l i) (unread-end ns i h)) ∙ e ∙ sets-eq ns k 0 (omega arith) ∙ ap (λ (j : ℕ). ns ++ drop j k) z
 
 -- ---- The answer for a whole tree and its numbers.
 

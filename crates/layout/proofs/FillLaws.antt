@@ -11,7 +11,7 @@ use lib.Seq.{sets, set-get_or, get_or-set_other}
 use Rattle.kinds.specs.Parse.{max_u64}
 use Rattle.kinds.specs.Primitive.{Widths}
 use Rattle.kinds.specs.Sheet.{kind_at, first_at, second_at, count_at, label, label_at, trees}
-use Rattle.kinds.specs.Tree.{Trees, end, node, count, array}
+use Rattle.kinds.specs.Tree.{Trees, end, node, count}
 use Rattle.kinds.specs.Walk.{NodeAt, TreesAt}
 use Rattle.kinds.proofs.SheetLaws.{trees-step, trees-count}
 use Rattle.kinds.proofs.NodeLaws.{node-child, child-count, first_some, first-within, first-node, other-trees, no-trees, label-atomic, label-array, label-struct, label-union}
@@ -338,10 +338,6 @@ module _ {row w : List ℕ} {k first total : ℕ} {entry : List ℕ} where
           }
 
 -- ---- Nodes that hold something inside.
-
-stored-zero : stored 0 ≡ 0
-unfolding stored
-stored-zero = refl
 
 pub no-offsets : (m : Widths) (k : Side) (e : ℕ) (s w : List ℕ) (n at : ℕ) → n ≤ 0 → offsets m k e (trees s w n at) ≡ []
 unfolding offsets

@@ -1,15 +1,18 @@
 -- Laws of what small trees take, whose alignments are powers of two and whose numbers all fit.
 use Prim.Native.Nat.{ℕ, ◌+◌, ◌-◌, ◌*◌, ◌≤◌, ◌<◌, max}
 use native.Mathlib.Omega.{arith}
-use native.Mathlib.Nat.{mod-le, mul-le-mul}
+use native.Mathlib.Nat.{mul-le-mul}
 use mathlib.Core.Path.{◌≡◌, refl, ap, ap₂, sym, ◌∙◌, subst}
 use mathlib.Core.List.{List, []}
 use mathlib.Core.Bool.{Bool, true, false, cond, ◌&&◌, ◌||◌}
 use mathlib.Core.Logic.{inl, inr, ⊎_elim}
-use borrow.Author.Tests.{lt-ltb, le-ltb, ltb-true, ltb-false, ne_eqb, eqb-true, lt-leb, le-leb}
+use borrow.Author.Tests.{lt-ltb, le-ltb, ltb-true, ltb-false, ne_eqb, eqb-true, le-leb}
 use lib.Bits.{bit_and}
 use lib.Dec.{ltb, eqb}
 use lib.ListN.{get_or, set}
+use Rattle.std.proofs.Common.{Option, Some, None, Result}
+use Rattle.std.specs.Option.{IfSome, ok_or}
+use Rattle.std.specs.Result.{IfOk, IfErr}
 use Rattle.kinds.specs.Parse.{max_u64}
 use Rattle.kinds.specs.Primitive.{size_rows}
 use Rattle.kinds.specs.Sheet.{kind_at, first_at}
@@ -23,7 +26,7 @@ use Rattle.layout.specs.Placing.{next_measured, placed_of, is_plain, is_simple, 
 use Rattle.layout.specs.Walking.{IsPower, Powers, most, IsSized, PlainRoom, SimpleRoom, EndedRoom, AddedRoom}
 use Rattle.layout.specs.declared.quick.Room.{Room}
 use Rattle.layout.proofs.MultipleLaws.{mask-remainder, by-remainder, within-a-step}
-use Rattle.layout.proofs.ExtentLaws.{plus-fit, larger-fit, times-fit, placed-code, placed-pointer}
+use Rattle.layout.proofs.ExtentLaws.{plus-fit, larger-fit, times-fit, placed-code}
 
 -- ---- Powers of two.
 
@@ -31,9 +34,6 @@ module _ (a n : ℕ) (p : IsPower a) where
   -- The next multiple by a mask.
   pub mask-multiple : n + (a - 1) - bit_and (n + (a - 1)) (a - 1) ≡ next_multiple a n
   mask-multiple = rw (mask-remainder (n + (a - 1)) a p.0 p.1 p.2) (by-remainder a n)
-
-  pub mask-within : bit_and n (a - 1) ≤ n
-  mask-within = rw (mask-remainder n a p.0 p.1 p.2) (mod-le n a)
 
 -- The larger of two is one of them.
 pub power-max : (a b : ℕ) → IsPower a → IsPower b → IsPower (max a b)
@@ -78,19 +78,6 @@ table-powers row h k l p = right-power (get_or size_rows row []) k p (pass_below
 
 -- ---- Codes and pointers.
 
--- A code's part is its own where it is no complex number, and else three before it.
-pub part_low : (k : ℕ) → k < 13 → part_kind k ≡ k
-unfolding part_kind
-part_low k h = rw (lt-leb 13 k h)
-
-pub part-high : (k : ℕ) → 15 < k → part_kind k ≡ k
-unfolding part_kind
-part-high k h = rw (le-leb 13 k (omega arith), lt-leb k 15 h)
-
-pub part-complex : (k : ℕ) → 13 ≤ k → k ≤ 15 → part_kind k ≡ k - 3
-unfolding part_kind
-part-complex k h i = rw (le-leb 13 k h, le-leb k 15 i)
-
 module _ (row : List ℕ) (k : ℕ) (o : Powers row) {b : ℕ} where
   -- A code by its part.
   pub code-room : {a p : ℕ} → k < 24 → b ≡ get_or row k 0 → (b ≡ 0 → ⊥) → part_kind k ≡ p → a ≡ get_or row p 0
@@ -103,16 +90,10 @@ module _ (row : List ℕ) (k : ℕ) (o : Powers row) {b : ℕ} where
       let s = (o k h l).1 in
       record { sized = inl (h, l); power = q; small = omega arith; takes = placed-code row k (omega arith) h e (omega arith) }
 
-  -- One whose part is its own.
-  pub own_room : k < 24 → b ≡ get_or row k 0 → (b ≡ 0 → ⊥) → part_kind k ≡ k → PlainRoom row k (record { bytes = b; alignment = b })
-  own_room h e z d = code-room h e z d e
-
-  pub pointer-room : k ≡ 26 → b ≡ get_or row 18 0 → 0 < b → PlainRoom row k (record { bytes = b; alignment = b })
-  unfolding part_kind
-  pointer-room h e p =
-      let q : IsPower b = subst (λ (z : ℕ). IsPower z) (sym e) (o 18 (omega arith) (omega arith)).0 in
-      let l = q.1 in
-      record { sized = inr h; power = q; small = omega arith; takes = placed-pointer row k (omega arith) h e (omega arith) }
+-- A pointer takes what the code of a string takes.
+pub pointer-room : {row : List ℕ} {k : ℕ} {x : Room} → k ≡ 26 → PlainRoom row 18 x → PlainRoom row k x
+unfolding plain_extent part_kind
+pointer-room h p = record { sized = inr h; power = p.power; small = p.small; takes = rw h p.takes }
 
 sized-plain : (row : List ℕ) (k : ℕ) → IsSized row k → is_plain k ≡ true
 unfolding is_plain
@@ -231,21 +212,12 @@ module _ (k : ℕ) (run x : Room) (p : IsPower run.alignment) (q : IsPower x.ali
   union-room {n} h e f g d s l j =
       field_room (rw (ne_eqb k 29 h)) (rw (ne_eqb k 29 h) (larger-bytes run.bytes x.bytes (omega arith) ∙ ap Bytes (sym e))) d (g ∙ f) s l j
 
--- ---- A room, or where it is not said a number.
+-- ---- A room, or where there is none a number.
 
-pub told : (P : Room → Type 0) (Q : ℕ → Type 0) {x r : Room} {n : ℕ} → (0 < x.alignment → r ≡ x) → (x.alignment ≡ 0 → (r.alignment ≡ 0) × (r.bytes ≡ n))
-    → (0 < x.alignment → P x) → Q n → (0 < r.alignment → P r) × (r.alignment ≡ 0 → Q r.bytes)
-told P Q {x} {r} {n} said unsaid p q = go (ltb 0 x.alignment) refl
-  where
-    none : x.alignment ≤ 0 → x.alignment ≡ 0
-    none h = omega arith
+pub IfOk-from_ok_or : {A E : Type 0} (o : Option A) (e : E) (P : A → Type 0) {r : Result A E} → r ≡ ok_or o e → IfSome o P → IfOk r P
+IfOk-from_ok_or {A} {E} (Some x) e P d h = subst (λ (z : Result A E). IfOk z P) (sym d) h
+IfOk-from_ok_or {A} {E} None e P d h = subst (λ (z : Result A E). IfOk z P) (sym d) tt
 
-    go : (t : Bool) → ltb 0 x.alignment ≡ t → (0 < r.alignment → P r) × (r.alignment ≡ 0 → Q r.bytes)
-    go true e =
-        let h = ltb-true 0 x.alignment e in
-        let d : r.alignment ≡ x.alignment = ap (λ (z : Room). z.alignment) (said h) in
-        (λ g. subst P (sym (said h)) (p h), λ z. absurd (omega arith))
-    go false e =
-        let u = unsaid (none (ltb-false 0 x.alignment e)) in
-        let z = u.0 in
-        (λ g. absurd (omega arith), λ g. subst Q (sym u.1) q)
+pub IfErr-from_ok_or : {A E : Type 0} (o : Option A) (e : E) (Q : E → Type 0) {r : Result A E} → r ≡ ok_or o e → Q e → IfErr r Q
+IfErr-from_ok_or {A} {E} (Some x) e Q d h = subst (λ (z : Result A E). IfErr z Q) (sym d) tt
+IfErr-from_ok_or {A} {E} None e Q d h = subst (λ (z : Result A E). IfErr z Q) (sym d) h

@@ -3,7 +3,7 @@ use Prim.Native.Nat.{ℕ, zero, suc, ◌+◌, ◌-◌, ◌*◌, ◌≤◌, ◌<�
 use native.Mathlib.Omega.{arith}
 use mathlib.Core.Path.{◌≡◌, refl, ap, ap₂, sym, ◌∙◌}
 use mathlib.Core.List.{List, [], ◌∷◌, ◌++◌, append_assoc}
-use mathlib.Core.Bool.{Bool, true, false, cond, ◌&&◌}
+use mathlib.Core.Bool.{Bool, true, false, cond}
 use borrow.Author.Tests.{le-leb, lt-leb, leb-false}
 use lib.Dec.{leb}
 use lib.ListN.{length, drop, set, length-append}
@@ -14,7 +14,7 @@ use Rattle.kinds.specs.Sheet.{count_at, trees}
 use Rattle.kinds.specs.Tree.{Trees, end, node, count}
 use Rattle.kinds.specs.Walk.{TreesAt}
 use Rattle.kinds.specs.declared.Refusal.{Refusal}
-use Rattle.kinds.proofs.SheetLaws.{trees-step, trees-count}
+use Rattle.kinds.proofs.SheetLaws.{trees-step}
 use Rattle.kinds.proofs.NodeLaws.{node-inner, first_some, first-within, first-node, other-trees, inner-count, inner-end, no-trees}
 use Rattle.sheet.specs.Answer.{held, refused}
 use Rattle.sheet.specs.Given.{NodesAre}

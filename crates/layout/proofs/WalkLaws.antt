@@ -387,24 +387,3 @@ module _ {row w numbers : List ℕ} {o : Open} (g : Walking row w numbers o) (h 
 
 abbrev pub rank : List ℕ → Open → ℕ
 rank w o = (count_at w 0 - o.next) * 2048 + o.container
-
-some-room : {q r : Open} → q ≡ r → (q.run.alignment ≡ 0 → ⊥) → 0 < r.run.alignment
-some-room d z = subst (λ (x : Open). 0 < x.run.alignment) d (omega arith)
-
-module _ {row w now after : List ℕ} (o : Open) {r q : Open} where
-  pub stepped : (0 < r.run.alignment → Walking row w after r × (o.next < r.next)) → now ≡ after → q ≡ r → (q.run.alignment ≡ 0 → ⊥)
-      → Walking row w now q × (rank w q < rank w o)
-  stepped h e d z =
-      let g = h (some-room d z) in
-      let b = walking-within g.0 in
-      let f = g.0.few in
-      let n = g.1 in
-      subst₂ (λ (l : List ℕ) (x : Open). Walking row w l x × (rank w x < rank w o)) (sym e) (sym d) (g.0, omega arith)
-
-  pub closed : (0 < r.run.alignment → Walking row w after r × (r.next ≡ o.next) × (r.container < o.container)) → now ≡ after → q ≡ r → (q.run.alignment ≡ 0 → ⊥)
-      → Walking row w now q × (rank w q < rank w o)
-  closed h e d z =
-      let g = h (some-room d z) in
-      let n = g.1 in
-      let c = g.2 in
-      subst₂ (λ (l : List ℕ) (x : Open). Walking row w l x × (rank w x < rank w o)) (sym e) (sym d) (g.0, omega arith)

@@ -79,7 +79,7 @@ pub record Sought (row w : List ℕ) (n i : ℕ) (bottom none : Bool) : Type 0 w
   pub rest : (m : Widths) → RowOf row m → (s : List ℕ) → found_in m none (laid_from bottom i (trees s w (n - i) (4 * i)))
       ≡ found_in m false (laid_out Top 0 (trees s w n 0))
 
--- ---- Rooms: what small trees take, all numbers of which fit. Alignment 0 stands for what the quick walk leaves to the other.
+-- ---- Rooms: what small trees take, all numbers of which fit.
 
 abbrev pub room_placed : Room → Placed
 room_placed x = record { bytes = Bytes x.bytes; alignment = x.alignment; fits = true }

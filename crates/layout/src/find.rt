@@ -11,7 +11,7 @@ use kinds::{
     ARRAY, ATOMIC, BIT_FIELD, NestingLevel, POINTER, PRIMITIVES, STRUCT, TYPED_BIT_FIELD, UNION,
 };
 
-// What a pass over the laid-out nodes finds: the first bitfield, that one has no size, or neither.
+// What a pass over the laid-out nodes finds: the first bitfield, that one has no size, or neither. Three answers by name: an Option in a Result is no plainer.
 #[derive(Clone, Copy)]
 pub(crate) enum Found {
     BitField(usize),
@@ -19,25 +19,14 @@ pub(crate) enum Found {
     Sized,
 }
 
-fn either(a: bool, b: bool) -> bool
-    ensures { result ≡ (a || b) }
-{
-    if a {
-        return true;
-    }
-    b
-}
-
 fn is_bit_field(kind: u64) -> bool
     ensures { result ≡ (eqb kind 24 || eqb kind 25) }
 {
-    if kind == BIT_FIELD {
-        return true;
-    }
-    kind == TYPED_BIT_FIELD
+    kind == BIT_FIELD || kind == TYPED_BIT_FIELD
 }
 
 // Whether a laid-out node has no size of its own; `bottom` says whether it stands at the bottom level.
+#[tactic(auto, unfolding(crate::specs::Placing::sizeless_kind))]
 fn is_sizeless(sizes: &[u8; 24], kind: u64, count: usize, bottom: bool) -> bool
     ensures { result ≡ sizeless_kind sizes.now kind count bottom }
 {
@@ -47,43 +36,24 @@ fn is_sizeless(sizes: &[u8; 24], kind: u64, count: usize, bottom: bool) -> bool
     if kind < STRUCT {
         return false;
     }
-    if UNION < kind {
-        return true;
-    }
-    if bottom {
-        return true;
-    }
-    if kind == STRUCT {
-        return false;
-    }
-    count == 1
+    UNION < kind || bottom || (kind == UNION && count == 1)
 }
 
 // Whether the nodes below a node are not laid out: those behind a pointer, and the fields of a container at bottom.
+#[tactic(auto, unfolding(crate::specs::Placing::passes_kind))]
 fn passes(kind: u64, bottom: bool) -> bool
     ensures { result ≡ passes_kind kind bottom }
 {
-    if kind == POINTER {
-        return true;
-    }
-    if kind < STRUCT {
-        return false;
-    }
-    bottom
+    kind == POINTER || (STRUCT <= kind && bottom)
 }
 
 // Whether the next laid-out node stands at the bottom level: what an atomic holds, and an array's item where the array does. After a node that holds nothing
 // inside comes a field of some container, and fields that are laid out are never at bottom.
+#[tactic(auto, unfolding(crate::specs::Placing::bottom_after))]
 fn bottom_after(kind: u64, bottom: bool) -> bool
     ensures { result ≡ bottom_after kind bottom }
 {
-    if kind == ATOMIC {
-        return true;
-    }
-    if kind == ARRAY {
-        return bottom;
-    }
-    false
+    kind == ATOMIC || (kind == ARRAY && bottom)
 }
 
 // One pass over the `n` nodes of a tree, from a node on before which there is none of either, for the first bitfield that is laid out, and for a laid-out
@@ -95,12 +65,13 @@ pub(crate) fn find(sizes: &[u8; 24], nodes: &[u64], from: usize, n: usize) -> Fo
     let mut i = from;
     let mut bottom = false;
     let mut none = false;
+    // a cursor that may move by a node's count, which is no step of an iterator
     while i < n {
         let at = 4 * i;
         let kind = nodes[at];
         if kind < PRIMITIVES {
             // codes, which come in long rows, before the rest
-            none = either(none, sizes[kind as usize] == 0);
+            none |= sizes[kind as usize] == 0;
             bottom = false;
             i += 1;
             continue;
@@ -109,7 +80,7 @@ pub(crate) fn find(sizes: &[u8; 24], nodes: &[u64], from: usize, n: usize) -> Fo
             return Found::BitField(i);
         }
         let count = nodes[at + 3] as usize;
-        none = either(none, is_sizeless(sizes, kind, count, bottom));
+        none |= is_sizeless(sizes, kind, count, bottom);
         if passes(kind, bottom) {
             bottom = false;
             i += count;

@@ -10,6 +10,7 @@ mod find;
 mod place;
 mod quick;
 mod taken;
+mod tree;
 
 use kinds::{ROWS, Refusal, SIZES};
 use quick::nodes_layout;
@@ -24,27 +25,23 @@ const FLOAT_COMPLEX: usize = 13;
 
 const LONG_DOUBLE_COMPLEX: usize = 15;
 
-fn wide(x: u8) -> u64
-    ensures { result ≡ x }
-{
-    x as u64
-}
+// What `layout` answers: a padded size with its alignment, none, or why not.
+pub type LaidOut = Result<Option<(u64, u64)>, Refusal>;
 
 // The kind of a complex number's part, or the primitive's own.
+#[tactic(auto, unfolding(crate::specs::Placing::part_kind))]
 fn part_kind(kind: usize) -> usize
     ensures { result ≡ part_kind kind }
 {
-    if kind < FLOAT_COMPLEX {
-        return kind;
+    if kind < FLOAT_COMPLEX || LONG_DOUBLE_COMPLEX < kind {
+        kind
+    } else {
+        kind - 3
     }
-    if LONG_DOUBLE_COMPLEX < kind {
-        return kind;
-    }
-    kind - 3
 }
 
 // The layout in a row of a tree that is one code.
-fn code_layout(row: u64, kind: u64, offsets: &mut [u64]) -> Result<Option<(u64, u64)>, Refusal>
+fn code_layout(row: u64, kind: u64, offsets: &mut [u64]) -> LaidOut
     requires { kind < 24 }
     ensures answers { result ≡ layout_in row (length offsets.old) (node (primitive kind) end end) }
     ensures fills { offsets.new ≡ list_in row (node (primitive kind) end end) offsets.old }
@@ -52,28 +49,23 @@ fn code_layout(row: u64, kind: u64, offsets: &mut [u64]) -> Result<Option<(u64, 
     if ROWS <= row {
         return Err(Refusal::NoSuchRow);
     }
-    if offsets.len() < 1 {
+    if offsets.is_empty() {
         return Err(Refusal::ListTooShort);
     }
     let table = SIZES;
     let sizes = &table[row as usize];
     let k = kind as usize;
-    let bytes = wide(sizes[k]);
+    let bytes = u64::from(sizes[k]);
     if bytes == 0 {
         return Ok(None);
     }
-    let alignment = wide(sizes[part_kind(k)]);
+    let alignment = u64::from(sizes[part_kind(k)]);
     offsets[0] = 0;
     Ok(Some((bytes, alignment)))
 }
 
 // The layout in a row of the tree in a sheet: the number of each node is put into the list, and with it come the padded size and the alignment of the whole.
-pub fn layout(
-    words: &[u64],
-    names: &[u8],
-    row: u64,
-    offsets: &mut [u64],
-) -> Result<Option<(u64, u64)>, Refusal>
+pub fn layout(words: &[u64], names: &[u8], row: u64, offsets: &mut [u64]) -> LaidOut
     ensures answers { result ≡ layout_answer row words.now names.now offsets.old }
     ensures fills { offsets.new ≡ layout_list row words.now names.now offsets.old }
 {

@@ -11,7 +11,8 @@ ghost use Rattle.layout.specs.Placing.{within_limit, finished, fitted_at, answer
 ghost use Rattle.layout.specs.Walking.{Sought};
 
 use super::find::{Found, find};
-use super::{STRING, part_kind, wide};
+use super::tree::Tree;
+use super::{LaidOut, STRING, part_kind};
 use helper::Measured;
 use kinds::{ARRAY, ATOMIC, POINTER, PRIMITIVES, Refusal, STRUCT, UNION};
 
@@ -23,30 +24,12 @@ pub(crate) struct Placed {
     pub(crate) fits: bool,
 }
 
-fn both(a: bool, b: bool) -> bool
-    ensures { result ≡ (a && b) }
-{
-    if a {
-        return b;
-    }
-    false
-}
-
-fn larger(a: u8, b: u8) -> u8
-    ensures { result ≡ max a b }
-{
-    if a < b {
-        return b;
-    }
-    a
-}
-
 // Alignments are powers of two, for which a mask is enough.
 fn remainder(n: u64, alignment: u8) -> u64
     requires { 0 < alignment }
     ensures { result ≡ n % alignment }
 {
-    let a = wide(alignment);
+    let a = u64::from(alignment);
     let mask = a - 1;
     if a & mask == 0 {
         return n & mask;
@@ -63,7 +46,7 @@ fn rounded_last(n: u64, alignment: u8) -> Measured
     if over == 0 {
         return Measured::Bytes(n);
     }
-    let padding = wide(alignment) - over;
+    let padding = u64::from(alignment) - over;
     if n <= 18446744073709551615 - padding {
         return Measured::Bytes(n + padding);
     }
@@ -75,7 +58,7 @@ fn rounded_up(n: u64, alignment: u8) -> Measured
     requires { 0 < alignment }
     ensures { result ≡ fit (next_multiple alignment n) }
 {
-    let most = wide(alignment) - 1;
+    let most = u64::from(alignment) - 1;
     if n <= 18446744073709551615 - most {
         let up = n + most;
         return Measured::Bytes(up - remainder(up, alignment));
@@ -95,13 +78,11 @@ fn next_multiple(n: Measured, alignment: u8) -> Measured
 }
 
 // A kind whose node holds nothing inside: a primitive, a bitfield, a pointer, None.
+#[tactic(auto, unfolding(crate::specs::Placing::is_plain))]
 fn is_plain(kind: u64) -> bool
     ensures { result ≡ is_plain kind }
 {
-    if kind < ATOMIC {
-        return true;
-    }
-    UNION < kind
+    kind < ATOMIC || UNION < kind
 }
 
 // What a node of such a kind takes, by the row of sizes.
@@ -110,8 +91,8 @@ fn plain(sizes: &[u8; 24], kind: u64) -> Placed
 {
     if kind < PRIMITIVES {
         let k = kind as usize;
-        let bytes = Measured::Bytes(wide(sizes[k]));
-        let alignment = larger(1, sizes[part_kind(k)]);
+        let bytes = Measured::Bytes(u64::from(sizes[k]));
+        let alignment = sizes[part_kind(k)].max(1);
         return Placed {
             bytes,
             alignment,
@@ -119,8 +100,8 @@ fn plain(sizes: &[u8; 24], kind: u64) -> Placed
         };
     }
     if kind == POINTER {
-        let bytes = Measured::Bytes(wide(sizes[STRING]));
-        let alignment = larger(1, sizes[STRING]);
+        let bytes = Measured::Bytes(u64::from(sizes[STRING]));
+        let alignment = sizes[STRING].max(1);
         return Placed {
             bytes,
             alignment,
@@ -136,13 +117,7 @@ fn is_simple(nodes: &[u64], at: usize) -> bool
     ensures { result ≡ is_simple nodes.now at }
 {
     let kind = nodes[at];
-    if is_plain(kind) {
-        return true;
-    }
-    if ARRAY < kind {
-        return false;
-    }
-    is_plain(nodes[at + 4])
+    is_plain(kind) || (kind <= ARRAY && is_plain(nodes[at + 4]))
 }
 
 // What it takes.
@@ -262,8 +237,8 @@ fn add_field(run: Placed, kind: u64, x: Placed, offsets: &mut [u64], i: usize) -
     let bytes = x.bytes;
     let begin = begin_of(kind, end, x.alignment);
     let next = end_of(kind, end, begin, bytes);
-    let alignment = larger(run.alignment, x.alignment);
-    let fits = both(run.fits, both(x.fits, is_bytes(begin)));
+    let alignment = run.alignment.max(x.alignment);
+    let fits = run.fits & x.fits & is_bytes(begin);
     offsets[i] = stored(begin);
     Placed {
         bytes: next,
@@ -285,13 +260,13 @@ pub(crate) fn place(sizes: &[u8; 24], nodes: &[u64], i: usize, offsets: &mut [u6
     let mut j = i + 1;
     let mut left = (nodes[at + 3] as usize) - 1;
     let mut run = Placed::new();
+    // the cursor moves by a node's count, which is no step of an iterator
     while 0 < left {
-        let mut x = Placed::new();
-        if is_simple(nodes, 4 * j) {
-            x = simple(sizes, nodes, 4 * j);
+        let x = if is_simple(nodes, 4 * j) {
+            simple(sizes, nodes, 4 * j)
         } else {
-            x = place(sizes, &nodes[0..], j, offsets);
-        }
+            place(sizes, nodes, j, offsets)
+        };
         // one call for both, so that the compiler puts it into the loop
         run = add_field(run, kind, x, offsets, j);
         // read only here, so that nothing of it is kept over the call
@@ -306,11 +281,9 @@ pub(crate) fn place(sizes: &[u8; 24], nodes: &[u64], i: usize, offsets: &mut [u6
 fn joined(numbers: &[u64]) -> u64
     ensures { (i : ℕ) → get_or numbers.now i 0 ≤ result }
 {
-    let mut i = 0;
     let mut all = 0;
-    while i < numbers.len() {
-        all = all | numbers[i];
-        i += 1;
+    for n in numbers {
+        all |= *n;
     }
     all
 }
@@ -319,40 +292,21 @@ fn joined(numbers: &[u64]) -> u64
 fn within_limit(numbers: &[u64], limit: u64) -> bool
     ensures { result ≡ within_limit limit numbers.now }
 {
-    if limit == 18446744073709551615 {
+    if limit == u64::MAX || joined(numbers) <= limit {
         return true;
     }
-    if joined(numbers) <= limit {
-        return true;
-    }
-    let mut i = 0;
-    while i < numbers.len() {
-        if limit < numbers[i] {
-            return false;
-        }
-        i += 1;
-    }
-    true
+    numbers.iter().all(|n| *n <= limit)
 }
 
 fn copy_numbers(numbers: &[u64], offsets: &mut [u64])
     requires { length numbers.now ≤ length offsets.old }
     ensures { offsets.new ≡ numbers.now ++ drop (length numbers.now) offsets.old }
 {
-    let mut i = 0;
-    while i < numbers.len() {
-        offsets[i] = numbers[i];
-        i += 1;
-    }
+    offsets[..numbers.len()].copy_from_slice(numbers);
 }
 
 // The answer for a whole tree: its numbers are written where the size and each of them is at most `limit`.
-pub(crate) fn finish(
-    whole: Placed,
-    numbers: &[u64],
-    limit: u64,
-    offsets: &mut [u64],
-) -> Result<Option<(u64, u64)>, Refusal>
+pub(crate) fn finish(whole: Placed, numbers: &[u64], limit: u64, offsets: &mut [u64]) -> LaidOut
     requires { length numbers.now ≤ length offsets.old }
     ensures answers { result ≡ finished limit whole numbers.now }
     ensures fills { offsets.new ≡ list_after (finished limit whole numbers.now) numbers.now offsets.old }
@@ -372,45 +326,33 @@ pub(crate) fn finish(
                 return Err(Refusal::SizeTooLarge);
             }
             copy_numbers(numbers, offsets);
-            Ok(Some((bytes, wide(whole.alignment))))
+            Ok(Some((bytes, u64::from(whole.alignment))))
         }
     }
 }
 
-// The layout of the `n` nodes of a tree in which each laid-out node has a size. Nothing is written before it is known that there is a layout: the numbers
-// are gathered in another list.
-fn lay_out(
-    sizes: &[u8; 24],
-    nodes: &[u64],
-    n: usize,
-    limit: u64,
-    offsets: &mut [u64],
-) -> Result<Option<(u64, u64)>, Refusal>
-    requires { NodeAt nodes.now 0 × (count_at nodes.now 0 ≡ n) × (n ≤ 2001) × (n ≤ length offsets.old) }
-    ensures answers { (m : Widths) → RowOf sizes.now m → (s : List ℕ) → result ≡ fitted_at m s nodes.now limit }
-    ensures fills { (m : Widths) → RowOf sizes.now m → (s : List ℕ) → offsets.new ≡ list_at m s nodes.now limit offsets.old }
+// The layout of a tree in which each laid-out node has a size. Nothing is written before it is known that there is a layout: the numbers are gathered in
+// another list.
+fn lay_out(tree: Tree, offsets: &mut [u64]) -> LaidOut
+    requires { tree.n ≤ length offsets.old }
+    ensures answers { (m : Widths) → RowOf tree.entry.sizes.now m → (s : List ℕ) → result ≡ fitted_at m s tree.entry.nodes.now tree.entry.limit }
+    ensures fills { (m : Widths) → RowOf tree.entry.sizes.now m → (s : List ℕ) → offsets.new ≡ list_at m s tree.entry.nodes.now tree.entry.limit offsets.old }
 {
+    let n = tree.n;
     let mut numbers = [0u64; 2001];
-    let whole = place(sizes, &nodes[0..], 0, &mut numbers[0..n]);
-    finish(whole, &numbers[0..n], limit, offsets)
+    let whole = place(tree.sizes, tree.nodes, 0, &mut numbers[0..n]);
+    finish(whole, &numbers[0..n], tree.limit, offsets)
 }
 
 // The layout of any tree, in two passes: whether there is one, which is known of the nodes before `from`, then its numbers.
-pub(crate) fn lay_out_any(
-    sizes: &[u8; 24],
-    nodes: &[u64],
-    from: usize,
-    n: usize,
-    limit: u64,
-    offsets: &mut [u64],
-) -> Result<Option<(u64, u64)>, Refusal>
-    requires { NodeAt nodes.now 0 × (count_at nodes.now 0 ≡ n) × (n ≤ 2001) × (n ≤ length offsets.old) × Sought sizes.now nodes.now n from false false }
-    ensures answers { (m : Widths) → RowOf sizes.now m → (s : List ℕ) → result ≡ answer_at m s nodes.now limit }
-    ensures fills { (m : Widths) → RowOf sizes.now m → (s : List ℕ) → offsets.new ≡ list_for m s nodes.now limit offsets.old }
+pub(crate) fn lay_out_any(tree: Tree, from: usize, offsets: &mut [u64]) -> LaidOut
+    requires { (tree.n ≤ length offsets.old) × Sought tree.sizes.now tree.nodes.now tree.n from false false }
+    ensures answers { (m : Widths) → RowOf tree.entry.sizes.now m → (s : List ℕ) → result ≡ answer_at m s tree.entry.nodes.now tree.entry.limit }
+    ensures fills { (m : Widths) → RowOf tree.entry.sizes.now m → (s : List ℕ) → offsets.new ≡ list_for m s tree.entry.nodes.now tree.entry.limit offsets.old }
 {
-    match find(sizes, &nodes[0..], from, n) {
+    match find(tree.sizes, tree.nodes, from, tree.n) {
         Found::BitField(i) => Err(Refusal::BitFieldInLayout(i)),
         Found::Nothing => Ok(None),
-        Found::Sized => lay_out(sizes, &nodes[0..], n, limit, offsets),
+        Found::Sized => lay_out(tree, offsets),
     }
 }

@@ -1,6 +1,6 @@
 // The quick walk: a tree that takes little room, in one pass that makes no calls for what is nested. It stops at a node that it does not lay out,
 // as a bitfield or one that has no size, and the tree is left to the longer way.
-ghost use Rattle.std.specs.Prelude.{ℕ, ◌*◌, ◌≤◌, ◌<◌, max, ◌≡◌, true, false, List, length};
+ghost use Rattle.std.specs.Prelude.{ℕ, ◌*◌, ◌≤◌, ◌<◌, ◌≡◌, true, false, List, length, IfSome, IfOk, IfErr};
 ghost use Rattle.kinds.specs.Primitive.{Widths};
 ghost use Rattle.kinds.specs.Sheet.{count_at, trees};
 ghost use Rattle.kinds.specs.Walk.{NodeAt};
@@ -11,18 +11,19 @@ ghost use Rattle.layout.specs.Placing.{Zeros, answer_at, list_for};
 ghost use Rattle.layout.specs.Walking.{Sought, IsPower, Powers, most, PlainRoom, SimpleRoom, EndedRoom, AddedRoom, Enters, Walking, Settled};
 
 use super::place::{Placed, finish, lay_out_any};
-use super::{FLOAT_COMPLEX, LONG_DOUBLE_COMPLEX, STRING, wide};
+use super::tree::Tree;
+use super::{LaidOut, STRING, part_kind};
 use helper::{Measured, max_size};
 use kinds::{ARRAY, ATOMIC, POINTER, PRIMITIVES, ROWS, Refusal, SIZES, STRUCT, UNION};
 
 // The largest end that the quick walk goes by, and the largest count of an array's items.
 const MOST: u64 = 2147483647;
 
-// What trees take where all of it is small; the alignment is 0 where the quick walk does not say.
+// What trees take where all of it is small.
 #[derive(Clone, Copy)]
-pub(crate) struct Room {
-    pub(crate) bytes: u64,
-    pub(crate) alignment: u64,
+struct Room {
+    bytes: u64,
+    alignment: u64,
 }
 
 // Where the quick walk stands: in which container, of what kind and ending before which node, at which node, and what the fields before take.
@@ -33,15 +34,6 @@ struct Open {
     stop: usize,
     next: usize,
     run: Room,
-}
-
-fn greater(a: u64, b: u64) -> u64
-    ensures { result ≡ max a b }
-{
-    if a < b {
-        return b;
-    }
-    a
 }
 
 // The next multiple of a power of two.
@@ -55,16 +47,6 @@ fn power_multiple(n: u64, alignment: u64) -> u64
 }
 
 impl Room {
-    // Not said.
-    pub(crate) fn none() -> Self
-        ensures { (result.bytes ≡ 0) × (result.alignment ≡ 0) }
-    {
-        Room {
-            bytes: 0,
-            alignment: 0,
-        }
-    }
-
     // No room.
     fn new() -> Self
         ensures { (result.bytes ≡ 0) × (result.alignment ≡ 1) }
@@ -74,101 +56,68 @@ impl Room {
             alignment: 1,
         }
     }
-
-    // The same, or where it is not said the node up to which it is known that none is a bitfield or has no size.
-    fn or_from(self, from: usize) -> Self
-        ensures said { 0 < self.alignment → result ≡ self }
-        ensures unsaid { self.alignment ≡ 0 → (result.alignment ≡ 0) × (result.bytes ≡ from) }
-    {
-        if self.alignment == 0 {
-            return Room {
-                bytes: from as u64,
-                alignment: 0,
-            };
-        }
-        self
-    }
 }
 
 // What a code takes that has a size.
-fn code_room(sizes: &[u8; 24], k: usize) -> Room
+fn code_room(sizes: &[u8; 24], k: usize) -> Option<Room>
     requires { Powers sizes.now × (k < 24) }
-    ensures { 0 < result.alignment → PlainRoom sizes.now k result }
+    ensures { IfSome result (PlainRoom sizes.now k) }
 {
-    let size = wide(sizes[k]);
-    if size == 0 {
-        return Room::none();
+    let bytes = u64::from(sizes[k]);
+    if bytes == 0 {
+        return None;
     }
-    if k < FLOAT_COMPLEX {
-        return Room {
-            bytes: size,
-            alignment: size,
-        };
-    }
-    if LONG_DOUBLE_COMPLEX < k {
-        return Room {
-            bytes: size,
-            alignment: size,
-        };
-    }
-    Room {
-        bytes: size,
-        alignment: wide(sizes[k - 3]),
-    }
+    Some(Room {
+        bytes,
+        alignment: u64::from(sizes[part_kind(k)]),
+    })
 }
 
 // What a node takes that is such a code or a pointer.
-fn plain_room(sizes: &[u8; 24], kind: u64) -> Room
+fn plain_room(sizes: &[u8; 24], kind: u64) -> Option<Room>
     requires { Powers sizes.now }
-    ensures { 0 < result.alignment → PlainRoom sizes.now kind result }
+    ensures { IfSome result (PlainRoom sizes.now kind) }
 {
     if kind < PRIMITIVES {
         return code_room(sizes, kind as usize);
     }
     if kind == POINTER {
-        let size = wide(sizes[STRING]);
-        return Room {
-            bytes: size,
-            alignment: size,
-        };
+        return code_room(sizes, STRING);
     }
-    Room::none()
+    None
 }
 
 // What an array of `n` takes.
-fn array_room(n: u64, item: Room) -> Room
-    requires { 0 < item.alignment → IsPower item.alignment × (item.bytes ≤ most) }
-    ensures { 0 < result.alignment → (0 < item.alignment) × EndedRoom 28 n item result }
+fn array_room(n: u64, item: Room) -> Option<Room>
+    requires { IsPower item.alignment × (item.bytes ≤ most) }
+    ensures { IfSome result (EndedRoom 28 n item) }
 {
-    if item.alignment == 0 {
-        return Room::none();
-    }
     if MOST < n {
-        return Room::none();
+        return None;
     }
-    Room {
+    Some(Room {
         bytes: n * item.bytes,
         alignment: item.alignment,
-    }
+    })
 }
 
 // What the node takes, if it is such a one or an atomic or an array of one.
-fn simple_room(sizes: &[u8; 24], nodes: &[u64], at: usize) -> Room
+fn simple_room(sizes: &[u8; 24], nodes: &[u64], at: usize) -> Option<Room>
     requires { Powers sizes.now × NodeAt nodes.now at }
-    ensures { 0 < result.alignment → SimpleRoom sizes.now nodes.now at result }
+    ensures { IfSome result (SimpleRoom sizes.now nodes.now at) }
 {
     let kind = nodes[at];
     if kind < ATOMIC {
         return plain_room(sizes, kind);
     }
     if ARRAY < kind {
-        return Room::none();
+        return None;
     }
-    let item = plain_room(sizes, nodes[at + 4]);
+    let item = plain_room(sizes, nodes[at + 4])?;
     if kind == ARRAY {
         return array_room(nodes[at + 1], item);
     }
-    item
+    Some(item)
 }
 
 // Whether the node is an array, a struct, or a union that has members.
@@ -177,58 +126,46 @@ fn enters(nodes: &[u64], at: usize) -> bool
     ensures { result ≡ true → Enters nodes.now at }
 {
     let kind = nodes[at];
-    if kind < ARRAY {
-        return false;
-    }
-    if UNION < kind {
-        return false;
-    }
-    if kind == UNION {
-        return 1 < nodes[at + 3];
-    }
-    true
+    kind == ARRAY || kind == STRUCT || (kind == UNION && 1 < nodes[at + 3])
 }
 
 // What a node takes whose children take `run` together.
-fn ended_room(kind: u64, n: u64, run: Room) -> Room
+fn ended_room(kind: u64, n: u64, run: Room) -> Option<Room>
     requires { (28 ≤ kind) × (kind ≤ 30) × IsPower run.alignment × (run.bytes ≤ most) }
-    ensures { 0 < result.alignment → EndedRoom kind n run result }
+    ensures { IfSome result (EndedRoom kind n run) }
 {
     if kind == ARRAY {
         return array_room(n, run);
     }
-    Room {
+    Some(Room {
         bytes: power_multiple(run.bytes, run.alignment),
         alignment: run.alignment,
-    }
+    })
 }
 
 // The room, unless it ends too far for the quick walk.
-fn small_room(bytes: u64, alignment: u64) -> Room
-    ensures { 0 < result.alignment → (result.alignment ≡ alignment) × (result.bytes ≡ bytes) × (bytes ≤ most) }
+fn small_room(bytes: u64, alignment: u64) -> Option<Room>
+    ensures { IfSome result (λ x. (x.alignment ≡ alignment) × (x.bytes ≡ bytes) × (bytes ≤ most)) }
 {
     if MOST < bytes {
-        return Room::none();
+        return None;
     }
-    Room { bytes, alignment }
+    Some(Room { bytes, alignment })
 }
 
 // What a container takes with node `j` as a field more, whose number is put into the list.
-fn add_room(kind: u64, run: Room, x: Room, numbers: &mut [u64], j: usize) -> Room
-    requires { IsPower run.alignment × (run.bytes ≤ most) × (0 < x.alignment → IsPower x.alignment × (x.bytes ≤ most * most)) × (j < length numbers.old) }
-    ensures { 0 < result.alignment → AddedRoom kind run x numbers.old numbers.new j result }
+fn add_room(kind: u64, run: Room, x: Room, numbers: &mut [u64], j: usize) -> Option<Room>
+    requires { IsPower run.alignment × (run.bytes ≤ most) × IsPower x.alignment × (x.bytes ≤ most * most) × (j < length numbers.old) }
+    ensures { IfSome result (AddedRoom kind run x numbers.old numbers.new j) }
 {
-    if x.alignment == 0 {
-        return Room::none();
-    }
-    let alignment = greater(run.alignment, x.alignment);
+    let alignment = run.alignment.max(x.alignment);
     if kind == STRUCT {
         let begin = power_multiple(run.bytes, x.alignment);
         numbers[j] = begin;
         return small_room(begin + x.bytes, alignment);
     }
     numbers[j] = 0;
-    small_room(greater(run.bytes, x.bytes), alignment)
+    small_room(run.bytes.max(x.bytes), alignment)
 }
 
 // The container at which the walk stands is entered: the word in its place tells of the one around it.
@@ -249,12 +186,12 @@ fn enter(sizes: &[u8; 24], nodes: &[u64], o: Open, numbers: &mut [u64]) -> Open
 }
 
 // The container in which the walk stands has come to its end, and is a field more of the one around it.
-fn close(sizes: &[u8; 24], nodes: &[u64], o: Open, numbers: &mut [u64]) -> Open
+fn close(sizes: &[u8; 24], nodes: &[u64], o: Open, numbers: &mut [u64]) -> Option<Open>
     requires { Walking sizes.now nodes.now numbers.old o × (o.stop ≤ o.next) × (0 < o.container) }
-    ensures { 0 < result.run.alignment → Walking sizes.now nodes.now numbers.new result × (result.next ≡ o.next) × (result.container < o.container) }
+    ensures { IfSome result (λ r. Walking sizes.now nodes.now numbers.new r × (r.next ≡ o.next) × (r.container < o.container)) }
 {
     let c = o.container;
-    let x = ended_room(o.kind, nodes[4 * c + 1], o.run);
+    let x = ended_room(o.kind, nodes[4 * c + 1], o.run)?;
     let word = numbers[c];
     let i = (word % 2048) as usize;
     let run = Room {
@@ -262,225 +199,130 @@ fn close(sizes: &[u8; 24], nodes: &[u64], o: Open, numbers: &mut [u64]) -> Open
         alignment: word / 2048 % 256,
     };
     let kind = nodes[4 * i];
-    Open {
+    Some(Open {
         container: i,
         kind,
         stop: i + nodes[4 * i + 3] as usize,
         next: o.next,
-        run: add_room(kind, run, x, numbers, c),
-    }
+        run: add_room(kind, run, x, numbers, c)?,
+    })
 }
 
 // One node more.
-fn step(sizes: &[u8; 24], nodes: &[u64], o: Open, numbers: &mut [u64]) -> Open
+fn step(sizes: &[u8; 24], nodes: &[u64], o: Open, numbers: &mut [u64]) -> Option<Open>
     requires { Powers sizes.now × Walking sizes.now nodes.now numbers.old o × (o.next < o.stop) }
-    ensures { 0 < result.run.alignment → Walking sizes.now nodes.now numbers.new result × (o.next < result.next) }
+    ensures { IfSome result (λ r. Walking sizes.now nodes.now numbers.new r × (o.next < r.next)) }
 {
     let j = o.next;
     let kind = nodes[4 * j];
     if kind < PRIMITIVES {
-        return Open {
-            container: o.container,
-            kind: o.kind,
-            stop: o.stop,
+        return Some(Open {
             next: j + 1,
-            run: add_room(o.kind, o.run, code_room(sizes, kind as usize), numbers, j),
-        };
+            run: add_room(o.kind, o.run, code_room(sizes, kind as usize)?, numbers, j)?,
+            ..o
+        });
     }
-    let x = simple_room(sizes, nodes, 4 * j);
-    if x.alignment == 0 {
+    let Some(x) = simple_room(sizes, nodes, 4 * j) else {
         if enters(nodes, 4 * j) {
-            return enter(sizes, nodes, o, numbers);
+            return Some(enter(sizes, nodes, o, numbers));
         }
-    }
-    Open {
-        container: o.container,
-        kind: o.kind,
-        stop: o.stop,
+        return None;
+    };
+    Some(Open {
         next: j + nodes[4 * j + 3] as usize,
-        run: add_room(o.kind, o.run, x, numbers, j),
-    }
+        run: add_room(o.kind, o.run, x, numbers, j)?,
+        ..o
+    })
 }
 
 // What the whole tree takes, whose root is entered, in one pass that makes no calls for what is nested; or else up to which node it is known that none is a
 // bitfield or has no size.
-fn walk(sizes: &[u8; 24], nodes: &[u64], n: usize, numbers: &mut [u64]) -> Room
-    requires { Powers sizes.now × NodeAt nodes.now 0 × Enters nodes.now 0 × (count_at nodes.now 0 ≡ n) × (n ≤ 2001) × (length numbers.old ≡ n) × Zeros numbers.old 0 n }
-    ensures settles { 0 < result.alignment → Settled sizes.now nodes.now numbers.new result }
-    ensures passed { result.alignment ≡ 0 → Sought sizes.now nodes.now n result.bytes false false }
+fn walk(tree: Tree, numbers: &mut [u64]) -> Result<Room, usize>
+    requires { Enters tree.nodes.now 0 × (length numbers.old ≡ tree.n) × Zeros numbers.old 0 tree.n }
+    ensures settles { IfOk result (Settled tree.entry.sizes.now tree.entry.nodes.now numbers.new) }
+    ensures passed { IfErr result (λ from. Sought tree.entry.sizes.now tree.entry.nodes.now tree.entry.n from false false) }
 {
+    let sizes = tree.sizes;
+    let nodes = tree.nodes;
     let mut o = Open {
         container: 0,
         kind: nodes[0],
-        stop: n,
+        stop: tree.n,
         next: 1,
         run: Room::new(),
     };
     loop {
         let from = o.next;
         if from < o.stop {
-            o = step(sizes, nodes, o, numbers);
+            o = step(sizes, nodes, o, numbers).ok_or(from)?;
+        } else if o.container == 0 {
+            return ended_room(o.kind, nodes[1], o.run).ok_or(0);
         } else {
-            if o.container == 0 {
-                return ended_room(o.kind, nodes[1], o.run).or_from(0);
-            }
-            o = close(sizes, nodes, o, numbers);
-        }
-        let run = o.run;
-        if run.alignment == 0 {
-            return run.or_from(from);
+            o = close(sizes, nodes, o, numbers).ok_or(from)?;
         }
     }
 }
 
 // What the whole tree takes, where it is small, each laid-out node has a size and none is a bitfield; the numbers of its nodes are put into the list. Or else
 // up to which node that is known.
-fn quick_room(sizes: &[u8; 24], nodes: &[u64], n: usize, numbers: &mut [u64]) -> Room
-    requires { Powers sizes.now × NodeAt nodes.now 0 × (count_at nodes.now 0 ≡ n) × (n ≤ 2001) × (length numbers.old ≡ n) × Zeros numbers.old 0 n }
-    ensures settles { 0 < result.alignment → Settled sizes.now nodes.now numbers.new result }
-    ensures passed { result.alignment ≡ 0 → Sought sizes.now nodes.now n result.bytes false false }
+fn quick_room(tree: Tree, numbers: &mut [u64]) -> Result<Room, usize>
+    requires { (length numbers.old ≡ tree.n) × Zeros numbers.old 0 tree.n }
+    ensures settles { IfOk result (Settled tree.entry.sizes.now tree.entry.nodes.now numbers.new) }
+    ensures passed { IfErr result (λ from. Sought tree.entry.sizes.now tree.entry.nodes.now tree.entry.n from false false) }
 {
-    if enters(nodes, 0) {
-        return walk(sizes, nodes, n, numbers);
+    if enters(tree.nodes, 0) {
+        return walk(tree, numbers);
     }
-    simple_room(sizes, nodes, 0).or_from(0)
+    simple_room(tree.sizes, tree.nodes, 0).ok_or(0)
 }
 
 // The layout of any tree, by the quick walk where that comes to the end. The numbers are gathered in another list, which has 0 throughout.
-fn lay_out_quick(
-    sizes: &[u8; 24],
-    nodes: &[u64],
-    n: usize,
-    limit: u64,
-    numbers: &mut [u64],
-    offsets: &mut [u64],
-) -> Result<Option<(u64, u64)>, Refusal>
-    requires { Powers sizes.now × NodeAt nodes.now 0 × (count_at nodes.now 0 ≡ n) × (n ≤ 2001) × (n ≤ length offsets.old) × (length numbers.old ≡ n) × Zeros numbers.old 0 n }
-    ensures answers { (m : Widths) → RowOf sizes.now m → (s : List ℕ) → result ≡ answer_at m s nodes.now limit }
-    ensures fills { (m : Widths) → RowOf sizes.now m → (s : List ℕ) → offsets.new ≡ list_for m s nodes.now limit offsets.old }
+fn lay_out_quick(tree: Tree, numbers: &mut [u64], offsets: &mut [u64]) -> LaidOut
+    requires { (tree.n ≤ length offsets.old) × (length numbers.old ≡ tree.n) × Zeros numbers.old 0 tree.n }
+    ensures answers { (m : Widths) → RowOf tree.entry.sizes.now m → (s : List ℕ) → result ≡ answer_at m s tree.entry.nodes.now tree.entry.limit }
+    ensures fills { (m : Widths) → RowOf tree.entry.sizes.now m → (s : List ℕ) → offsets.new ≡ list_for m s tree.entry.nodes.now tree.entry.limit offsets.old }
 {
-    let x = quick_room(sizes, nodes, n, numbers);
-    if x.alignment == 0 {
-        return lay_out_any(sizes, &nodes[0..], x.bytes as usize, n, limit, offsets);
+    match quick_room(tree, numbers) {
+        Err(from) => lay_out_any(tree, from, offsets),
+        Ok(x) => {
+            let whole = Placed {
+                bytes: Measured::Bytes(x.bytes),
+                alignment: x.alignment as u8,
+                fits: true,
+            };
+            finish(whole, numbers, tree.limit, offsets)
+        }
     }
-    let whole = Placed {
-        bytes: Measured::Bytes(x.bytes),
-        alignment: x.alignment as u8,
-        fits: true,
-    };
-    finish(whole, &numbers[0..], limit, offsets)
 }
 
-// The list for the numbers is no longer than the tree wants, since all of it is cleared.
-fn lay_out_32(
-    sizes: &[u8; 24],
-    nodes: &[u64],
-    n: usize,
-    limit: u64,
-    offsets: &mut [u64],
-) -> Result<Option<(u64, u64)>, Refusal>
-    requires { Powers sizes.now × NodeAt nodes.now 0 × (count_at nodes.now 0 ≡ n) × (n ≤ 32) × (n ≤ length offsets.old) }
-    ensures answers { (m : Widths) → RowOf sizes.now m → (s : List ℕ) → result ≡ answer_at m s nodes.now limit }
-    ensures fills { (m : Widths) → RowOf sizes.now m → (s : List ℕ) → offsets.new ≡ list_for m s nodes.now limit offsets.old }
+// The layout by a list of `N` numbers, of which no more is cleared than the size of the tree wants.
+fn lay_out_in<const N: usize>(tree: Tree, offsets: &mut [u64]) -> LaidOut
+    requires { (tree.n ≤ N) × (N ≤ 2001) × (tree.n ≤ length offsets.old) }
+    ensures answers { (m : Widths) → RowOf tree.entry.sizes.now m → (s : List ℕ) → result ≡ answer_at m s tree.entry.nodes.now tree.entry.limit }
+    ensures fills { (m : Widths) → RowOf tree.entry.sizes.now m → (s : List ℕ) → offsets.new ≡ list_for m s tree.entry.nodes.now tree.entry.limit offsets.old }
 {
-    let mut numbers = [0u64; 32];
-    lay_out_quick(sizes, nodes, n, limit, &mut numbers[0..n], offsets)
+    let mut numbers = [0u64; N];
+    let numbers = &mut numbers[..];
+    lay_out_quick(tree, &mut numbers[0..tree.n], offsets)
 }
 
-fn lay_out_128(
-    sizes: &[u8; 24],
-    nodes: &[u64],
-    n: usize,
-    limit: u64,
-    offsets: &mut [u64],
-) -> Result<Option<(u64, u64)>, Refusal>
-    requires { Powers sizes.now × NodeAt nodes.now 0 × (count_at nodes.now 0 ≡ n) × (n ≤ 128) × (n ≤ length offsets.old) }
-    ensures answers { (m : Widths) → RowOf sizes.now m → (s : List ℕ) → result ≡ answer_at m s nodes.now limit }
-    ensures fills { (m : Widths) → RowOf sizes.now m → (s : List ℕ) → offsets.new ≡ list_for m s nodes.now limit offsets.old }
+// The layout of a tree.
+fn lay_out_nodes(tree: Tree, offsets: &mut [u64]) -> LaidOut
+    requires { tree.n ≤ length offsets.old }
+    ensures answers { (m : Widths) → RowOf tree.entry.sizes.now m → (s : List ℕ) → result ≡ answer_at m s tree.entry.nodes.now tree.entry.limit }
+    ensures fills { (m : Widths) → RowOf tree.entry.sizes.now m → (s : List ℕ) → offsets.new ≡ list_for m s tree.entry.nodes.now tree.entry.limit offsets.old }
 {
-    let mut numbers = [0u64; 128];
-    lay_out_quick(sizes, nodes, n, limit, &mut numbers[0..n], offsets)
-}
-
-fn lay_out_512(
-    sizes: &[u8; 24],
-    nodes: &[u64],
-    n: usize,
-    limit: u64,
-    offsets: &mut [u64],
-) -> Result<Option<(u64, u64)>, Refusal>
-    requires { Powers sizes.now × NodeAt nodes.now 0 × (count_at nodes.now 0 ≡ n) × (n ≤ 512) × (n ≤ length offsets.old) }
-    ensures answers { (m : Widths) → RowOf sizes.now m → (s : List ℕ) → result ≡ answer_at m s nodes.now limit }
-    ensures fills { (m : Widths) → RowOf sizes.now m → (s : List ℕ) → offsets.new ≡ list_for m s nodes.now limit offsets.old }
-{
-    let mut numbers = [0u64; 512];
-    lay_out_quick(sizes, nodes, n, limit, &mut numbers[0..n], offsets)
-}
-
-fn lay_out_1024(
-    sizes: &[u8; 24],
-    nodes: &[u64],
-    n: usize,
-    limit: u64,
-    offsets: &mut [u64],
-) -> Result<Option<(u64, u64)>, Refusal>
-    requires { Powers sizes.now × NodeAt nodes.now 0 × (count_at nodes.now 0 ≡ n) × (n ≤ 1024) × (n ≤ length offsets.old) }
-    ensures answers { (m : Widths) → RowOf sizes.now m → (s : List ℕ) → result ≡ answer_at m s nodes.now limit }
-    ensures fills { (m : Widths) → RowOf sizes.now m → (s : List ℕ) → offsets.new ≡ list_for m s nodes.now limit offsets.old }
-{
-    let mut numbers = [0u64; 1024];
-    lay_out_quick(sizes, nodes, n, limit, &mut numbers[0..n], offsets)
-}
-
-fn lay_out_2001(
-    sizes: &[u8; 24],
-    nodes: &[u64],
-    n: usize,
-    limit: u64,
-    offsets: &mut [u64],
-) -> Result<Option<(u64, u64)>, Refusal>
-    requires { Powers sizes.now × NodeAt nodes.now 0 × (count_at nodes.now 0 ≡ n) × (n ≤ 2001) × (n ≤ length offsets.old) }
-    ensures answers { (m : Widths) → RowOf sizes.now m → (s : List ℕ) → result ≡ answer_at m s nodes.now limit }
-    ensures fills { (m : Widths) → RowOf sizes.now m → (s : List ℕ) → offsets.new ≡ list_for m s nodes.now limit offsets.old }
-{
-    let mut numbers = [0u64; 2001];
-    lay_out_quick(sizes, nodes, n, limit, &mut numbers[0..n], offsets)
-}
-
-// The layout of the `n` nodes of a tree.
-fn lay_out_nodes(
-    sizes: &[u8; 24],
-    nodes: &[u64],
-    n: usize,
-    limit: u64,
-    offsets: &mut [u64],
-) -> Result<Option<(u64, u64)>, Refusal>
-    requires { Powers sizes.now × NodeAt nodes.now 0 × (count_at nodes.now 0 ≡ n) × (n ≤ 2001) × (n ≤ length offsets.old) }
-    ensures answers { (m : Widths) → RowOf sizes.now m → (s : List ℕ) → result ≡ answer_at m s nodes.now limit }
-    ensures fills { (m : Widths) → RowOf sizes.now m → (s : List ℕ) → offsets.new ≡ list_for m s nodes.now limit offsets.old }
-{
-    if n <= 32 {
-        return lay_out_32(sizes, nodes, n, limit, offsets);
+    match tree.n {
+        ..=32 => lay_out_in::<32>(tree, offsets),
+        ..=128 => lay_out_in::<128>(tree, offsets),
+        ..=512 => lay_out_in::<512>(tree, offsets),
+        ..=1024 => lay_out_in::<1024>(tree, offsets),
+        _ => lay_out_in::<2001>(tree, offsets),
     }
-    if n <= 128 {
-        return lay_out_128(sizes, nodes, n, limit, offsets);
-    }
-    if n <= 512 {
-        return lay_out_512(sizes, nodes, n, limit, offsets);
-    }
-    if n <= 1024 {
-        return lay_out_1024(sizes, nodes, n, limit, offsets);
-    }
-    lay_out_2001(sizes, nodes, n, limit, offsets)
 }
 
 // The layout in a row of the tree of the nodes.
-pub(crate) fn nodes_layout(
-    row: u64,
-    nodes: &[u64],
-    n: usize,
-    offsets: &mut [u64],
-) -> Result<Option<(u64, u64)>, Refusal>
+pub(crate) fn nodes_layout(row: u64, nodes: &[u64], n: usize, offsets: &mut [u64]) -> LaidOut
     requires { NodeAt nodes.now 0 × (count_at nodes.now 0 ≡ n) × (n ≤ 2001) }
     ensures answers { (s : List ℕ) → result ≡ layout_in row (length offsets.old) (trees s nodes.now n 0) }
     ensures fills { (s : List ℕ) → offsets.new ≡ list_in row (trees s nodes.now n 0) offsets.old }
@@ -493,5 +335,12 @@ pub(crate) fn nodes_layout(
     }
     let table = SIZES;
     let sizes = &table[row as usize];
-    lay_out_nodes(sizes, &nodes[0..], n, max_size(row), offsets)
+    let limit = max_size(row);
+    let tree = Tree {
+        sizes,
+        nodes,
+        n,
+        limit,
+    };
+    lay_out_nodes(tree, offsets)
 }

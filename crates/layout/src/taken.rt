@@ -9,35 +9,23 @@ ghost use Rattle.layout.specs.Answer.{extent_words, extents_of, extents_fit, ext
 ghost use Rattle.layout.specs.Placing.{room_words, extent_at};
 
 use super::place::{Placed, place};
-use super::quick::Room;
-use super::wide;
 use helper::{Measured, max_size};
 use kinds::{ROWS, SIZES};
 
 // A size that is at most the limit, with its alignment; 0 for both where it is larger.
-fn room_within(x: Placed, limit: u64) -> Room
-    ensures { result.bytes ∷ result.alignment ∷ [] ≡ room_words limit x.bytes x.alignment }
+fn room_within(x: Placed, limit: u64) -> (u64, u64)
+    ensures { result.0 ∷ result.1 ∷ [] ≡ room_words limit x.bytes x.alignment }
 {
-    let bytes = x.bytes;
-    match bytes {
-        Measured::Nothing => Room::none(),
-        Measured::TooLarge => Room::none(),
-        Measured::Bytes(n) => {
-            if n <= limit {
-                return Room {
-                    bytes: n,
-                    alignment: wide(x.alignment),
-                };
-            }
-            Room::none()
-        }
+    match x.bytes {
+        Measured::Bytes(n) if n <= limit => (n, u64::from(x.alignment)),
+        _ => (0, 0),
     }
 }
 
 // What node `i` takes, within the limit.
-fn node_room(sizes: &[u8; 24], nodes: &[u64], i: usize, limit: u64) -> Room
+fn node_room(sizes: &[u8; 24], nodes: &[u64], i: usize, limit: u64) -> (u64, u64)
     requires { NodeAt nodes.now (4 * i) × (i + count_at nodes.now (4 * i) ≤ 2001) }
-    ensures { (m : Widths) → RowOf sizes.now m → (s : List ℕ) → result.bytes ∷ result.alignment ∷ [] ≡ extent_words limit (extent_at m s nodes.now (4 * i)) }
+    ensures { (m : Widths) → RowOf sizes.now m → (s : List ℕ) → result.0 ∷ result.1 ∷ [] ≡ extent_words limit (extent_at m s nodes.now (4 * i)) }
 {
     let mut numbers = [0u64; 2001];
     room_within(place(sizes, nodes, i, &mut numbers), limit)
@@ -48,12 +36,10 @@ fn put_rooms(sizes: &[u8; 24], nodes: &[u64], n: usize, limit: u64, list: &mut [
     requires { TreesAt nodes.now 0 n × (n ≤ 2001) × (2 * n ≤ length list.old) }
     ensures { (m : Widths) → RowOf sizes.now m → (s : List ℕ) → list.new ≡ sets list.old 0 (extents_of m limit (trees s nodes.now n 0)) }
 {
-    let mut i = 0;
-    while i < n {
-        let x = node_room(sizes, nodes, i, limit);
-        list[2 * i] = x.bytes;
-        list[2 * i + 1] = x.alignment;
-        i += 1;
+    for i in 0..n {
+        let (bytes, alignment) = node_room(sizes, nodes, i, limit);
+        list[2 * i] = bytes;
+        list[2 * i + 1] = alignment;
     }
 }
 
@@ -71,6 +57,6 @@ pub(crate) fn nodes_extents(row: u64, nodes: &[u64], n: usize, list: &mut [u64])
     }
     let table = SIZES;
     let sizes = &table[row as usize];
-    put_rooms(sizes, &nodes[0..], n, max_size(row), list);
+    put_rooms(sizes, nodes, n, max_size(row), list);
     true
 }

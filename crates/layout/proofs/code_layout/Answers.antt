@@ -1,3 +1,5 @@
+use native.Mathlib.Omega.{arith}
+use Rattle.std.proofs.lemmas.Bool.Decides.{nat_tests}
 use mathlib.Core.List.{[]}
 use mathlib.Core.Path.{ap, ◌∙◌}
 use lib.ListN.{get_or}
@@ -12,12 +14,12 @@ use Rattle.layout.proofs.code_layout.Goals as goal
 pub returns-then-row-ge-ROWS : goal.returns-then-row-ge-ROWS
 returns-then-row-ge-ROWS c = let a = c.args in let p = no-row-answer a.row (node (primitive a.kind) end end) a.offsets.now c.if-row-ge-ROWS.true in record { answers = p.0; fills = p.1 }
 
-pub returns-then-offsets-lt1 : goal.returns-then-offsets-lt1
-returns-then-offsets-lt1 c = let a = c.args in let p = short-answer a.row (node (primitive a.kind) end end) a.offsets.now c.if-row-ge-ROWS.false (lone-count a.row a.kind c.if-offsets-lt1.true) in record { answers = p.0; fills = p.1 }
+pub returns-then-is_empty : goal.returns-then-is_empty
+returns-then-is_empty c = let a = c.args in let p = short-answer a.row (node (primitive a.kind) end end) a.offsets.now c.if-row-ge-ROWS.false (lone-count a.row a.kind (grind (arith, nat_tests))) in record { answers = p.0; fills = p.1 }
 
 pub returns-then-bytes-eq0 : goal.returns-then-bytes-eq0
 returns-then-bytes-eq0 c = let a = c.args in
-    let h = c.if-row-ge-ROWS.false in let p = code-nothing a.row a.kind h c.requires (get_or size_rows a.row []) (table-row a.row h) c.wide-bytes.ensures a.offsets.now c.if-offsets-lt1.false
+    let h = c.if-row-ge-ROWS.false in let p = code-nothing a.row a.kind h c.requires (get_or size_rows a.row []) (table-row a.row h) c.from-bytes.ensures a.offsets.now (grind (arith, nat_tests))
     c.if-bytes-eq0.true in record { answers = p.0; fills = p.1 }
 
 pub bounds-sizes-part_kind : goal.bounds-sizes-part_kind
@@ -27,5 +29,5 @@ bounds-sizes-part_kind c =
 pub returns : goal.returns
 returns c = let a = c.args in
     let h = c.if-row-ge-ROWS.false in
-    let sizes = get_or size_rows a.row [] in let p = code-bytes a.row a.kind h c.requires sizes (table-row a.row h) c.wide-bytes.ensures a.offsets.now c.if-offsets-lt1.false c.if-bytes-eq0.false
-    (table-powers a.row h) (c.wide-alignment.ensures ∙ ap (λ k. get_or sizes k 0) c.part_kind.ensures) in record { answers = p.0; fills = p.1 }
+    let sizes = get_or size_rows a.row [] in let p = code-bytes a.row a.kind h c.requires sizes (table-row a.row h) c.from-bytes.ensures a.offsets.now (grind (arith, nat_tests)) c.if-bytes-eq0.false
+    (table-powers a.row h) (c.from-alignment.ensures ∙ ap (λ k. get_or sizes k 0) c.part_kind.ensures) in record { answers = p.0; fills = p.1 }

@@ -1,5 +1,4 @@
 -- The invariant: what is laid out from node `i` on tells with what was passed what the whole tree does.
-use Prim.Native.Nat.{◌-◌}
 use mathlib.Core.Path.{refl, sym, ◌∙◌}
 use mathlib.Core.Bool.{true, false}
 use native.Mathlib.Omega.{arith}
@@ -23,16 +22,16 @@ loop-i-smaller-then-passes c =
 
 pub loop-i-preserved-then-kind-lt-PRIMITIVES : goal.loop-i-preserved-then-kind-lt-PRIMITIVES
 loop-i-preserved-then-kind-lt-PRIMITIVES c =
-    sought-code c.loop-i.invariant c.loop-i-test.true c.if-kind-lt-PRIMITIVES.true c.either-none.ensures refl
+    sought-code c.loop-i.invariant c.loop-i-test.true c.if-kind-lt-PRIMITIVES.true refl refl
 
 pub loop-i-preserved-then-passes : goal.loop-i-preserved-then-passes
 loop-i-preserved-then-passes c =
-    sought-passed c.loop-i.invariant c.loop-i-test.true (sym c.is_bit_field.ensures ∙ c.if-is_bit_field.false) c.either-none-in-loop-i.ensures c.is_sizeless.ensures
+    sought-passed c.loop-i.invariant c.loop-i-test.true (sym c.is_bit_field.ensures ∙ c.if-is_bit_field.false) refl c.is_sizeless-none.ensures
     (sym c.passes.ensures ∙ c.if-passes.true)
 
 pub loop-i-preserved : goal.loop-i-preserved
 loop-i-preserved c =
-    sought-kept c.loop-i.invariant c.loop-i-test.true (sym c.is_bit_field.ensures ∙ c.if-is_bit_field.false) c.either-none-in-loop-i.ensures c.is_sizeless.ensures
+    sought-kept c.loop-i.invariant c.loop-i-test.true (sym c.is_bit_field.ensures ∙ c.if-is_bit_field.false) refl c.is_sizeless-none.ensures
     (sym c.passes.ensures ∙ c.if-passes.false) c.bottom_after-bottom.ensures
 
 pub returns-then-none : goal.returns-then-none

@@ -1,13 +1,11 @@
 use Rattle.layout.proofs.FillLaws.{walk_end, laid_as, not-simple, simple-laid, filling-start, filling-node, filling-within, filling-zeros, filling-turn}
 use Prim.Native.Nat.{ℕ, ◌-◌, ◌*◌}
-use mathlib.Core.Logic.{⊎_elim}
 use Rattle.layout.specs.Placing.{Laid}
 use Rattle.kinds.specs.Walk.{TreesAt}
 use Rattle.layout.proofs.ExtentLaws.{not_plain}
 use native.Mathlib.Omega.{arith}
 use mathlib.Core.Path.{sym, ◌∙◌, subst}
 use Rattle.kinds.specs.Sheet.{kind_at, count_at}
-use Rattle.kinds.proofs.ListLaws.{whole}
 use Rattle.kinds.proofs.NodeLaws.{node-inner}
 use Rattle.layout.proofs.place.+place.Goals as goal
 use Rattle.layout.proofs.place.+place.Goals.{then-is_simple-2, else-is_simple-2}
@@ -46,7 +44,7 @@ simple-x-requires t c =
 pub place-x-requires : goal.place-x-requires
 place-x-requires t c =
     let b = filling-within c.loop-left.invariant.1 c.loop-left-test.true in
-    rw whole (omega arith, (filling-node c.loop-left.invariant.1 c.loop-left-test.true, omega arith, filling-zeros c.loop-left.invariant.1 c.loop-left-test.true))
+    (omega arith, (filling-node c.loop-left.invariant.1 c.loop-left-test.true, omega arith, filling-zeros c.loop-left.invariant.1 c.loop-left-test.true))
 
 pub add_field-run-requires : goal.add_field-run-requires
 add_field-run-requires t c =
@@ -55,7 +53,7 @@ add_field-run-requires t c =
       | then-is_simple-2 w ↦ laid_as (simple-laid c.args.sizes.now c.args.nodes.now c.loop-left.j (filling-node c.loop-left.invariant.1 c.loop-left-test.true)
           (sym c.is_simple-in-loop-left.ensures ∙ w.if-is_simple-2.true) c.loop-left.offsets
           (filling-zeros c.loop-left.invariant.1 c.loop-left-test.true) w.simple-x.ensures) w.offsets-is w.x-is
-      | else-is_simple-2 w ↦ laid_as (rw whole at w.place-x.ensures) w.offsets-is w.x-is
+      | else-is_simple-2 w ↦ laid_as w.place-x.ensures w.offsets-is w.x-is
     ] in
     let m = l.as_long in
     (l.aligned, omega arith)
@@ -97,7 +95,7 @@ loop-left-preserved t c =
       | then-is_simple-2 w ↦ laid_as (simple-laid c.args.sizes.now c.args.nodes.now c.loop-left.j (filling-node c.loop-left.invariant.1 c.loop-left-test.true)
           (sym c.is_simple-in-loop-left.ensures ∙ w.if-is_simple-2.true) c.loop-left.offsets
           (filling-zeros c.loop-left.invariant.1 c.loop-left-test.true) w.simple-x.ensures) w.offsets-is w.x-is
-      | else-is_simple-2 w ↦ laid_as (rw whole at w.place-x.ensures) w.offsets-is w.x-is
+      | else-is_simple-2 w ↦ laid_as w.place-x.ensures w.offsets-is w.x-is
     ] in (
       omega arith,
       filling-turn c.loop-left.invariant.1 c.loop-left-test.true c.if-is_simple-2.x c.if-is_simple-2.offsets _ l c.add_field-run.ensures.list

@@ -1,5 +1,5 @@
 use Rattle.layout.specs.Walking.{Filling}
-use Prim.Native.Nat.{ℕ, ◌+◌, ◌-◌, ◌*◌, ◌<◌}
+use Prim.Native.Nat.{◌+◌, ◌-◌, ◌*◌, ◌<◌}
 use Rattle.kinds.specs.Sheet.{count_at}
 use Rattle.layout.proofs.place.+place.Given as goal
 

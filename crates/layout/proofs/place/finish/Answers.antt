@@ -28,4 +28,4 @@ pub returns-else-not-within_limit : goal.returns-else-not-within_limit
 returns-else-not-within_limit c = let a = c.args in let p = written_both a.limit a.whole a.numbers.now a.offsets.now _ _ _
     (end_fits a.limit a.whole a.numbers.now _ c.in-Bytes.is c.if-not-whole.false c.if-limit-bytes.false
     (sym c.within_limit.ensures ∙ c.if-not-within_limit.false))
-    c.wide.ensures c.copy_numbers.ensures in record { answers = p.0; fills = p.1 }
+    c.from.ensures c.copy_numbers.ensures in record { answers = p.0; fills = p.1 }

@@ -12,13 +12,13 @@ bounds-sizes-part_kind c =
 pub returns-then-kind-lt-PRIMITIVES : goal.returns-then-kind-lt-PRIMITIVES
 returns-then-kind-lt-PRIMITIVES c =
     let a = c.args in
-    placed-code a.sizes.now a.kind (omega arith) (omega arith) c.wide.ensures
-    (c.larger-alignment.ensures ∙ ap (λ k. max 1 (get_or a.sizes.now k 0)) c.part_kind.ensures)
+    placed-code a.sizes.now a.kind (omega arith) (omega arith) c.from.ensures
+    (let e = ap (λ k. max 1 (get_or a.sizes.now k 0)) c.part_kind.ensures in omega arith)
 
 pub returns-then-kind-eq-POINTER : goal.returns-then-kind-eq-POINTER
 returns-then-kind-eq-POINTER c =
     let a = c.args in
-    placed-pointer a.sizes.now a.kind (omega arith) (omega arith) c.wide-then-kind-eq-POINTER.ensures c.larger-alignment-then-kind-eq-POINTER.ensures
+    placed-pointer a.sizes.now a.kind (omega arith) (omega arith) c.from-then-kind-eq-POINTER.ensures (omega arith)
 
 pub returns : goal.returns
 returns c =

@@ -11,13 +11,13 @@ pub overflow_sub-padding : goal.overflow_sub-padding
 overflow_sub-padding c =
     let l = mod-lt c.args.n c.requires in
     let e = c.remainder-over.ensures in
-    let w = c.wide.ensures in
+    let w = c.from.ensures in
     omega arith
 
 pub returns-then-n-padding : goal.returns-then-n-padding
 returns-then-n-padding c =
-    rounded-up c.args.alignment c.args.n c.requires c.remainder-over.ensures c.wide.ensures c.if-over-eq0.false c.if-n-padding.true (omega arith)
+    rounded-up c.args.alignment c.args.n c.requires c.remainder-over.ensures c.from.ensures c.if-over-eq0.false c.if-n-padding.true (omega arith)
 
 pub returns : goal.returns
 returns c =
-    rounded-over c.args.alignment c.args.n c.requires c.remainder-over.ensures c.wide.ensures c.if-over-eq0.false c.if-n-padding.false
+    rounded-over c.args.alignment c.args.n c.requires c.remainder-over.ensures c.from.ensures c.if-over-eq0.false c.if-n-padding.false

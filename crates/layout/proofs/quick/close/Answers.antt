@@ -31,17 +31,17 @@ add_room-requires c =
     let a = (walking-outer g c.requires.2).around.level in
     let s = a.small in
     let e = outer-bytes g c.requires.2 in
-    (subst IsPower (sym (outer-alignment g c.requires.2)) a.power, omega arith, λ h. let q = c.ended_room-x.ensures h in (q.power, q.small), omega arith)
+    let q = c.in_ok-x.ensures in
+    (subst IsPower (sym (outer-alignment g c.requires.2)) a.power, omega arith, q.power, q.small, omega arith)
 
 pub returns : goal.returns
 returns c =
-    λ h. let g = c.requires.0 in
+    let g = c.requires.0 in
     let p = c.requires.2 in
     let i = outer-index g p in
-    let a = c.add_room.ensures h in
-    let q = c.ended_room-x.ensures a.some-room in
     let w = c.args.nodes.now in (
-      walking-close g p c.requires.1 q (outer-added g p a) i (ap (λ (c : ℕ). kind_at w (4 * c)) i) (ap (λ (c : ℕ). c + count_at w (4 * c)) i) refl refl,
+      walking-close g p c.requires.1 (c.in_ok-x.ensures) (outer-added g p (c.in_ok-add_room.ensures)) i (ap (λ (c : ℕ). kind_at w (4 * c)) i)
+          (ap (λ (c : ℕ). c + count_at w (4 * c)) i) refl refl,
       refl,
       (outer-within g p i).0,
     )

@@ -2,7 +2,6 @@ use Rattle.layout.proofs.AnswerLaws.{row-answer, row_list, no-row-answer, short-
 use Rattle.layout.proofs.RoomLaws.{table-powers}
 use Rattle.layout.specs.Placing.{answer_at, list_for}
 use mathlib.Core.Path.{ap, sym, ◌∙◌, subst}
-use Rattle.kinds.proofs.ListLaws.{whole}
 use Rattle.kinds.proofs.SheetLaws.{trees-count}
 use Rattle.kinds.specs.Primitive.{widths}
 use Rattle.helper.proofs.NodeSizeLaws.{table-row}
@@ -22,9 +21,8 @@ returns-then-offsets-n c = let a = c.args in record {
       (subst (λ n. length a.offsets.now < n) (sym (trees-count s a.nodes.now a.n 0)) c.if-offsets-n.true)).1;
 }
 
-pub lay_out_nodes-requires : goal.lay_out_nodes-requires
-lay_out_nodes-requires c =
-    rw whole (table-powers c.args.row c.if-row-ge-ROWS.false, c.requires.0, c.requires.1, c.requires.2, c.if-offsets-n.false)
+pub invariant_of-tree-clause-powers : goal.invariant_of-tree-clause-powers
+invariant_of-tree-clause-powers c = table-powers c.args.row c.if-row-ge-ROWS.false
 
 pub returns : goal.returns
 returns c = let a = c.args in
@@ -33,7 +31,7 @@ returns c = let a = c.args in
     let w = a.nodes.now in
     let m = widths a.row in record {
       answers = λ s. row-answer a.row h s w a.n p.0 p.1 a.offsets.now c.if-offsets-n.false
-          ((rw whole at (c.lay_out_nodes.ensures.answers m (table-row a.row h) s)) ∙ ap (answer_at m s w) c.max_size.ensures);
+          (c.lay_out_nodes.ensures.answers m (table-row a.row h) s ∙ ap (answer_at m s w) c.max_size-limit.ensures);
       fills = λ s. row_list a.row h s w a.n p.0 p.1 a.offsets.now c.if-offsets-n.false
-          ((rw whole at (c.lay_out_nodes.ensures.fills m (table-row a.row h) s)) ∙ ap (λ l. list_for m s w l a.offsets.now) c.max_size.ensures);
+          (c.lay_out_nodes.ensures.fills m (table-row a.row h) s ∙ ap (λ l. list_for m s w l a.offsets.now) c.max_size-limit.ensures);
     }

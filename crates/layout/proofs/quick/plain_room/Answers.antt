@@ -1,10 +1,7 @@
-use native.Mathlib.Omega.{arith}
+use Rattle.std.proofs.lemmas.Option.{IfSome_then}
 use Rattle.layout.proofs.RoomLaws.{pointer-room}
 use Rattle.layout.proofs.quick.plain_room.Goals as goal
 
 pub returns-then-kind-eq-POINTER : goal.returns-then-kind-eq-POINTER
 returns-then-kind-eq-POINTER c =
-    λ h. pointer-room c.args.sizes.now c.args.kind c.requires c.if-kind-eq-POINTER.true c.wide-size.ensures h
-
-pub returns : goal.returns
-returns c = λ h. let z = c.none.ensures.1 in absurd (omega arith)
+    IfSome_then _ c.code_room-then-kind-eq-POINTER.ensures (λ x p. pointer-room c.if-kind-eq-POINTER.true p)

@@ -1,18 +1,16 @@
-use Prim.Native.Nat.{ℕ}
-use mathlib.Core.Bool.{false}
-use Rattle.layout.specs.Walking.{Sought, Settled}
+use Rattle.std.proofs.lemmas.Option.{IfSome_then}
 use Rattle.layout.proofs.FindLaws.{sought-first}
-use Rattle.layout.proofs.RoomLaws.{told}
+use Rattle.layout.proofs.RoomLaws.{IfOk-from_ok_or, IfErr-from_ok_or}
 use Rattle.layout.proofs.SimpleLaws.{quick-settled}
 use Rattle.layout.proofs.quick.quick_room.Goals as goal
 
-pub walk-requires : goal.walk-requires
-walk-requires c =
+pub returns-clause-settles : goal.returns-clause-settles
+returns-clause-settles c =
     let p = c.requires in
-    (p.0, p.1, c.enters.ensures c.if-enters.true, p.2, p.3, p.4, p.5)
+    let t = c.args.tree in
+    IfOk-from_ok_or _ _ _ c.ok_or.ensures.value (IfSome_then _ c.simple_room.ensures (λ x q. quick-settled t.stands t.counted p.0 p.1 q))
 
-pub returns : goal.returns
-returns c = let a = c.args in
-    let p = c.requires in let p = told (Settled a.sizes.now a.nodes.now a.numbers.now) (λ (i : ℕ). Sought a.sizes.now a.nodes.now a.n i false false)
-    c.or_from.ensures.said c.or_from.ensures.unsaid (λ h. quick-settled p.1 p.2 p.4 p.5 (c.simple_room.ensures h))
-    (sought-first a.sizes.now a.nodes.now a.n p.1 p.2) in record { settles = p.0; passed = p.1 }
+pub returns-clause-passed : goal.returns-clause-passed
+returns-clause-passed c =
+    let t = c.args.tree in
+    IfErr-from_ok_or _ _ _ c.ok_or.ensures.value (sought-first t.sizes.now t.nodes.now t.n t.stands t.counted)

@@ -9,28 +9,22 @@ pub add_room-requires : goal.add_room-requires
 add_room-requires c =
     let g = c.requires.1 in
     let b = walking-within g in
-    (g.level.power, g.level.small, λ h. let q = c.code_room.ensures h in let s = q.small in (q.power, omega arith), omega arith)
+    let q = c.in_ok-code_room.ensures in
+    let s = q.small in
+    (g.level.power, g.level.small, q.power, omega arith, omega arith)
 
 pub returns-then-kind-lt-PRIMITIVES : goal.returns-then-kind-lt-PRIMITIVES
 returns-then-kind-lt-PRIMITIVES c =
-    λ h. let g = c.requires.1 in
-    let a = c.add_room.ensures h in
-    let q = c.code_room.ensures a.some-room in
+    let g = c.requires.1 in
     let k = c.if-kind-lt-PRIMITIVES.true in
     let n = leaf-count _ _ (walking-node g c.requires.2) (omega arith) in
-    (walking-put g c.requires.2 (simple-plain _ _ _ (omega arith) q) a (omega arith), omega arith)
+    (walking-put g c.requires.2 (simple-plain _ _ _ (omega arith) (c.in_ok-code_room.ensures)) (c.in_ok-add_room.ensures) (omega arith), omega arith)
 
-pub simple_room-x-requires : goal.simple_room-x-requires
-simple_room-x-requires c =
-    (c.requires.0, walking-node c.requires.1 c.requires.2)
+pub simple_room-requires : goal.simple_room-requires
+simple_room-requires c = (c.requires.0, walking-node c.requires.1 c.requires.2)
 
 pub enters-requires : goal.enters-requires
-enters-requires c =
-    walking-node c.requires.1 c.requires.2
-
-pub enter-requires : goal.enter-requires
-enter-requires c =
-    (c.requires.1, c.requires.2, c.enters.ensures c.if-enters.true)
+enters-requires c = walking-node c.requires.1 c.requires.2
 
 pub overflow_add-result-3 : goal.overflow_add-result-3
 overflow_add-result-3 c =
@@ -43,11 +37,11 @@ pub add_room-requires-2 : goal.add_room-requires-2
 add_room-requires-2 c =
     let g = c.requires.1 in
     let b = walking-within g in
-    (g.level.power, g.level.small, λ h. let q = c.simple_room-x.ensures h in (q.power, q.small), omega arith)
+    let q = c.in-Some.ensures in
+    (g.level.power, g.level.small, q.power, q.small, omega arith)
 
 pub returns : goal.returns
 returns c =
-    λ h. let g = c.requires.1 in
-    let a = c.add_room-2.ensures h in
+    let g = c.requires.1 in
     let n = walking-count g c.requires.2 in
-    (walking-put g c.requires.2 (c.simple_room-x.ensures a.some-room) a refl, omega arith)
+    (walking-put g c.requires.2 c.in-Some.ensures c.in_ok-add_room-2.ensures refl, omega arith)

@@ -1,6 +1,5 @@
 use Prim.Native.Nat.{◌*◌, ◌≤◌, ◌<◌}
 use mathlib.Core.Path.{ap, sym, ◌∙◌, subst}
-use Rattle.kinds.proofs.ListLaws.{whole}
 use Rattle.kinds.proofs.SheetLaws.{trees-count}
 use Rattle.kinds.specs.Primitive.{widths}
 use Rattle.kinds.specs.Sheet.{trees}
@@ -24,7 +23,7 @@ returns-then-list-n c = let a = c.args in record {
 
 pub put_rooms-requires : goal.put_rooms-requires
 put_rooms-requires c =
-    rw whole (c.requires.0, c.requires.1, c.if-list-n.false)
+    (c.requires.0, c.requires.1, c.if-list-n.false)
 
 pub returns : goal.returns
 returns c = let a = c.args in
@@ -33,8 +32,8 @@ returns c = let a = c.args in
     let m = widths a.row in record {
       answers = λ s. (filled-extents a.row (trees s w a.n 0) a.list.now h
           (subst (λ n. 2 * n ≤ length a.list.now) (sym (trees-count s w a.n 0)) c.if-list-n.false)
-          ((rw whole at (c.put_rooms.ensures m (table-row a.row h) s)) ∙ ap (λ l. sets a.list.now 0 (extents_of m l (trees s w a.n 0))) c.max_size.ensures)).0;
+          ((c.put_rooms.ensures m (table-row a.row h) s) ∙ ap (λ l. sets a.list.now 0 (extents_of m l (trees s w a.n 0))) c.max_size.ensures)).0;
       fills = λ s. (filled-extents a.row (trees s w a.n 0) a.list.now h
           (subst (λ n. 2 * n ≤ length a.list.now) (sym (trees-count s w a.n 0)) c.if-list-n.false)
-          ((rw whole at (c.put_rooms.ensures m (table-row a.row h) s)) ∙ ap (λ l. sets a.list.now 0 (extents_of m l (trees s w a.n 0))) c.max_size.ensures)).1;
+          ((c.put_rooms.ensures m (table-row a.row h) s) ∙ ap (λ l. sets a.list.now 0 (extents_of m l (trees s w a.n 0))) c.max_size.ensures)).1;
     }

@@ -1,4 +1,4 @@
-use Prim.Native.Nat.{ℕ, ◌-◌, ◌*◌, ◌≤◌}
+use Prim.Native.Nat.{ℕ, ◌-◌, ◌*◌}
 use mathlib.Core.Path.{◌≡◌}
 use mathlib.Core.List.{List}
 use lib.ListN.{length}
@@ -12,8 +12,5 @@ use Rattle.layout.proofs.taken.put_rooms.Given as goal
 
 -- The words of the nodes before `i` are put.
 abbrev pub invariant-loop-i : goal.invariant-loop-i
-invariant-loop-i l = (l.i ≤ l.n) × TreesAt l.nodes (4 * l.i) (l.n - l.i) × (length l.list ≡ length l.initial.list) × ((m : Widths) → RowOf l.sizes m → (s : List ℕ)
+invariant-loop-i l = TreesAt l.nodes (4 * l.i) (l.n - l.i) × (length l.list ≡ length l.initial.list) × ((m : Widths) → RowOf l.sizes m → (s : List ℕ)
     → sets l.list (2 * l.i) (extents_of m l.limit (trees s l.nodes (l.n - l.i) (4 * l.i))) ≡ sets l.initial.list 0 (extents_of m l.limit (trees s l.nodes l.n 0)))
-
-abbrev pub decreases-loop-i : goal.decreases-loop-i
-decreases-loop-i l = l.n - l.i
