@@ -35,24 +35,11 @@ enum Step {
     Bad,
 }
 
-fn wide(b: u8) -> u64
-    ensures { result ≡ b }
-{
-    b as u64
-}
-
 // The place of the first `b`, or the length.
 fn place_of(s: &[u8], b: u8) -> usize
     ensures { (result ≡ until b s.now) × (result ≤ length s.now) }
 {
-    let mut i = 0;
-    while i < s.len() {
-        if s[i] == b {
-            return i;
-        }
-        i += 1;
-    }
-    i
+    s.iter().position(|x| *x == b).unwrap_or(s.len())
 }
 
 // What stands before the first `b`; all, where there is none.
@@ -138,23 +125,23 @@ pub fn decode_hex(hex: &[u8], out: &mut [u8]) -> Decoded
     ensures answers { result ≡ hex_answer hex.now (length out.old) }
     ensures fills { out.new ≡ sets out.old 0 (hex_bytes hex.now) }
 {
-    let mut i = 0;
     let mut n = 0;
-    while i < hex.len() {
-        if hex.len() - i == 1 {
-            return Decoded::Bad;
-        }
-        let high = digit_of(hex[i]);
+    let mut unread = hex;
+    while let [a, b, rest @ ..] = unread {
+        let high = digit_of(*a);
         if 16 <= high {
             return Decoded::Bad;
         }
-        let low = digit_of(hex[i + 1]);
+        let low = digit_of(*b);
         if 16 <= low {
             return Decoded::Bad;
         }
         put_byte(out, n, 16 * high + low);
         n += 1;
-        i += 2;
+        unread = rest;
+    }
+    if unread.len() == 1 {
+        return Decoded::Bad;
     }
     if out.len() < n {
         return Decoded::Bad;
@@ -171,7 +158,7 @@ fn grow(n: u64, b: u8) -> Grown
     if b'9' < b {
         return Grown::Bad;
     }
-    let d = wide(b - b'0');
+    let d = u64::from(b - b'0');
     if 1844674407370955161 < n {
         return Grown::Bad;
     }
@@ -202,16 +189,14 @@ pub fn decode_words(list: &[u8], words: &mut [u64]) -> Decoded
     ensures answers { result ≡ decimals_answer list.now (length words.old) }
     ensures fills { words.new ≡ sets words.old 0 (decimals 0 list.now) }
 {
-    let mut i = 0;
     let mut n = 0;
     let mut value = 0;
-    while i < list.len() {
-        let Step::To(m, v) = advance(words, n, value, list[i]) else {
+    for b in list {
+        let Step::To(m, v) = advance(words, n, value, *b) else {
             return Decoded::Bad;
         };
         n = m;
         value = v;
-        i += 1;
     }
     put_word(words, n, value);
     if words.len() <= n {
@@ -239,11 +224,9 @@ fn put_pair(out: &mut [u8], at: usize, b: u8) -> usize
 pub fn put_hex(out: &mut [u8], at: usize, s: &[u8]) -> usize
     ensures { Put out.old at (each hex_pair s.now) out.new result }
 {
-    let mut i = 0;
     let mut to = at;
-    while i < s.len() {
-        to = put_pair(out, to, s[i]);
-        i += 1;
+    for b in s {
+        to = put_pair(out, to, *b);
     }
     to
 }
@@ -252,14 +235,12 @@ pub fn put_hex(out: &mut [u8], at: usize, s: &[u8]) -> usize
 fn put_words(out: &mut [u8], at: usize, words: &[u64]) -> usize
     ensures { Put out.old at (words_text words.now) out.new result }
 {
-    if words.len() == 0 {
+    let Some((first, others)) = words.split_first() else {
         return at;
-    }
-    let mut to = put_number(out, at, words[0]);
-    let mut i = 1;
-    while i < words.len() {
-        to = put_marked(out, to, b',', words[i]);
-        i += 1;
+    };
+    let mut to = put_number(out, at, *first);
+    for n in others {
+        to = put_marked(out, to, b',', *n);
     }
     to
 }

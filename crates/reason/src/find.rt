@@ -112,6 +112,7 @@ fn count_items(nodes: &[u64], from: usize, n: usize) -> u64
     let mut at = from;
     let mut left = n;
     let mut count = 0;
+    // `at` moves by a node's count, which is no step of an iterator
     while 0 < left {
         let c = subtree(nodes, at);
         at += 4 * c;
@@ -196,6 +197,7 @@ pub(crate) fn first_difference(
         (items_spot all level at (trees an.now a.now left at) (trees bn.now b.now more bt)) result }
 {
     let mut here = level;
+    // `at` and `bt` move by their nodes' counts, which is no step of an iterator
     while 0 < left {
         if more == 0 {
             return Found::Same;
