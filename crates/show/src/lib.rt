@@ -28,15 +28,7 @@ fn part(s: &[u8], from: usize, n: usize) -> &[u8]
 pub fn count_of(s: &[u8], b: u8) -> usize
     ensures { result ≡ count_of b s.now }
 {
-    let mut n = 0;
-    let mut i = 0;
-    while i < s.len() {
-        if s[i] == b {
-            n += 1;
-        }
-        i += 1;
-    }
-    n
+    s.iter().filter(|x| **x == b).count()
 }
 
 // A byte that is no printable ASCII shows as a dot, so that each byte takes one column.
@@ -55,11 +47,9 @@ fn glyph(b: u8) -> u8
 pub fn put_shown(out: &mut [u8], at: usize, s: &[u8]) -> usize
     ensures { Put out.old at (shown_text s.now) out.new result }
 {
-    let mut i = 0;
     let mut to = at;
-    while i < s.len() {
-        to = lines::put_bytes(out, to, &[glyph(s[i])]);
-        i += 1;
+    for b in s {
+        to = lines::put_bytes(out, to, &[glyph(*b)]);
     }
     to
 }
@@ -68,11 +58,9 @@ pub fn put_shown(out: &mut [u8], at: usize, s: &[u8]) -> usize
 fn put_times(out: &mut [u8], at: usize, s: &[u8], n: usize) -> usize
     ensures { Put out.old at (times n s.now) out.new result }
 {
-    let mut left = n;
     let mut to = at;
-    while 0 < left {
+    for _ in 0..n {
         to = lines::put_bytes(out, to, s);
-        left -= 1;
     }
     to
 }
@@ -95,13 +83,11 @@ fn depth(nodes: &[u64], i: u16) -> usize
     ensures { result ≡ depth_of nodes.now i }
 {
     let mut n = 0;
-    let mut j = 0;
-    while j < i {
+    for j in 0..i {
         let count = lines::word_at(nodes, 4 * (j as usize) + 3);
         if ((i - j) as u64) < count {
             n += 1;
         }
-        j += 1;
     }
     n
 }
@@ -111,11 +97,8 @@ fn line_of(table: &[u8], k: u64) -> &[u8]
     ensures { result.now ≡ line_of k table.now }
 {
     let mut unread = table;
-    let mut left = k;
-    while 0 < left {
-        let next = lines::rest(unread, b'\n');
-        unread = next;
-        left -= 1;
+    for _ in 0..k {
+        unread = lines::rest(unread, b'\n');
     }
     lines::field(unread, b'\n')
 }
