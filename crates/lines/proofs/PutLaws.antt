@@ -14,7 +14,7 @@ use Rattle.kinds.proofs.ListLaws.{unread, unread-end}
 use Rattle.kinds.specs.Print.{decimal}
 use Rattle.kinds.specs.Refusal.{number, values}
 use Rattle.kinds.specs.declared.Refusal.{Refusal}
-use Rattle.lines.specs.Answer.{Put, each, comma_number, words_text, sheet_text, space_number, refusal_text, hex_pair}
+use Rattle.lines.specs.Answer.{Put, each, joined, comma_number, words_text, sheet_text, space_number, refusal_text, hex_pair}
 
 -- ---- Stores beyond the end.
 
@@ -112,14 +112,19 @@ pub each-end : (f : ℕ → List ℕ) (s : List ℕ) (i : ℕ) → length s ≤ 
 unfolding each
 each-end f s i h = ap (each f) (unread-end s i h)
 
-pub words-none : (s : List ℕ) → length s ≡ 0 → words_text s ≡ []
-unfolding words_text
-words-none [] h = refl
-words-none (w ∷ s) h = absurd (omega arith)
+pub joined-none : (m : ℕ) (s : List ℕ) → length s ≡ 0 → joined m s ≡ []
+unfolding joined
+joined-none m [] h = refl
+joined-none m (w ∷ s) h = absurd (omega arith)
 
-pub words-some : (s : List ℕ) (w : ℕ) (ws : List ℕ) → s ≡ w ∷ ws → words_text s ≡ decimal w ++ each comma_number ws
-unfolding words_text
-words-some s w ws e = ap words_text e
+pub joined-some : (m : ℕ) (s : List ℕ) (w : ℕ) (ws : List ℕ) → s ≡ w ∷ ws → joined m s ≡ decimal w ++ each (λ k. m ∷ decimal k) ws
+unfolding joined
+joined-some m s w ws e = ap (joined m) e
+
+pub words-joined : (s : List ℕ) → joined 44 s ≡ words_text s
+unfolding joined words_text comma_number
+words-joined [] = refl
+words-joined (w ∷ s) = refl
 
 pub sheet-is : (words names used bytes : List ℕ) → used ≡ take (get_or words 3 0) words → bytes ≡ take (get_or words 2 0) names
     → (115 ∷ 58 ∷ []) ++ (words_text used ++ ((58 ∷ []) ++ each hex_pair bytes)) ≡ sheet_text words names

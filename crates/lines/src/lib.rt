@@ -7,7 +7,7 @@ ghost use Rattle.std.specs.Prelude.{◌≡◌, ◌+◌, ◌≤◌, ◌<◌, [], 
 ghost use Rattle.std.proofs.lemmas.List.Edits.{sets};
 ghost use Rattle.kinds.specs.Parse.{max_u64};
 ghost use Rattle.parser.specs.Place.{lent, remaining_at};
-ghost use Rattle.lines.specs.Answer.{until, front_of, hex_digit, hex_bytes, hex_answer, hex_glyph, hex_pair, grown, decimals, decimals_answer, Put, each, words_text, sheet_text, refusal_text};
+ghost use Rattle.lines.specs.Answer.{until, front_of, hex_digit, hex_bytes, hex_answer, hex_glyph, hex_pair, grown, decimals, decimals_answer, Put, each, joined, sheet_text, refusal_text};
 ghost use Rattle.lines.specs.Steps.{stepped, step_words};
 
 use kinds::Refusal;
@@ -231,16 +231,16 @@ pub fn put_hex(out: &mut [u8], at: usize, s: &[u8]) -> usize
     to
 }
 
-// Writes words in decimal with commas between; the next place.
-fn put_words(out: &mut [u8], at: usize, words: &[u64]) -> usize
-    ensures { Put out.old at (words_text words.now) out.new result }
+// Writes words in decimal with a mark between; the next place.
+pub fn put_joined(out: &mut [u8], at: usize, mark: u8, words: &[u64]) -> usize
+    ensures { Put out.old at (joined mark words.now) out.new result }
 {
     let Some((first, others)) = words.split_first() else {
         return at;
     };
     let mut to = put_number(out, at, *first);
     for n in others {
-        to = put_marked(out, to, b',', *n);
+        to = put_marked(out, to, mark, *n);
     }
     to
 }
@@ -252,7 +252,7 @@ pub fn put_sheet(out: &mut [u8], at: usize, words: &[u64], names: &[u8]) -> usiz
     let used = word_at(words, 3) as usize;
     let bytes = word_at(words, 2) as usize;
     let first = put_bytes(out, at, b"s:");
-    let second = put_words(out, first, front_words(words, used));
+    let second = put_joined(out, first, b',', front_words(words, used));
     let third = put_byte(out, second, b':');
     put_hex(out, third, front(names, bytes))
 }
