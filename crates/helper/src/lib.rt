@@ -307,6 +307,7 @@ pub fn level_for(all: bool, level: NestingLevel) -> NestingLevel
 }
 
 // The level after a node: that of what it holds, or, after a container and what holds nothing, `level`, at which the trees side by side are.
+// `expect` has a function of this name with another promise: it follows a pointer or an atomic alone.
 pub fn level_after(all: bool, kind: u64, level: NestingLevel, here: NestingLevel) -> NestingLevel
     ensures { result ≡ level_after all kind level here }
 {
