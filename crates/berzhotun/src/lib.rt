@@ -14,6 +14,7 @@ ghost use Rattle.static_str.specs.Answer.{encoding_len, encoding_array, encoding
 ghost use Rattle.berzhotun.specs.Answer.{size_number, size_values, compare_number, compare_values, print_number, print_values, read_number, read_values, rest_place, signature_number, signature_values};
 ghost use Rattle.berzhotun.specs.Answer.{reason_number, reason_values, layout_number, layout_values};
 
+use layout::LaidOut;
 use kinds::Refusal;
 
 // A comparison's answer as numbers.
@@ -131,7 +132,7 @@ fn give_signature(reading: Result<usize, Refusal>, values: &mut [u64; 3]) -> u64
 }
 
 // A layout's answer as numbers.
-fn give_laid_out(laid: Result<Option<(u64, u64)>, Refusal>, answer: &mut [u64; 3]) -> u64
+fn give_laid_out(laid: LaidOut, answer: &mut [u64; 3]) -> u64
     ensures returns { result ≡ layout_number laid }
     ensures answers { answer.new ≡ layout_values laid }
 {

@@ -7,6 +7,7 @@ ghost use Rattle.kinds.specs.Sheet.{kind_at, count_at, is_container_kind};
 ghost use Rattle.fields.specs.Answer.{holds, points, none_of, is_laid_out, last_of, holder_of, is_field_of, is_field, extent_of, gap, is_last, ends_with, largest, hole_in, hole_after};
 
 use kinds::{POINTER, Refusal, UNION, is_container};
+use layout::LaidOut;
 
 // A gap in a container: where it begins, and its bytes; 0 of them where there is none.
 #[derive(Clone, Copy)]
@@ -38,10 +39,7 @@ fn bytes_of(extents: &[u64], i: u16) -> u64
 fn behind(j: u16, i: u16) -> u64
     ensures { result ≡ i - j }
 {
-    if j < i {
-        return (i - j) as u64;
-    }
-    0
+    u64::from(i.saturating_sub(j))
 }
 
 fn holds(nodes: &[u64], j: u16, i: u16) -> bool
@@ -66,10 +64,8 @@ fn points(nodes: &[u64], j: u16, i: u16) -> bool
 pub fn is_laid_out(nodes: &[u64], i: u16) -> bool
     ensures { result ≡ is_laid_out nodes.now i }
 {
-    let mut left = i;
-    while 0 < left {
-        left -= 1;
-        if points(nodes, left, i) {
+    for j in (0..i).rev() {
+        if points(nodes, j, i) {
             return false;
         }
     }
@@ -80,11 +76,9 @@ pub fn is_laid_out(nodes: &[u64], i: u16) -> bool
 fn holder(nodes: &[u64], i: u16) -> u16
     ensures { result ≡ holder_of nodes.now i }
 {
-    let mut left = i;
-    while 0 < left {
-        left -= 1;
-        if holds(nodes, left, i) {
-            return left;
+    for j in (0..i).rev() {
+        if holds(nodes, j, i) {
+            return j;
         }
     }
     i
@@ -117,7 +111,7 @@ pub fn ends_with(nodes: &[u64], i: u16, last: u16) -> bool
 }
 
 // The size and the alignment of node `i`, or that the size is too large.
-pub fn extent_of(extents: &[u64], i: u16) -> Result<Option<(u64, u64)>, Refusal>
+pub fn extent_of(extents: &[u64], i: u16) -> LaidOut
     ensures { result ≡ extent_of extents.now i }
 {
     let alignment = lines::word_at(extents, 2 * (i as usize) + 1);
@@ -155,15 +149,6 @@ fn is_last(nodes: &[u64], p: u16, i: u16) -> bool
     true
 }
 
-fn larger(a: u64, b: u64) -> u64
-    ensures { result ≡ max a b }
-{
-    if a < b {
-        return b;
-    }
-    a
-}
-
 // The size of node `j`, if it is a field of `p`.
 fn field_bytes(nodes: &[u64], extents: &[u64], p: u16, j: u16) -> u64
     ensures { result ≡ cond (is_field_of nodes.now p j) (get_or extents.now (2 * j) 0) 0 }
@@ -179,10 +164,8 @@ fn largest(nodes: &[u64], extents: &[u64], p: u16, i: u16) -> u64
     ensures { result ≡ largest nodes.now extents.now p i }
 {
     let mut bytes = 0;
-    let mut j = 0;
-    while j < i {
-        bytes = larger(bytes, field_bytes(nodes, extents, p, j));
-        j += 1;
+    for j in 0..i {
+        bytes = bytes.max(field_bytes(nodes, extents, p, j));
     }
     bytes
 }
@@ -215,7 +198,7 @@ fn hole_in(nodes: &[u64], offsets: &[u64], extents: &[u64], p: u16, i: u16) -> H
     let bytes = bytes_of(extents, i);
     if kind_of(nodes, p) == UNION {
         if is_last(nodes, p, i) {
-            let most = larger(largest(nodes, extents, p, i), bytes);
+            let most = largest(nodes, extents, p, i).max(bytes);
             return between(0, most, bytes_of(extents, p));
         }
         return between(0, 0, 0);

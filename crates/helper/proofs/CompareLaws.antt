@@ -9,6 +9,7 @@ use borrow.Author.Tests.{leb-true, leb-false, ne_eqb, eqb-true}
 use lib.ListN.{length, get_or, take, drop, drop_of_length-le}
 use lib.Seq.{drop-cons}
 use lib.Dec.{leb, eqb}
+use lib.Pointwise.{pointwise}
 use Rattle.kinds.specs.Byte.{among, same_bytes}
 use Rattle.kinds.specs.Compare.{compare_encodings, compare_labels, compare_children, length_or_offset, bits, level_for}
 use Rattle.kinds.specs.Level.{shows_fields, container_include_fields}
@@ -28,20 +29,13 @@ use Rattle.helper.specs.Measure.{compare_fields, shown_count, level_after}
 
 -- ---- Bytes.
 
-pub bytes-differ : (a b : List ℕ) → (length a ≡ length b → ⊥) → same_bytes a b ≡ false
+-- what `==` says of two slices of bytes
+pub bytes-pointwise : (a b : List ℕ) → pointwise eqb a b ≡ same_bytes a b
 unfolding same_bytes
-bytes-differ [] [] p = absurd (p refl)
-bytes-differ [] (y ∷ b) p = refl
-bytes-differ (x ∷ a) [] p = refl
-bytes-differ (x ∷ a) (y ∷ b) p = rw (bytes-differ a b (λ e. p (ap suc e))) (and-false (eqb x y))
-
-pub bytes-step : (a b : List ℕ) (i : ℕ) → i < length a → i < length b → same_bytes (drop i a) (drop i b) ≡ (eqb (get_or a i 0) (get_or b i 0) && same_bytes (drop (i + 1) a) (drop (i + 1) b))
-unfolding same_bytes
-bytes-step a b i p q = rw (add-one, drop-cons a i 0, drop-cons b i 0)
-
-pub bytes-end : (a b : List ℕ) (i : ℕ) → length a ≤ i → length b ≤ i → same_bytes (drop i a) (drop i b) ≡ true
-unfolding same_bytes
-bytes-end a b i p q = rw (drop_of_length-le a p, drop_of_length-le b q)
+bytes-pointwise [] [] = refl
+bytes-pointwise [] (y ∷ b) = refl
+bytes-pointwise (x ∷ a) [] = refl
+bytes-pointwise (x ∷ a) (y ∷ b) = ap (λ t. eqb x y && t) (bytes-pointwise a b)
 
 -- ---- Kinds and labels.
 

@@ -1,13 +1,16 @@
 -- Laws of sizes.
-use Prim.Native.Nat.{ℕ, zero, suc, ◌+◌, ◌*◌, ◌/◌, ◌≤◌, ◌<◌, max}
+use Prim.Native.Nat.{ℕ, zero, suc, ◌+◌, ◌*◌, ◌/◌, ◌%◌, ◌^◌, ◌≤◌, ◌<◌, max, min}
 use native.Mathlib.Omega.{arith}
-use native.Mathlib.Nat.{zero-mul, mul_comm, mul-le-mul_right, max-zero, add_assoc, le-div_iff_mul-le, div-lt_iff_lt-mul}
+use native.Mathlib.Nat.{zero-mul, mul_comm, mul-le-mul_right, max-zero, add_assoc, le-div_iff_mul-le, div-lt_iff_lt-mul, one-le-pow, pow-le-pow_right, pow-succ'}
 use mathlib.Core.Path.{◌≡◌, refl, ap, sym, ◌∙◌, subst}
 use mathlib.Core.List.{List, [], ◌∷◌}
 use Rattle.std.specs.Prelude.{Option, Some, None, unwrap_or}
 use mathlib.Core.Bool.{Bool, true, false, cond}
 use borrow.Author.Tests.{le-leb, lt-leb, leb-true, leb-false, ne_eqb}
 use lib.Dec.{leb, eqb}
+use mathlib.Core.Logic.{inl, inr}
+use Rattle.std.specs.Int.{IsPowerOfTwo}
+use Rattle.std.proofs.lemmas.Bool.{cases_lt}
 use Rattle.kinds.specs.Size.{plus, larger, times, sum, largest, raised, bit_bytes}
 use Rattle.kinds.specs.Parse.{max_u64}
 use Rattle.kinds.proofs.SizeLaws.{raised-there, raised-on, bit-bytes}
@@ -154,50 +157,20 @@ bits_fit n h = fit-le (bit_bytes n) (most ((bit-bytes n).least 61 (room h)))
     most : bit_bytes n ≤ 2305843009213693952 → bit_bytes n ≤ 18446744073709551615
     most p = omega arith
 
--- With `bytes` so far, which may yet be doubled, they come to those of `n` bits.
-pub record Raising (n bytes : ℕ) : Type 0 where
-  pub some_bytes : 1 ≤ bytes
-  pub fuel : ℕ
-  pub reaches : n ≤ fuel + 8 * bytes
-  pub comes-to : raised fuel n (8 * bytes) / 8 ≡ bit_bytes n
+-- a smaller power of two is at most half of a larger one
+half : (i j : ℕ) → 2 ^ i < 2 ^ j → 2 * 2 ^ i ≤ 2 ^ j
+half i j h = elim (cases_lt i j) [
+  | inl l ↦ omega (arith, pow-le-pow_right {n = 2} (omega arith) {i = suc i} {j = j} (omega arith), pow-succ' 2 i)
+  | inr g ↦ absurd (omega (arith, pow-le-pow_right {n = 2} (omega arith) g))
+]
 
-pub raising-start : (n : ℕ) → Raising n 1
-unfolding bit_bytes
-raising-start n = record { some_bytes = omega arith; fuel = n; reaches = omega arith; comes-to = refl }
-
-pub raising-next : {n bytes : ℕ} → 8 * bytes < n → Raising n bytes → Raising n (bytes * 2)
-raising-next {n} {bytes} h r = go r.fuel r.reaches r.comes-to
-  where
-    go : (f : ℕ) → n ≤ f + 8 * bytes → raised f n (8 * bytes) / 8 ≡ bit_bytes n → Raising n (bytes * 2)
-    go zero l e = absurd (omega arith)
-    go (suc f) l e = record {
-      some_bytes = let o = r.some_bytes in omega arith;
-      fuel = f;
-      reaches = omega arith;
-      comes-to = ap (λ (p : ℕ). raised f n p / 8) (omega arith) ∙ ap (λ (x : ℕ). x / 8) (sym (raised-on f n (8 * bytes) h)) ∙ e;
-    }
-
-pub raising-end : {n bytes : ℕ} → n ≤ 8 * bytes → Raising n bytes → bytes ≡ bit_bytes n
-raising-end {n} {bytes} h r = eighth (8 * bytes) refl ∙ ap (λ (x : ℕ). x / 8) (sym (raised-there r.fuel n (8 * bytes) h)) ∙ r.comes-to
-  where
-    eighth : (x : ℕ) → x ≡ 8 * bytes → bytes ≡ x / 8
-    eighth x e = omega arith
-
--- The doublings that a number of bits above the last one takes.
-pub raising-2 : {n : ℕ} → 8 < n → Raising n 2
-raising-2 {n} h = raising-next h (raising-start n)
-
-pub raising-4 : {n : ℕ} → 16 < n → Raising n 4
-raising-4 h = raising-next h (raising-2 (omega arith))
-
-pub raising-8 : {n : ℕ} → 32 < n → Raising n 8
-raising-8 h = raising-next h (raising-4 (omega arith))
-
-pub raising-16 : {n : ℕ} → 64 < n → Raising n 16
-raising-16 h = raising-next h (raising-8 (omega arith))
-
-pub raising-32 : {n : ℕ} → 128 < n → Raising n 32
-raising-32 h = raising-next h (raising-16 (omega arith))
-
-pub raising-64 : {n : ℕ} → 256 < n → Raising n 64
-raising-64 h = raising-next h (raising-32 (omega arith))
+-- They are the least power of two from an eighth of the bits on.
+pub bytes-next_power : (n m p : ℕ) → m ≡ n / 8 + min 1 (n % 8) → IsPowerOfTwo p → m ≤ p → p / 2 < max 1 m → p ≡ bit_bytes n
+bytes-next_power n m p e w l u =
+    let b = bit-bytes n in
+    let up = b.least w.0 (omega (arith, w.1)) in
+    let one = one-le-pow b.exponent 2 (omega arith) in
+    elim (cases_lt (bit_bytes n) p) [
+      | inl d ↦ absurd (omega (arith, half b.exponent w.0 (omega (arith, w.1, b.power)), w.1, b.power, b.enough, one))
+      | inr d ↦ omega (arith, w.1, up)
+    ]

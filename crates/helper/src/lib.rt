@@ -66,13 +66,7 @@ impl Measured {
             Measured::Bytes(a) => match other {
                 Measured::Nothing => Measured::Bytes(a),
                 Measured::TooLarge => Measured::TooLarge,
-                Measured::Bytes(b) => {
-                    if a <= b {
-                        Measured::Bytes(b)
-                    } else {
-                        Measured::Bytes(a)
-                    }
-                }
+                Measured::Bytes(b) => Measured::Bytes(a.max(b)),
             },
         }
     }
@@ -162,35 +156,11 @@ impl Measured {
     }
 }
 
-// The bits raised to a power of two, at least 8, in bytes. No sheet has more than 255 bits, for which the loop is not entered.
+// The bits raised to a power of two, at least 8, in bytes.
 fn bit_bytes(n: u64) -> u64
     ensures { result ≡ bit_bytes n }
 {
-    if n <= 8 {
-        return 1;
-    }
-    if n <= 16 {
-        return 2;
-    }
-    if n <= 32 {
-        return 4;
-    }
-    if n <= 64 {
-        return 8;
-    }
-    if n <= 128 {
-        return 16;
-    }
-    if n <= 256 {
-        return 32;
-    }
-    // so many bytes hold the bits
-    let enough = n / 8 + (n % 8 + 7) / 8;
-    let mut bytes = 64;
-    while bytes < enough {
-        bytes *= 2;
-    }
-    bytes
+    n.div_ceil(8).next_power_of_two()
 }
 
 // A node whose size does not depend on what it holds: a primitive, a bitfield without a type, a pointer, None.
@@ -241,6 +211,7 @@ fn size_of(sizes: &[u8; 24], nodes: &[u64], at: usize, level: NestingLevel) -> M
     let mut child = at + 4;
     let mut left = (nodes[at + 3] as usize) - 1;
     let mut all = Measured::of_no_fields(kind);
+    // `child` moves by a node's count, which is no step of an iterator
     while 0 < left {
         let field = nodes[child];
         if field < TYPED_BIT_FIELD {
@@ -267,23 +238,8 @@ fn size_of(sizes: &[u8; 24], nodes: &[u64], at: usize, level: NestingLevel) -> M
     all
 }
 
-pub fn same_bytes(a: &[u8], b: &[u8]) -> bool
-    ensures { result ≡ same_bytes a.now b.now }
-{
-    if a.len() != b.len() {
-        return false;
-    }
-    let mut i = 0;
-    while i < a.len() {
-        if a[i] != b[i] {
-            return false;
-        }
-        i += 1;
-    }
-    true
-}
-
-fn same_name(a: &[u64], an: &[u8], at: usize, b: &[u64], bn: &[u8], bt: usize) -> bool
+// Whether the names of two containers are the same bytes.
+pub fn same_name(a: &[u64], an: &[u8], at: usize, b: &[u64], bn: &[u8], bt: usize) -> bool
     requires at_in_bounds { (at + 4 ≤ length a.now) × (bt + 4 ≤ length b.now) }
     requires names_in_bounds { (first_at a.now at + second_at a.now at ≤ length an.now) × (first_at b.now bt + second_at b.now bt ≤ length bn.now) }
     ensures { result ≡ same_bytes (take (second_at a.now at) (drop (first_at a.now at) an.now)) (take (second_at b.now bt) (drop (first_at b.now bt) bn.now)) }
@@ -294,7 +250,7 @@ fn same_name(a: &[u64], an: &[u8], at: usize, b: &[u64], bn: &[u8], bt: usize) -
     let bl = b[bt + 2] as usize;
     let ae = af + al;
     let be = bf + bl;
-    same_bytes(&an[af..ae], &bn[bf..be])
+    an[af..ae] == bn[bf..be]
 }
 
 // Whether the numbers of two nodes of this kind, which is no container's, match.
@@ -306,10 +262,7 @@ fn same_numbers(kind: u64, af: u64, al: u64, bf: u64, bl: u64) -> bool
         return al == bl;
     }
     if kind == TYPED_BIT_FIELD {
-        if af != bf {
-            return false;
-        }
-        return al == bl;
+        return af == bf && al == bl;
     }
     if kind == ARRAY {
         return af == bf;
@@ -346,6 +299,7 @@ pub fn level_for(all: bool, level: NestingLevel) -> NestingLevel
 }
 
 // The level after a node: that of what it holds, or, after a container and what holds nothing, `level`, at which the trees side by side are.
+// `expect` has a function of this name with another promise: it follows a pointer or an atomic alone.
 pub fn level_after(all: bool, kind: u64, level: NestingLevel, here: NestingLevel) -> NestingLevel
     ensures { result ≡ level_after all kind level here }
 {
@@ -371,26 +325,14 @@ pub fn shown_count(level: NestingLevel, n: usize) -> usize
 fn either_none(n: usize, m: usize) -> bool
     ensures { result ≡ (eqb n 0 || eqb m 0) }
 {
-    if n == 0 {
-        return true;
-    }
-    m == 0
+    n == 0 || m == 0
 }
 
 // Whether nothing comes after two containers, of `n` and `m` nodes of fields, that both have some.
 fn fields_last(after: usize, n: usize, later: usize, m: usize) -> bool
     ensures { result ≡ true → (after ≤ 0) × (later ≤ 0) × (0 < n) × (0 < m) }
 {
-    if 0 < after {
-        return false;
-    }
-    if 0 < later {
-        return false;
-    }
-    if n == 0 {
-        return false;
-    }
-    0 < m
+    after == 0 && later == 0 && 0 < n && 0 < m
 }
 
 // Whether the fields match: the trees of the `left` nodes from `at` on and those of the `more` nodes from `bt` on. One that has none
@@ -415,6 +357,7 @@ fn compare_fields(
         return true;
     }
     let mut here = level;
+    // `at` and `bt` move by their nodes' counts, which is no step of an iterator
     while !either_none(left, more) {
         if !compare_labels(a, an, at, b, bn, bt) {
             return false;

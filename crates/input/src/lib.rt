@@ -23,6 +23,7 @@ pub fn read_full<R: Read>(reader: &mut R, buf: &mut [u8]) -> io::Result<usize>
     ensures none_lost { IfErr result (λ e. (n : ℕ) × (n ≤ length buf.new) × Consumes (R.remaining reader.old) (R.remaining reader.new) (take n buf.new)) }
 {
     let mut done = 0;
+    // no method of `Read` fills a lent buffer up to the end of the input: `read_exact` fails there, and `read_to_end` takes memory
     while done < buf.len() {
         let n = reader.read(&mut buf[done..])?;
         if n == 0 {

@@ -45,7 +45,7 @@ pub const MAX_NODES: u64 = 2001;
 
 pub const MAX_NAMES: u64 = 2000;
 
-#[derive(Clone, Copy)]
+#[derive(Clone, Copy, Debug, PartialEq, Eq)]
 pub enum NestingLevel {
     Top,
     Within,

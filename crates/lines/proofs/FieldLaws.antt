@@ -1,28 +1,39 @@
 -- Laws of a field's end.
-use Prim.Native.Nat.{ℕ, suc, ◌+◌, ◌≤◌, ◌<◌}
-use mathlib.Core.Path.{◌≡◌, ap, sym, ◌∙◌}
+use Prim.Native.Nat.{ℕ, ◌+◌, ◌≤◌}
+use mathlib.Core.Path.{◌≡◌, refl, ap, sym, subst, ◌∙◌}
 use mathlib.Core.List.{List}
+use mathlib.Core.Bool.{Bool, true, false, cond, not}
+use Rattle.std.proofs.Common.{Option, Some, None}
+use Rattle.std.specs.Option.{unwrap_or}
 use native.Mathlib.Omega.{arith}
-use lib.ListN.{length, take, drop, get_or}
+use lib.ListN.{length, take}
 use lib.Seq.{take_all}
-use borrow.Author.Tests.{eq-eqb, ne_eqb}
-use Rattle.kinds.proofs.ListLaws.{unread, unread-end}
+use lib.Dec.{eqb, ltb}
+use native.Mathlib.Nat.{add_comm}
+use native.Mathlib.Numerals.{add-one}
+use Rattle.std.specs.List.{position, position_or_len}
+use Rattle.std.proofs.lemmas.List.Sums.{prefix_len-le-length}
+use Rattle.std.proofs.lemmas.List.Recursion.{is_position_or_len}
+use borrow.Author.Tests.{ltb-false}
 use denote.Ref.{Bor}
 use Rattle.parser.specs.Place.{remaining_at}
 use Rattle.parser.proofs.PlaceLaws.{end-remains}
 use Rattle.lines.specs.Answer.{until, front_of}
 
-pub until-here : (b : ℕ) (s : List ℕ) (i : ℕ) → i < length s → get_or s i 0 ≡ b → until b (drop i s) ≡ 0
+until_is : (b : ℕ) (s : List ℕ) → position_or_len (λ x. eqb x b) s ≡ until b s
 unfolding until
-until-here b s i h e = ap (until b) (unread s i h) ∙ rw (eq-eqb (get_or s i 0) b e)
+until_is b s = sym (is_position_or_len (until b) (λ x. eqb x b) refl (λ x t. rw (add_comm 1 (until b t), add-one)) s)
 
-pub until-more : (b : ℕ) (s : List ℕ) (i : ℕ) → i < length s → (get_or s i 0 ≡ b → ⊥) → until b (drop i s) ≡ suc (until b (drop (i + 1) s))
-unfolding until
-until-more b s i h e = ap (until b) (unread s i h) ∙ rw (ne_eqb (get_or s i 0) b e)
+until-le : (b : ℕ) (s : List ℕ) → until b s ≤ length s
+until-le b s = subst (λ n. n ≤ length s) (until_is b s) (prefix_len-le-length (λ x. not (eqb x b)) s)
 
-pub until_end : (b : ℕ) (s : List ℕ) (i : ℕ) → length s ≤ i → until b (drop i s) ≡ 0
-unfolding until
-until_end b s i h = ap (until b) (unread-end s i h)
+-- the place of the first `b`, as `position` gives it, or else the length
+pub until-found : (b : ℕ) (s : List ℕ) (o : Option ℕ) → o ≡ position (λ x. eqb x b) s → (unwrap_or o (length s) ≡ until b s) × (unwrap_or o (length s) ≤ length s)
+until-found b s o e = rw (e, until_is b s) (go (ltb (until b s) (length s)) refl)
+  where
+    go : (t : Bool) → ltb (until b s) (length s) ≡ t → (unwrap_or (cond t (Some (until b s)) None) (length s) ≡ until b s) × (unwrap_or (cond t (Some (until b s)) None) (length s) ≤ length s)
+    go true q = (refl, until-le b s)
+    go false q = let l = until-le b s in let h = ltb-false (until b s) (length s) q in (omega arith, omega arith)
 
 -- The first bytes of a lent text stand where the text stands.
 pub front-is : (s : Bor (List ℕ)) (n m : ℕ) → n ≡ m → (s.ref_ptr, take n s.now) ≡ front_of s m

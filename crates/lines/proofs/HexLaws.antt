@@ -6,10 +6,9 @@ use mathlib.Core.Path.{◌≡◌, refl, ap, ap₂, sym, subst, ◌∙◌}
 use mathlib.Core.Bool.{Bool, true, false, ◌&&◌}
 use mathlib.Core.List.{List, [], ◌∷◌}
 use lib.Dec.{ltb}
-use lib.ListN.{length, drop, set, get_or, length-set}
-use lib.Seq.{sets}
+use lib.ListN.{length, take, drop, set, get_or, length-set}
+use lib.Seq.{sets, take_all}
 use borrow.Author.Tests.{le-leb, lt-leb, lt-ltb, le-ltb}
-use Rattle.kinds.proofs.ListLaws.{unread, unread-end}
 use Rattle.kinds.specs.Byte.{is_digit}
 use Rattle.lines.specs.Answer.{hex_digit, is_pair, hex_bytes, is_hex, hex_answer, hex_glyph, hex_pair}
 use Rattle.std.specs.Prelude.{Some, None}
@@ -47,25 +46,17 @@ pub hex_pair-is : (b x y : ℕ) → x ≡ hex_glyph (b / 16) → y ≡ hex_glyph
 unfolding hex_pair
 hex_pair-is b x y p q = ap₂ (λ (j k : ℕ). j ∷ k ∷ []) p q
 
--- ---- Reading, with `n` bytes in the list and the pairs from `i` on unread.
+-- ---- Reading, with `n` bytes in the list and the pairs of `rest` unread.
 
-pub record Read (hex before out : List ℕ) (i n : ℕ) : Type 0 where
-  pub fills : sets out n (hex_bytes (drop i hex)) ≡ sets before 0 (hex_bytes hex)
-  pub good : is_hex (drop i hex) ≡ is_hex hex
-  pub count : n + length (hex_bytes (drop i hex)) ≡ length (hex_bytes hex)
-  pub within : i ≤ length hex
-  pub few : n ≤ i
+pub record Read (hex before out rest : List ℕ) (n : ℕ) : Type 0 where
+  pub fills : sets out n (hex_bytes rest) ≡ sets before 0 (hex_bytes hex)
+  pub good : is_hex rest ≡ is_hex hex
+  pub count : n + length (hex_bytes rest) ≡ length (hex_bytes hex)
+  pub few : n + length rest ≤ length hex
   pub same : length out ≡ length before
 
-pub read-start : (hex out : List ℕ) → Read hex out out 0 0
-read-start hex out = record { fills = refl; good = refl; count = omega arith; within = omega arith; few = omega arith; same = refl }
-
-two : (hex : List ℕ) (i : ℕ) → i + 1 < length hex → drop i hex ≡ get_or hex i 0 ∷ get_or hex (i + 1) 0 ∷ drop (i + 2) hex
-two hex i h = unread hex i (omega arith) ∙ ap (λ (t : List ℕ). get_or hex i 0 ∷ t)
-    (unread hex (i + 1) h ∙ ap (λ (k : ℕ). get_or hex (i + 1) 0 ∷ drop k hex) (next i))
-  where
-    next : (j : ℕ) → j + 1 + 1 ≡ j + 2
-    next j = omega arith
+pub read-start : (hex out : List ℕ) → Read hex out out hex 0
+read-start hex out = record { fills = refl; good = refl; count = omega arith; few = omega arith; same = refl }
 
 pair-good : (a b : ℕ) → hex_digit a < 16 → hex_digit b < 16 → is_pair a b ≡ true
 unfolding is_pair
@@ -83,68 +74,71 @@ pair-bad-second a b h = rw (le-ltb (hex_digit b) 16 h) (none (ltb (hex_digit a) 
     none true = refl
     none false = refl
 
+pub first-pair : (u : List ℕ) → 2 ≤ length u → u ≡ get_or u 0 0 ∷ get_or u 1 0 ∷ take (length u - 2) (drop 2 u)
+first-pair [] h = absurd (omega arith)
+first-pair (a ∷ []) h = absurd (omega arith)
+first-pair (a ∷ b ∷ s) h = ap (λ t. a ∷ b ∷ t) (sym (take_all _ s (omega arith)))
+
 -- A pair that is cut off or bad ends the reading.
-pub record Stopped (hex : List ℕ) (i : ℕ) : Type 0 where
-  pub none : hex_bytes (drop i hex) ≡ []
-  pub bad : is_hex (drop i hex) ≡ false
+pub record Stopped (rest : List ℕ) : Type 0 where
+  pub none : hex_bytes rest ≡ []
+  pub bad : is_hex rest ≡ false
 
-module _ (hex : List ℕ) (i : ℕ) where
-  pub stopped-end : i < length hex → length hex - i ≡ 1 → Stopped hex i
-  unfolding hex_bytes is_hex
-  stopped-end h k =
-      let t : drop i hex ≡ get_or hex i 0 ∷ [] = unread hex i h ∙ ap (λ (s : List ℕ). get_or hex i 0 ∷ s) (unread-end hex (i + 1) (omega arith)) in
-      record { none = ap hex_bytes t; bad = ap is_hex t }
+pub stopped-end : (rest : List ℕ) → length rest ≡ 1 → Stopped rest
+unfolding hex_bytes is_hex
+stopped-end [] h = absurd (omega arith)
+stopped-end (a ∷ []) h = record { none = refl; bad = refl }
+stopped-end (a ∷ b ∷ s) h = absurd (omega arith)
 
-  pub stopped-bad : i + 1 < length hex → is_pair (get_or hex i 0) (get_or hex (i + 1) 0) ≡ false → Stopped hex i
-  unfolding hex_bytes is_hex
-  stopped-bad h g = record { none = ap hex_bytes (two hex i h) ∙ rw g; bad = ap is_hex (two hex i h) ∙ rw g }
+pub stopped-bad : {rest : List ℕ} (a b : ℕ) (s : List ℕ) → rest ≡ a ∷ b ∷ s → is_pair a b ≡ false → Stopped rest
+unfolding hex_bytes is_hex
+stopped-bad a b s t g = record { none = ap hex_bytes t ∙ rw g; bad = ap is_hex t ∙ rw g }
 
-  ended : length hex ≤ i → (hex_bytes (drop i hex) ≡ []) × (is_hex (drop i hex) ≡ true)
-  unfolding hex_bytes is_hex
-  ended h = (ap hex_bytes (unread-end hex i h), ap is_hex (unread-end hex i h))
+ended : (rest : List ℕ) → length rest ≡ 0 → (hex_bytes rest ≡ []) × (is_hex rest ≡ true)
+unfolding hex_bytes is_hex
+ended [] h = (refl, refl)
+ended (a ∷ s) h = absurd (omega arith)
 
-module _ {hex before out : List ℕ} {i n : ℕ} where
-  pub read_more : (x y : ℕ) → i + 1 < length hex → Read hex before out i n → x ≡ hex_digit (get_or hex i 0) → y ≡ hex_digit (get_or hex (i + 1) 0) → x < 16 → y < 16
-      → (out' : List ℕ) → out' ≡ set out n (16 * x + y) → Read hex before out' (i + 2) (n + 1)
+module _ {hex before out rest : List ℕ} {n : ℕ} where
+  pub read_more : (a b : ℕ) (s : List ℕ) (x y : ℕ) → rest ≡ a ∷ b ∷ s → Read hex before out rest n → x ≡ hex_digit a → y ≡ hex_digit b → x < 16 → y < 16
+      → (out' : List ℕ) → out' ≡ set out n (16 * x + y) → Read hex before out' s (n + 1)
   unfolding hex_bytes is_hex
-  read_more x y h r p q xs ys out' o =
-      let t = two hex i h in
-      let g = pair-good (get_or hex i 0) (get_or hex (i + 1) 0) (subst (λ (k : ℕ). k < 16) p xs) (subst (λ (k : ℕ). k < 16) q ys) in
-      let v : 16 * x + y ≡ 16 * hex_digit (get_or hex i 0) + hex_digit (get_or hex (i + 1) 0) = ap₂ (λ (j k : ℕ). 16 * j + k) p q in
-      let b : hex_bytes (drop i hex) ≡ (16 * x + y) ∷ hex_bytes (drop (i + 2) hex) = ap hex_bytes t ∙ rw (g, sym v) in
+  read_more a b s x y t r p q xs ys out' o =
+      let g = pair-good a b (subst (λ (k : ℕ). k < 16) p xs) (subst (λ (k : ℕ). k < 16) q ys) in
+      let v : 16 * x + y ≡ 16 * hex_digit a + hex_digit b = ap₂ (λ (j k : ℕ). 16 * j + k) p q in
+      let d : hex_bytes rest ≡ (16 * x + y) ∷ hex_bytes s = ap hex_bytes t ∙ rw (g, sym v) in
       let c = r.count in
-      let w = r.within in
       let f = r.few in
-      let l = ap length b in
+      let l = ap length d in
+      let e = ap length t in
       let m = ap length o ∙ length-set out n (16 * x + y) ∙ r.same in
       record {
-        fills = ap₂ (λ (z : List ℕ) (k : ℕ). sets z k (hex_bytes (drop (i + 2) hex))) o (add-one n) ∙ sym (ap (sets out n) b) ∙ r.fills;
+        fills = ap₂ (λ (z : List ℕ) (k : ℕ). sets z k (hex_bytes s)) o (add-one n) ∙ sym (ap (sets out n) d) ∙ r.fills;
         good = sym (ap is_hex t ∙ rw g) ∙ r.good;
         count = omega arith;
-        within = omega arith;
         few = omega arith;
         same = m;
       }
 
-  pub answer-bad : (room : ℕ) → Read hex before out i n → Stopped hex i → (None ≡ hex_answer hex room) × (out ≡ sets before 0 (hex_bytes hex))
+  pub answer-bad : (room : ℕ) → Read hex before out rest n → Stopped rest → (None ≡ hex_answer hex room) × (out ≡ sets before 0 (hex_bytes hex))
   unfolding hex_answer
   answer-bad room r s = (sym (rw (sym r.good ∙ s.bad)), sym (ap (sets out n) s.none) ∙ r.fills)
 
-  whole : length hex ≤ i → Read hex before out i n → (is_hex hex ≡ true) × ((length (hex_bytes hex) ≡ n) × (out ≡ sets before 0 (hex_bytes hex)))
+  whole : length rest ≡ 0 → Read hex before out rest n → (is_hex hex ≡ true) × ((length (hex_bytes hex) ≡ n) × (out ≡ sets before 0 (hex_bytes hex)))
   whole h r =
-      let e = ended hex i h in
+      let e = ended rest h in
       let l = ap length e.0 in
       let c = r.count in
       (sym r.good ∙ e.1, (omega arith, sym (ap (sets out n) e.0) ∙ r.fills))
 
-  pub answer-short : length hex ≤ i → Read hex before out i n → length out < n → (None ≡ hex_answer hex (length before)) × (out ≡ sets before 0 (hex_bytes hex))
+  pub answer-short : length rest ≡ 0 → Read hex before out rest n → length out < n → (None ≡ hex_answer hex (length before)) × (out ≡ sets before 0 (hex_bytes hex))
   unfolding hex_answer
   answer-short h r k =
       let w = whole h r in
       let j : length before < length (hex_bytes hex) = let s = r.same in let c = w.1.0 in omega arith in
       (sym (rw (w.0, lt-leb (length (hex_bytes hex)) (length before) j)), w.1.1)
 
-  pub answer-items : length hex ≤ i → Read hex before out i n → n ≤ length out → (Some n ≡ hex_answer hex (length before)) ×
+  pub answer-items : length rest ≡ 0 → Read hex before out rest n → n ≤ length out → (Some n ≡ hex_answer hex (length before)) ×
       (out ≡ sets before 0 (hex_bytes hex))
   unfolding hex_answer
   answer-items h r k =

@@ -4,16 +4,17 @@ use native.Mathlib.Omega.{arith}
 use native.Mathlib.Numerals.{add-one}
 use mathlib.Core.Path.{◌≡◌, refl, ap, ap₂, sym, subst, ◌∙◌}
 use mathlib.Core.Bool.{Bool, true, false}
-use mathlib.Core.List.{List, [], ◌∷◌, ◌++◌}
+use mathlib.Core.List.{List, [], ◌∷◌, ◌++◌, append_assoc}
 use lib.Dec.{ltb}
 use lib.ListN.{length, take, drop, set, get_or, length-set, length-append}
-use lib.Seq.{sets, length-sets, set_out}
+use lib.Seq.{sets, length-sets, set_out, drop-drop, sets-eq}
+use borrow.Rule.Slice.PartMut.{put_mid}
 use borrow.Author.Tests.{ltb-true, ltb-false}
 use Rattle.kinds.proofs.ListLaws.{unread, unread-end}
 use Rattle.kinds.specs.Print.{decimal}
 use Rattle.kinds.specs.Refusal.{number, values}
 use Rattle.kinds.specs.declared.Refusal.{Refusal}
-use Rattle.lines.specs.Answer.{Put, each, comma_number, words_text, sheet_text, space_number, refusal_text, hex_pair}
+use Rattle.lines.specs.Answer.{Put, each, joined, comma_number, words_text, sheet_text, space_number, refusal_text, hex_pair}
 
 -- ---- Stores beyond the end.
 
@@ -79,24 +80,13 @@ put-pair o a x y h = record { place = omega arith; text = rw add-one }
 pub put_next : {o e xs : List ℕ} {a r : ℕ} → Put o a xs e r → a + length xs ≤ length o → r ≡ a + length xs
 put_next {o} {e} {xs} {a} {r} w h = let p = w.place in omega arith
 
--- Bytes copied one after the other: what is left to copy makes the whole.
-module _ (o s : List ℕ) (a : ℕ) where
-  pub copied_none : sets o (a + 0) (drop 0 s) ≡ sets o a s
-  copied_none = ap (λ (k : ℕ). sets o k s) (here a)
-    where
-      here : (a : ℕ) → a + 0 ≡ a
-      here a = omega arith
-
-  pub copied_more : (m : List ℕ) (i : ℕ) → i < length s → sets m (a + i) (drop i s) ≡ sets o a s
-      → sets (set m (a + i) (get_or s i 0)) (a + (i + 1)) (drop (i + 1) s) ≡ sets o a s
-  copied_more m i h e =
-      ap (λ (k : ℕ). sets (set m (a + i) (get_or s i 0)) k (drop (i + 1) s)) (next a i) ∙ sym (ap (sets m (a + i)) (unread s i h)) ∙ e
-    where
-      next : (a i : ℕ) → a + (i + 1) ≡ suc (a + i)
-      next a i = omega arith
-
-  pub copied_all : (m : List ℕ) (i : ℕ) → length s ≤ i → sets m (a + i) (drop i s) ≡ sets o a s → m ≡ sets o a s
-  copied_all m i h e = sym (ap (sets m (a + i)) (unread-end s i h)) ∙ e
+-- Bytes copied over the `k` bytes from `a` on.
+pub put-part : (o s ys : List ℕ) (a k : ℕ) → a + length s ≤ length o → ys ≡ s → k ≡ length s → Put o a s (put_mid a k o ys) (a + length s)
+put-part o s ys a k h e q = record {
+  place = omega arith;
+  text = ap₂ (λ (x : List ℕ) (n : ℕ). take a o ++ (x ++ drop n (drop a o))) e q ∙ ap (λ (x : List ℕ). take a o ++ (s ++ x)) (drop-drop (length s) a o)
+      ∙ sym (append_assoc (take a o) s (drop (a + length s) o)) ∙ sym (sets-eq s o a h);
+}
 
 -- With `rest` still to be put at `p`, the output becomes `all` put at `a`.
 abbrev pub ToPut : List ℕ → ℕ → List ℕ → List ℕ → ℕ → List ℕ → Type 0
@@ -122,15 +112,19 @@ pub each-end : (f : ℕ → List ℕ) (s : List ℕ) (i : ℕ) → length s ≤ 
 unfolding each
 each-end f s i h = ap (each f) (unread-end s i h)
 
-pub words-none : (s : List ℕ) → length s ≡ 0 → words_text s ≡ []
-unfolding words_text
-words-none [] h = refl
-words-none (w ∷ s) h = absurd (omega arith)
+pub joined-none : (m : ℕ) (s : List ℕ) → length s ≡ 0 → joined m s ≡ []
+unfolding joined
+joined-none m [] h = refl
+joined-none m (w ∷ s) h = absurd (omega arith)
 
-pub words-some : (s : List ℕ) → 0 < length s → words_text s ≡ decimal (get_or s 0 0) ++ each comma_number (drop 1 s)
-unfolding words_text
-words-some [] h = absurd (omega arith)
-words-some (w ∷ s) h = refl
+pub joined-some : (m : ℕ) (s : List ℕ) (w : ℕ) (ws : List ℕ) → s ≡ w ∷ ws → joined m s ≡ decimal w ++ each (λ k. m ∷ decimal k) ws
+unfolding joined
+joined-some m s w ws e = ap (joined m) e
+
+pub words-joined : (s : List ℕ) → joined 44 s ≡ words_text s
+unfolding joined words_text comma_number
+words-joined [] = refl
+words-joined (w ∷ s) = refl
 
 pub sheet-is : (words names used bytes : List ℕ) → used ≡ take (get_or words 3 0) words → bytes ≡ take (get_or words 2 0) names
     → (115 ∷ 58 ∷ []) ++ (words_text used ++ ((58 ∷ []) ++ each hex_pair bytes)) ≡ sheet_text words names

@@ -85,6 +85,11 @@ unfoldable pub each : (ℕ → List ℕ) → List ℕ → List ℕ
 each f [] = []
 each f (x ∷ s) = f x ++ each f s
 
+-- Numbers in decimal with a mark between.
+unfoldable pub joined : ℕ → List ℕ → List ℕ
+joined m [] = []
+joined m (n ∷ ns) = decimal n ++ each (λ k. m ∷ decimal k) ns
+
 unfoldable pub comma_number : ℕ → List ℕ
 comma_number n = byte "," ∷ decimal n
 

@@ -7,31 +7,18 @@ ghost use Rattle.std.specs.Prelude.{◌≡◌, ◌+◌, ◌≤◌, ◌<◌, [], 
 ghost use Rattle.std.proofs.lemmas.List.Edits.{sets};
 ghost use Rattle.kinds.specs.Parse.{max_u64};
 ghost use Rattle.parser.specs.Place.{lent, remaining_at};
-ghost use Rattle.lines.specs.Answer.{until, front_of, hex_digit, hex_bytes, hex_answer, hex_glyph, hex_pair, grown, decimals, decimals_answer, Put, each, words_text, sheet_text, refusal_text};
+ghost use Rattle.lines.specs.Answer.{until, front_of, hex_digit, hex_bytes, hex_answer, hex_glyph, hex_pair, grown, decimals, decimals_answer, Put, each, joined, sheet_text, refusal_text};
 ghost use Rattle.lines.specs.Steps.{stepped, step_words};
 
 use kinds::Refusal;
 use put::put_byte;
 pub use put::{put_bytes, put_marked, put_number};
 
-fn wide(b: u8) -> u64
-    ensures { result ≡ b }
-{
-    b as u64
-}
-
 // The place of the first `b`, or the length.
 fn place_of(s: &[u8], b: u8) -> usize
     ensures { (result ≡ until b s.now) × (result ≤ length s.now) }
 {
-    let mut i = 0;
-    while i < s.len() {
-        if s[i] == b {
-            return i;
-        }
-        i += 1;
-    }
-    i
+    s.iter().position(|x| *x == b).unwrap_or(s.len())
 }
 
 // What stands before the first `b`; all, where there is none.
@@ -117,23 +104,23 @@ pub fn decode_hex(hex: &[u8], out: &mut [u8]) -> Option<usize>
     ensures answers { result ≡ hex_answer hex.now (length out.old) }
     ensures fills { out.new ≡ sets out.old 0 (hex_bytes hex.now) }
 {
-    let mut i = 0;
     let mut n = 0;
-    while i < hex.len() {
-        if hex.len() - i == 1 {
-            return None;
-        }
-        let high = digit_of(hex[i]);
+    let mut unread = hex;
+    while let [a, b, rest @ ..] = unread {
+        let high = digit_of(*a);
         if 16 <= high {
             return None;
         }
-        let low = digit_of(hex[i + 1]);
+        let low = digit_of(*b);
         if 16 <= low {
             return None;
         }
         put_byte(out, n, 16 * high + low);
         n += 1;
-        i += 2;
+        unread = rest;
+    }
+    if unread.len() == 1 {
+        return None;
     }
     if out.len() < n {
         return None;
@@ -150,7 +137,7 @@ fn grow(n: u64, b: u8) -> Option<u64>
     if b'9' < b {
         return None;
     }
-    let d = wide(b - b'0');
+    let d = u64::from(b - b'0');
     if 1844674407370955161 < n {
         return None;
     }
@@ -179,14 +166,12 @@ pub fn decode_words(list: &[u8], words: &mut [u64]) -> Option<usize>
     ensures answers { result ≡ decimals_answer list.now (length words.old) }
     ensures fills { words.new ≡ sets words.old 0 (decimals 0 list.now) }
 {
-    let mut i = 0;
     let mut n = 0;
     let mut value = 0;
-    while i < list.len() {
-        let (m, v) = advance(words, n, value, list[i])?;
+    for b in list {
+        let (m, v) = advance(words, n, value, *b)?;
         n = m;
         value = v;
-        i += 1;
     }
     put_word(words, n, value);
     if words.len() <= n {
@@ -214,27 +199,23 @@ fn put_pair(out: &mut [u8], at: usize, b: u8) -> usize
 pub fn put_hex(out: &mut [u8], at: usize, s: &[u8]) -> usize
     ensures { Put out.old at (each hex_pair s.now) out.new result }
 {
-    let mut i = 0;
     let mut to = at;
-    while i < s.len() {
-        to = put_pair(out, to, s[i]);
-        i += 1;
+    for b in s {
+        to = put_pair(out, to, *b);
     }
     to
 }
 
-// Writes words in decimal with commas between; the next place.
-fn put_words(out: &mut [u8], at: usize, words: &[u64]) -> usize
-    ensures { Put out.old at (words_text words.now) out.new result }
+// Writes words in decimal with a mark between; the next place.
+pub fn put_joined(out: &mut [u8], at: usize, mark: u8, words: &[u64]) -> usize
+    ensures { Put out.old at (joined mark words.now) out.new result }
 {
-    if words.len() == 0 {
+    let Some((first, others)) = words.split_first() else {
         return at;
-    }
-    let mut to = put_number(out, at, words[0]);
-    let mut i = 1;
-    while i < words.len() {
-        to = put_marked(out, to, b',', words[i]);
-        i += 1;
+    };
+    let mut to = put_number(out, at, *first);
+    for n in others {
+        to = put_marked(out, to, mark, *n);
     }
     to
 }
@@ -246,7 +227,7 @@ pub fn put_sheet(out: &mut [u8], at: usize, words: &[u64], names: &[u8]) -> usiz
     let used = word_at(words, 3) as usize;
     let bytes = word_at(words, 2) as usize;
     let first = put_bytes(out, at, b"s:");
-    let second = put_words(out, first, front_words(words, used));
+    let second = put_joined(out, first, b',', front_words(words, used));
     let third = put_byte(out, second, b':');
     put_hex(out, third, front(names, bytes))
 }

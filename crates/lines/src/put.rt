@@ -18,27 +18,13 @@ pub(crate) fn put_byte(out: &mut [u8], at: usize, b: u8) -> usize
     at + 1
 }
 
-// Copies bytes to where there is room for all of them.
-fn copy_bytes(out: &mut [u8], at: usize, s: &[u8])
-    requires { at + length s.now ≤ length out.old }
-    ensures { out.new ≡ sets out.old at s.now }
-{
-    let mut i = 0;
-    while i < s.len() {
-        out[at + i] = s[i];
-        i += 1;
-    }
-}
-
 // Writes bytes one by one, as many as there is room for; the next place.
 fn put_front(out: &mut [u8], at: usize, s: &[u8]) -> usize
     ensures { Put out.old at s.now out.new result }
 {
-    let mut i = 0;
     let mut to = at;
-    while i < s.len() {
-        to = put_byte(out, to, s[i]);
-        i += 1;
+    for b in s {
+        to = put_byte(out, to, *b);
     }
     to
 }
@@ -49,8 +35,9 @@ pub fn put_bytes(out: &mut [u8], at: usize, s: &[u8]) -> usize
 {
     if at <= out.len() {
         if s.len() <= out.len() - at {
-            copy_bytes(out, at, s);
-            return at + s.len();
+            let next = at + s.len();
+            out[at..next].copy_from_slice(s);
+            return next;
         }
     }
     put_front(out, at, s)

@@ -1,13 +1,12 @@
 // The first difference of two trees, in the order of helper.rs, `compare_encodings`.
 ghost use Rattle.std.specs.Prelude.{ℕ, ◌+◌, ◌-◌, ◌≤◌, ◌<◌, ◌≡◌, true, false, List, [], length};
-ghost use Rattle.kinds.specs.Byte.{same_bytes};
 ghost use Rattle.kinds.specs.Sheet.{kind_at, first_at, second_at, count_at, label_at, is_container_kind, trees};
 ghost use Rattle.kinds.specs.Walk.{NodeAt, TreesAt, KindAndName, KindsAndNames};
 ghost use Rattle.kinds.specs.declared.NestingLevel.TheVariants.{Within};
 ghost use Rattle.reason.specs.Reason.{items, own_difference};
 ghost use Rattle.reason.specs.Spot.{spotted, items_spot, name_at, Finds, CountsAre};
 
-use helper::{level_after, level_for, same_bytes, shown_count};
+use helper::{level_after, level_for, same_name, shown_count};
 use kinds::{
     ARRAY, BIT_FIELD, NestingLevel, PRIMITIVES, TYPED_BIT_FIELD, equivalent_kinds, is_container,
 };
@@ -40,18 +39,6 @@ enum Counts {
     NotCompared,
     Unequal(u64, u64),
     Equal,
-}
-
-fn same_name(a: &[u64], an: &[u8], at: usize, b: &[u64], bn: &[u8], bt: usize) -> bool
-    requires at_in_bounds { (at + 4 ≤ length a.now) × (bt + 4 ≤ length b.now) }
-    requires names_in_bounds { (first_at a.now at + second_at a.now at ≤ length an.now) × (first_at b.now bt + second_at b.now bt ≤ length bn.now) }
-    ensures { result ≡ same_bytes (name_at an.now a.now at) (name_at bn.now b.now bt) }
-{
-    let af = a[at + 1] as usize;
-    let ae = af + a[at + 2] as usize;
-    let bf = b[bt + 1] as usize;
-    let be = bf + b[bt + 2] as usize;
-    same_bytes(&an[af..ae], &bn[bf..be])
 }
 
 // What of the numbers of two nodes of one kind, which is neither a primitive's nor a container's, differs first.
@@ -165,6 +152,7 @@ fn count_items(nodes: &[u64], from: usize, n: usize) -> u64
     let mut at = from;
     let mut left = n;
     let mut count = 0;
+    // `at` moves by a node's count, which is no step of an iterator
     while 0 < left {
         let c = subtree(nodes, at);
         at += 4 * c;
@@ -249,6 +237,7 @@ pub(crate) fn first_difference(
         (items_spot all level at (trees an.now a.now left at) (trees bn.now b.now more bt)) result }
 {
     let mut here = level;
+    // `at` and `bt` move by their nodes' counts, which is no step of an iterator
     while 0 < left {
         if more == 0 {
             return None;

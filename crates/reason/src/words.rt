@@ -27,6 +27,7 @@ fn item_towards(nodes: &[u64], parent: usize, x: usize) -> Item
     let mut at = parent + 4;
     let mut number = 0;
     let mut count = subtree(nodes, at);
+    // `at` moves by a node's count, which is no step of an iterator
     while 4 * count <= x - at {
         at += 4 * count;
         number += 1;
@@ -42,6 +43,7 @@ pub(crate) fn path_len(nodes: &[u64], x: usize) -> usize
 {
     let mut at = 0;
     let mut len = 0;
+    // `at` moves to the item that holds `x`, which is no step of an iterator
     while at < x {
         let item = item_towards(nodes, at, x);
         if 0 < at {
@@ -74,6 +76,7 @@ fn put_path(out: &mut [u8], nodes: &[u64], x: usize) -> usize
 {
     let mut at = 0;
     let mut to = 0;
+    // `at` moves to the item that holds `x`, which is no step of an iterator
     while at < x {
         let item = item_towards(nodes, at, x);
         to = put_item(out, to, at == 0, item.number);

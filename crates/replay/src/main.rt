@@ -105,21 +105,15 @@ fn answer_read(reading: Result<(), Refusal>, words: &[u64], names: &[u8], out: &
     }
 }
 
-// Where the rest begins, by the lengths of the text and the rest.
-fn place_after(all: usize, rest: usize) -> usize {
-    if rest <= all {
-        return all - rest;
-    }
-    0
-}
-
 fn answer_start(text: &[u8], words: &mut [u64], names: &mut [u8], out: &mut [u8]) -> usize {
     let mut answer = [0u64; 4];
     let rest = encoding_box::from_start_of_str(text, words, names, &mut answer);
     if answer[0] == 0 {
         let at = lines::put_bytes(out, 0, b"ok ");
         let to = lines::put_sheet(out, at, words, names);
-        return lines::put_marked(out, to, b' ', place_after(text.len(), rest.len()) as u64);
+        // where the rest begins
+        let place = text.len().saturating_sub(rest.len());
+        return lines::put_marked(out, to, b' ', place as u64);
     }
     let at = lines::put_bytes(out, 0, b"no");
     let number = lines::put_marked(out, at, b' ', answer[0]);
@@ -444,12 +438,8 @@ fn write_answers(
     bn: &mut [u8],
     out: &mut [u8],
 ) -> io::Result<()> {
-    let mut unread = input;
-    while 0 < unread.len() {
-        let line = lines::field(unread, b'\n');
-        write_answer(rt, line, text, aw, an, bw, bn, out)?;
-        let next = lines::rest(unread, b'\n');
-        unread = next;
+    for line in input.split_inclusive(|b| *b == b'\n') {
+        write_answer(rt, lines::field(line, b'\n'), text, aw, an, bw, bn, out)?;
     }
     Ok(())
 }

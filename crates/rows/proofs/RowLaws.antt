@@ -3,22 +3,16 @@ use Prim.Native.Nat.{ℕ, zero, suc, ◌≤◌, ◌<◌}
 use native.Mathlib.Omega.{arith}
 use mathlib.Core.Path.{◌≡◌, refl, ap, ◌∙◌}
 use mathlib.Core.List.{List, [], ◌∷◌, ◌++◌}
-use lib.ListN.{length, drop, get_or}
+use lib.ListN.{get_or}
 use Rattle.kinds.specs.Byte.{bytes}
 use Rattle.kinds.specs.Primitive.{Widths, size_row, widths}
-use Rattle.kinds.specs.Print.{decimal}
-use Rattle.lines.specs.Answer.{each, space_number}
+use Rattle.lines.specs.Answer.{joined, space_number}
 use Rattle.rows.specs.Answer.{four, spaced, row_text}
 
-pub spaced-none : (s : List ℕ) → length s ≡ 0 → spaced s ≡ []
-unfolding spaced
-spaced-none [] h = refl
-spaced-none (n ∷ s) h = absurd (omega arith)
-
-pub spaced-some : (s : List ℕ) → 0 < length s → spaced s ≡ decimal (get_or s 0 0) ++ each space_number (drop 1 s)
-unfolding spaced
-spaced-some [] h = absurd (omega arith)
-spaced-some (n ∷ s) h = refl
+spaced-joined : (s : List ℕ) → joined 32 s ≡ spaced s
+unfolding joined spaced space_number
+spaced-joined [] = refl
+spaced-joined (n ∷ s) = refl
 
 -- The widths of all machines, as the program has them.
 abbrev pub all_widths : List (List ℕ)
@@ -43,6 +37,6 @@ machine : List ℕ → Widths
 machine w = record { long = get_or w 0 0; unsigned-long = get_or w 1 0; pointer = get_or w 2 0; long-double = get_or w 3 0 }
 
 pub row_is : (row : ℕ) (w s : List ℕ) → w ≡ four (widths row)
-    → s ≡ size_row (record { long = get_or w 0 0; unsigned-long = get_or w 1 0; pointer = get_or w 2 0; long-double = get_or w 3 0 }) → spaced s ++ bytes "\n" ≡ row_text (size_row (widths row))
+    → s ≡ size_row (record { long = get_or w 0 0; unsigned-long = get_or w 1 0; pointer = get_or w 2 0; long-double = get_or w 3 0 }) → joined 32 s ++ bytes "\n" ≡ row_text (size_row (widths row))
 unfolding row_text machine
-row_is row w s p q = ap (λ (x : List ℕ). spaced x ++ bytes "\n") (q ∙ ap (λ (x : List ℕ). size_row (machine x)) p)
+row_is row w s p q = ap (λ (x : List ℕ). x ++ bytes "\n") (spaced-joined s) ∙ ap (λ (x : List ℕ). spaced x ++ bytes "\n") (q ∙ ap (λ (x : List ℕ). size_row (machine x)) p)

@@ -4,7 +4,7 @@
 ghost use Rattle.std.specs.Prelude.{◌≡◌};
 ghost use Rattle.kinds.specs.Primitive.{size_row, size_rows, widths};
 ghost use Rattle.lines.specs.Answer.{Put};
-ghost use Rattle.rows.specs.Answer.{four, spaced, row_text, table_text};
+ghost use Rattle.rows.specs.Answer.{four, row_text, table_text};
 
 use kinds::SIZES;
 use std::io;
@@ -68,29 +68,13 @@ fn size_row(long: u8, unsigned_long: u8, pointer: u8, long_double: u8) -> [u64; 
     ]
 }
 
-// Numbers in decimal with single spaces between; the next place.
-fn put_spaced(out: &mut [u8], at: usize, row: &[u64]) -> usize
-    ensures { Put out.old at (spaced row.now) out.new result }
-{
-    if row.len() == 0 {
-        return at;
-    }
-    let mut to = lines::put_number(out, at, row[0]);
-    let mut i = 1;
-    while i < row.len() {
-        to = lines::put_marked(out, to, b' ', row[i]);
-        i += 1;
-    }
-    to
-}
-
 // The line of the row with this number, and its end; the next place.
 fn put_row(out: &mut [u8], at: usize, row: usize) -> usize
     ensures { Put out.old at (row_text (size_row (widths row))) out.new result }
 {
     let w = widths_of(row);
     let sizes = size_row(w[0], w[1], w[2], w[3]);
-    let to = put_spaced(out, at, &sizes);
+    let to = lines::put_joined(out, at, b' ', &sizes);
     lines::put_bytes(out, to, b"\n")
 }
 

@@ -1,6 +1,6 @@
 -- Laws of what is shown.
 use Prim.Native.Nat.{ℕ, zero, suc, ◌+◌, ◌-◌, ◌*◌, ◌≤◌, ◌<◌}
-use native.Mathlib.Nat.{add-zero}
+use native.Mathlib.Nat.{add-zero, add_comm}
 use native.Mathlib.Omega.{arith}
 use native.Mathlib.Numerals.{add-one}
 use mathlib.Core.Path.{◌≡◌, refl, ap, sym, ◌∙◌}
@@ -9,8 +9,10 @@ use mathlib.Core.List.{List, [], ◌∷◌, ◌++◌}
 use lib.Dec.{leb, eqb}
 use lib.ListN.{take, drop, length, get_or}
 use lib.Seq.{take-nil, sets}
+use Rattle.std.specs.List.{count_by}
+use Rattle.std.proofs.lemmas.List.Recursion.{is_count_by}
 use borrow.Author.Tests.{le-leb, lt-leb, lt-ltb, le-ltb, eq-eqb, ne_eqb, eqb-false}
-use Rattle.kinds.proofs.ListLaws.{unread, unread-end}
+use Rattle.kinds.proofs.ListLaws.{unread-end}
 use Rattle.kinds.specs.Byte.{bytes}
 use Rattle.lines.specs.Answer.{until, decimals, is_decimals, decimals_answer}
 use Rattle.std.specs.Prelude.{Option, Some, None}
@@ -22,17 +24,9 @@ use Rattle.show.specs.Answer.{is_number, limit_text}
 use Rattle.show.specs.Answer.{byte_text, container_text, shown_text, shown_or_cut, mark_text, named_text, refused_by}
 use Rattle.show.specs.Answer.{before, after, compound_names, kind_text, place_text, unit_text, value_text, difference_by, difference_text}
 
-pub counts : (b : ℕ) (s : List ℕ) (i : ℕ) → i < length s → get_or s i 0 ≡ b → count_of b (drop i s) ≡ suc (count_of b (drop (i + 1) s))
+pub count_is : (b : ℕ) (s : List ℕ) → count_by (λ x. eqb x b) s ≡ count_of b s
 unfolding count_of
-counts b s i h e = ap (count_of b) (unread s i h) ∙ rw (eq-eqb (get_or s i 0) b e)
-
-pub counts-not : (b : ℕ) (s : List ℕ) (i : ℕ) → i < length s → (get_or s i 0 ≡ b → ⊥) → count_of b (drop i s) ≡ count_of b (drop (i + 1) s)
-unfolding count_of
-counts-not b s i h e = ap (count_of b) (unread s i h) ∙ rw (ne_eqb (get_or s i 0) b e)
-
-pub counts_end : (b : ℕ) (s : List ℕ) (i : ℕ) → length s ≤ i → count_of b (drop i s) ≡ 0
-unfolding count_of
-counts_end b s i h = ap (count_of b) (unread-end s i h)
+count_is b s = sym (is_count_by (count_of b) (λ x. eqb x b) refl (λ x t. rw (add_comm 1 (count_of b t), add-one)) s)
 
 pub dot-low : (b : ℕ) → b < 32 → 46 ∷ [] ≡ shown_byte b
 unfolding shown_byte
@@ -46,23 +40,22 @@ pub shown-itself : (b : ℕ) → 32 ≤ b → b ≤ 126 → b ∷ [] ≡ shown_b
 unfolding shown_byte
 shown-itself b h k = sym (rw (le-leb 32 b h, le-leb b 126 k))
 
-less_one : (n : ℕ) → n ≡ suc n - 1
-less_one n = omega arith
+-- with one turn more done of `n`
+one_done : (n k : ℕ) → k < n → n - k ≡ suc (n - (k + 1))
+one_done n k h = omega arith
 
-pub times_more : (n : ℕ) (s : List ℕ) → 0 < n → times n s ≡ s ++ times (n - 1) s
+pub times_more : (n k : ℕ) (s : List ℕ) → k < n → times (n - k) s ≡ s ++ times (n - (k + 1)) s
 unfolding times
-times_more zero s h = absurd (omega arith)
-times_more (suc n) s h = ap (λ (m : ℕ). s ++ times m s) (less_one n)
+times_more n k s h = ap (λ (m : ℕ). times m s) (one_done n k h)
 
 pub times_none : (n : ℕ) (s : List ℕ) → n ≤ 0 → times n s ≡ []
 unfolding times
 times_none zero s h = refl
 times_none (suc n) s h = absurd (omega arith)
 
-pub line-more : (k : ℕ) (s : List ℕ) → 0 < k → line_of (k - 1) (drop (until 10 s + 1) s) ≡ line_of k s
+pub line-more : (n k : ℕ) (s : List ℕ) → k < n → line_of (n - (k + 1)) (drop (until 10 s + 1) s) ≡ line_of (n - k) s
 unfolding line_of
-line-more zero s h = absurd (omega arith)
-line-more (suc k) s h = sym (ap (λ (m : ℕ). line_of m (drop (until 10 s + 1) s)) (less_one k))
+line-more n k s h = sym (ap (λ (m : ℕ). line_of m s) (one_done n k h))
 
 pub line-here : (k : ℕ) (s : List ℕ) → k ≤ 0 → take (until 10 s) s ≡ line_of k s
 unfolding line_of

@@ -10,6 +10,7 @@ ghost use Rattle.show.specs.Answer.{is_number, limit_text, size_text, size_line}
 ghost use Rattle.show.specs.Answer.{kind_text, place_text, unit_text, value_text, difference_by, difference_text};
 
 use kinds::{ARRAY, BIT_FIELD, MAX_TEXT, PRIMITIVES, Refusal, STRUCT, TYPED_BIT_FIELD, UNION};
+use layout::LaidOut;
 
 // At most `n` items of `s` from `from` on.
 fn part(s: &[u8], from: usize, n: usize) -> &[u8]
@@ -25,15 +26,7 @@ fn part(s: &[u8], from: usize, n: usize) -> &[u8]
 pub fn count_of(s: &[u8], b: u8) -> usize
     ensures { result ≡ count_of b s.now }
 {
-    let mut n = 0;
-    let mut i = 0;
-    while i < s.len() {
-        if s[i] == b {
-            n += 1;
-        }
-        i += 1;
-    }
-    n
+    s.iter().filter(|x| **x == b).count()
 }
 
 // A byte that is no printable ASCII shows as a dot, so that each byte takes one column.
@@ -52,11 +45,9 @@ fn glyph(b: u8) -> u8
 pub fn put_shown(out: &mut [u8], at: usize, s: &[u8]) -> usize
     ensures { Put out.old at (shown_text s.now) out.new result }
 {
-    let mut i = 0;
     let mut to = at;
-    while i < s.len() {
-        to = lines::put_bytes(out, to, &[glyph(s[i])]);
-        i += 1;
+    for b in s {
+        to = lines::put_bytes(out, to, &[glyph(*b)]);
     }
     to
 }
@@ -65,11 +56,9 @@ pub fn put_shown(out: &mut [u8], at: usize, s: &[u8]) -> usize
 fn put_times(out: &mut [u8], at: usize, s: &[u8], n: usize) -> usize
     ensures { Put out.old at (times n s.now) out.new result }
 {
-    let mut left = n;
     let mut to = at;
-    while 0 < left {
+    for _ in 0..n {
         to = lines::put_bytes(out, to, s);
-        left -= 1;
     }
     to
 }
@@ -92,13 +81,11 @@ fn depth(nodes: &[u64], i: u16) -> usize
     ensures { result ≡ depth_of nodes.now i }
 {
     let mut n = 0;
-    let mut j = 0;
-    while j < i {
+    for j in 0..i {
         let count = lines::word_at(nodes, 4 * (j as usize) + 3);
         if ((i - j) as u64) < count {
             n += 1;
         }
-        j += 1;
     }
     n
 }
@@ -108,11 +95,8 @@ fn line_of(table: &[u8], k: u64) -> &[u8]
     ensures { result.now ≡ line_of k table.now }
 {
     let mut unread = table;
-    let mut left = k;
-    while 0 < left {
-        let next = lines::rest(unread, b'\n');
-        unread = next;
-        left -= 1;
+    for _ in 0..k {
+        unread = lines::rest(unread, b'\n');
     }
     lines::field(unread, b'\n')
 }
@@ -216,7 +200,7 @@ fn put_offset(out: &mut [u8], at: usize, field: bool, offset: u64) -> usize
 }
 
 // The size and the alignment of a node; nothing of one that is not laid out.
-fn put_extent(out: &mut [u8], at: usize, extent: Result<Option<(u64, u64)>, Refusal>) -> usize
+fn put_extent(out: &mut [u8], at: usize, extent: LaidOut) -> usize
     ensures { Put out.old at (extent_text extent) out.new result }
 {
     match extent {
@@ -237,7 +221,7 @@ pub fn put_laid(
     i: u16,
     field: bool,
     offset: u64,
-    extent: Result<Option<(u64, u64)>, Refusal>,
+    extent: LaidOut,
 ) -> usize
     ensures { Put out.old 0 (laid_text nodes.now names.now i field offset extent) out.new result }
 {

@@ -68,12 +68,9 @@ fn put_bytes(out: &mut [u8], at: usize, s: &[u8]) -> usize
     requires { at + length s.now ≤ length out.old }
     ensures { Wrote out.old at s.now out.new result }
 {
-    let mut i = 0;
-    while i < s.len() {
-        out[at + i] = s[i];
-        i += 1;
-    }
-    at + i
+    let next = at + s.len();
+    out[at..next].copy_from_slice(s);
+    next
 }
 
 // Writes a number in decimal, without surplus zeros; the next place.
@@ -182,25 +179,6 @@ fn node_len(kind: u64, first: u64, second: u64, level: NestingLevel) -> usize
     0
 }
 
-fn same_level(a: NestingLevel, b: NestingLevel) -> bool
-    ensures { result ≡ true → a ≡ b }
-{
-    match a {
-        NestingLevel::Top => match b {
-            NestingLevel::Top => true,
-            _ => false,
-        },
-        NestingLevel::Within => match b {
-            NestingLevel::Within => true,
-            _ => false,
-        },
-        NestingLevel::Bottom => match b {
-            NestingLevel::Bottom => true,
-            _ => false,
-        },
-    }
-}
-
 // Whether a node of this kind keeps the level, so that its children can be walked like the trees after it.
 fn keeps_level(kind: u64, level: NestingLevel) -> bool
     ensures { result ≡ true → inside_kind kind level ≡ level }
@@ -210,10 +188,10 @@ fn keeps_level(kind: u64, level: NestingLevel) -> bool
         return true;
     }
     if is_container(kind) {
-        return same_level(level.inside(kind), level);
+        return level.inside(kind) == level;
     }
     if is_indirection(kind) {
-        return same_level(level.inside(kind), level);
+        return level.inside(kind) == level;
     }
     true
 }
@@ -244,6 +222,7 @@ fn trees_len(nodes: &[u64], from: usize, n: usize, level: NestingLevel) -> usize
     let mut at = from;
     let mut left = n;
     let mut len = 0;
+    // `at` moves by a node's count, which is no step of an iterator
     while 0 < left {
         let kind = nodes[at];
         len = len + node_len(kind, nodes[at + 1], nodes[at + 2], level);
@@ -401,6 +380,7 @@ fn print_trees(
     let mut at = from;
     let mut left = n;
     let mut to = start;
+    // `at` moves by a node's count, which is no step of an iterator
     while 0 < left {
         let kind = nodes[at];
         let second = nodes[at + 2];

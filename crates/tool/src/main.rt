@@ -529,11 +529,8 @@ fn answer_line(rt: &impl Print, err: &impl Print, line: &[u8]) -> io::Result<()>
 }
 
 fn answer_lines(rt: &impl Print, err: &impl Print, input: &[u8]) -> io::Result<()> {
-    let mut unread = input;
-    while 0 < unread.len() {
-        answer_line(rt, err, lines::field(unread, b'\n'))?;
-        let next = lines::rest(unread, b'\n');
-        unread = next;
+    for line in input.split_inclusive(|b| *b == b'\n') {
+        answer_line(rt, err, lines::field(line, b'\n'))?;
     }
     Ok(())
 }

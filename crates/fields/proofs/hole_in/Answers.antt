@@ -9,7 +9,7 @@ returns-then-is_last c =
     union-last a.nodes.now a.offsets.now a.extents.now a.p a.i
     (sym c.kind_of.ensures ∙ c.if-kind_of-eq-UNION.true)
     (sym c.is_last.ensures ∙ c.if-is_last.true)
-    (c.larger-most.ensures ∙ ap₂ max c.largest.ensures
+    (c.max-most.ensures ∙ ap₂ max c.largest.ensures
     c.bytes_of-bytes.ensures) c.bytes_of.ensures c.between.ensures
 
 pub returns-then-kind_of-eq-UNION : goal.returns-then-kind_of-eq-UNION

@@ -1,10 +1,6 @@
 use mathlib.Core.Path.{◌≡◌}
-use Prim.Native.Nat.{ℕ, ◌-◌, ◌≤◌}
 use Rattle.fields.specs.Answer.{largest}
 use Rattle.fields.proofs.largest.Given as goal
 
 abbrev pub invariant-loop-j : goal.invariant-loop-j
-invariant-loop-j l = (l.bytes ≡ largest l.nodes l.extents l.p l.j) × (l.j ≤ l.i)
-
-abbrev pub decreases-loop-j : goal.decreases-loop-j
-decreases-loop-j l = l.i - l.j
+invariant-loop-j l = l.bytes ≡ largest l.nodes l.extents l.p l.j

@@ -7,10 +7,10 @@ pub returns-then-kind-eq-BIT_FIELD : goal.returns-then-kind-eq-BIT_FIELD
 returns-then-kind-eq-BIT_FIELD c = λ s t. sym (labels-bits s t _ _ _ _ _ c.if-kind-eq-BIT_FIELD.true)
 
 pub returns-then-af-bf : goal.returns-then-af-bf
-returns-then-af-bf c = λ s t. sym (labels-typed s t _ _ _ _ _ c.if-kind-eq-TYPED_BIT_FIELD.true ∙ rw (ne_eqb _ _ c.if-af-bf.true))
+returns-then-af-bf c = λ s t. sym (labels-typed s t _ _ _ _ _ c.if-kind-eq-TYPED_BIT_FIELD.true ∙ rw (eq-eqb _ _ c.if-af-bf.true))
 
-pub returns-then-kind-eq-TYPED_BIT_FIELD : goal.returns-then-kind-eq-TYPED_BIT_FIELD
-returns-then-kind-eq-TYPED_BIT_FIELD c = λ s t. sym (labels-typed s t _ _ _ _ _ c.if-kind-eq-TYPED_BIT_FIELD.true ∙ rw (eq-eqb _ _ c.if-af-bf.false))
+pub returns-else-af-bf : goal.returns-else-af-bf
+returns-else-af-bf c = λ s t. sym (labels-typed s t _ _ _ _ _ c.if-kind-eq-TYPED_BIT_FIELD.true ∙ rw (ne_eqb _ _ c.if-af-bf.false))
 
 pub returns-then-kind-eq-ARRAY : goal.returns-then-kind-eq-ARRAY
 returns-then-kind-eq-ARRAY c = λ s t. sym (labels-array s t _ _ _ _ _ c.if-kind-eq-ARRAY.true)

@@ -18,9 +18,9 @@ returns-then-n-gt1844674407370955161 c =
 
 pub returns-then-n-d : goal.returns-then-n-d
 returns-then-n-d c =
-    grown-large c.args.n c.args.b (omega arith) (omega arith) (omega (arith, c.wide-d.ensures))
+    grown-large c.args.n c.args.b (omega arith) (omega arith) (omega (arith, c.from-d.ensures))
 
 pub returns : goal.returns
 returns c =
-    ap (λ (k : ℕ). Some (10 * c.args.n + k)) c.wide-d.ensures ∙ grown-value c.args.n c.args.b (omega arith) (omega arith)
-    (omega (arith, c.wide-d.ensures))
+    ap (λ (k : ℕ). Some (10 * c.args.n + k)) c.from-d.ensures ∙ grown-value c.args.n c.args.b (omega arith) (omega arith)
+    (omega (arith, c.from-d.ensures))

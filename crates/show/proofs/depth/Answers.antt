@@ -1,8 +1,7 @@
--- `tool::show::depth` meets its contract. Assumes nothing.
 use Prim.Native.Nat.{ℕ, ◌+◌, ◌-◌, ◌≤◌, ◌<◌}
-use mathlib.Core.Path.{refl, ap, subst, ◌∙◌}
-use mathlib.Core.Logic.{⊎_elim}
+use mathlib.Core.Path.{ap, subst, ◌∙◌}
 use native.Mathlib.Omega.{arith}
+use Rattle.std.proofs.Common.{rules}
 use Rattle.show.specs.Answer.{holders, depth_of}
 use Rattle.show.proofs.ShowLaws.{holds, holds_not}
 use Rattle.show.proofs.depth.Goals as goal
@@ -10,31 +9,7 @@ use Rattle.show.proofs.depth.Goals.{then-i-j, else-i-j}
 
 pub loop-j-init : goal.loop-j-init
 unfolding holders
-loop-j-init c = (refl, omega arith, omega arith)
-
-pub overflow_cast-j : goal.overflow_cast-j
-overflow_cast-j c = omega arith
-
-pub overflow_mul-j : goal.overflow_mul-j
-overflow_mul-j c = omega arith
-
-pub overflow_add-j : goal.overflow_add-j
-overflow_add-j c = omega arith
-
-pub overflow_sub-i : goal.overflow_sub-i
-overflow_sub-i c = omega arith
-
-pub overflow_cast-i : goal.overflow_cast-i
-overflow_cast-i c = omega arith
-
-pub overflow_add-n : goal.overflow_add-n
-overflow_add-n c = omega arith
-
-pub overflow_add-j-in-loop-j : goal.overflow_add-j-in-loop-j
-overflow_add-j-in-loop-j c = omega arith
-
-pub loop-j-smaller : goal.loop-j-smaller
-loop-j-smaller c = omega arith
+loop-j-init c = search rules
 
 pub loop-j-preserved : goal.loop-j-preserved
 loop-j-preserved c =
@@ -45,11 +20,9 @@ loop-j-preserved c =
         w.n-is ∙ ap (λ (k : ℕ). k + 1) l.invariant.0 ∙ holds a.nodes.now a.i l.j
             (subst (λ (k : ℕ). a.i - l.j < k) c.word_at-count.ensures w.if-i-j.true),
         omega arith,
-        omega arith,
       )
       | else-i-j w ↦ (
         w.n-is ∙ l.invariant.0 ∙ holds_not a.nodes.now a.i l.j (subst (λ (k : ℕ). k ≤ a.i - l.j) c.word_at-count.ensures w.if-i-j.false),
-        omega arith,
         omega arith,
       )
     ]

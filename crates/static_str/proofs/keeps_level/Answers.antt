@@ -6,12 +6,6 @@ pub returns-then-kind-lt-POINTER : goal.returns-then-kind-lt-POINTER
 returns-then-kind-lt-POINTER c =
     λ e. inside-low c.args.kind c.args.level c.if-kind-lt-POINTER.true
 
-pub returns-then-is_container : goal.returns-then-is_container
-returns-then-is_container c = λ e. sym c.inside.ensures ∙ c.same_level.ensures e
-
-pub returns-then-is_indirection : goal.returns-then-is_indirection
-returns-then-is_indirection c = λ e. sym c.inside-then-is_indirection.ensures ∙ c.same_level-then-is_indirection.ensures e
-
 pub returns : goal.returns
 returns c =
     λ e. inside-plain c.args.kind c.args.level (sym c.is_container.ensures ∙ c.if-is_container.false)

@@ -20,10 +20,6 @@ pub returns-in-TooLarge-other : goal.returns-in-TooLarge-other
 unfolding larger_measured
 returns-in-TooLarge-other c = rw (c.in-Bytes.is, c.in-TooLarge-other.is)
 
-pub returns-then-a-b : goal.returns-then-a-b
+pub returns-in-Bytes-other : goal.returns-in-Bytes-other
 unfolding larger_measured
-returns-then-a-b c = rw (c.in-Bytes.is, c.in-Bytes-other.is) (ap Bytes (omega arith))
-
-pub returns-else-a-b : goal.returns-else-a-b
-unfolding larger_measured
-returns-else-a-b c = rw (c.in-Bytes.is, c.in-Bytes-other.is) (ap Bytes (omega arith))
+returns-in-Bytes-other c = rw (c.in-Bytes.is, c.in-Bytes-other.is) (ap Bytes (omega arith))
