@@ -68,10 +68,7 @@ fn name_ok(first: u64, second: u64, name: u64, end: u64) -> bool
     requires { name ≤ end }
     ensures { result ≡ (eqb first name && leb (name + second) end) }
 {
-    if first != name {
-        return false;
-    }
-    second <= end - name
+    first == name && second <= end - name
 }
 
 // Whether the two numbers of a node that has no name are those that its kind takes.
@@ -131,10 +128,7 @@ fn arity_ok(nodes: &[u64], at: usize, kind: u64, count: u64, left: usize) -> boo
 fn no_numbers(first: u64, second: u64) -> bool
     ensures { result ≡ (eqb first 0 && eqb second 0) }
 {
-    if first != 0 {
-        return false;
-    }
-    second == 0
+    first == 0 && second == 0
 }
 
 // Whether the node at `at`, no container, can stand first among the `left` nodes from there on. Codes and what points to others,
@@ -204,6 +198,7 @@ fn check_nodes(
     requires { (at + 4 * left ≤ length nodes.now) × (name ≤ end) × (end ≤ length names.now) }
     ensures { result ≡ walked names.now nodes.now left at name end good }
 {
+    // A cursor that moves by a node's count: no step of an iterator.
     while 0 < left {
         if !is_container(nodes[at]) {
             if !plain_ok(nodes, at, left) {
@@ -460,9 +455,5 @@ pub fn put_header(words: &mut [u64], nodes: usize, names: usize)
 pub fn clear_words(words: &mut [u64])
     ensures { words.new ≡ replicate (length words.old) 0 }
 {
-    let mut i = 0;
-    while i < words.len() {
-        words[i] = 0;
-        i += 1;
-    }
+    words.fill(0);
 }
