@@ -8,6 +8,7 @@ ghost use Rattle.parser.specs.Run.{run_end};
 ghost use Rattle.numbers.specs.Answer.{digits_taken, digits_in, number_at};
 
 use kinds::ErrorKind;
+use parser::run_end;
 
 // How many digits a number took, and whether the first is a surplus zero: there are more, and it is 0.
 #[derive(Clone, Copy)]
@@ -23,30 +24,18 @@ pub enum Number {
     Refused(ErrorKind, usize, Digits),
 }
 
-fn wide(b: u8) -> u64
-    ensures { result ≡ b }
-{
-    b as u64
-}
-
+#[tactic(auto, unfolding(kinds::specs::Byte::is_digit))]
 pub fn is_digit(b: u8) -> bool
     ensures { result ≡ is_digit b }
 {
-    48 <= b && b <= 57
+    b.is_ascii_digit()
 }
 
 // The place after the digits from `at` on.
 fn chomp_digits(text: &[u8], at: usize) -> usize
     ensures { result ≡ run_end is_digit text.now at }
 {
-    let mut i = at;
-    while i < text.len() {
-        if !is_digit(text[i]) {
-            return i;
-        }
-        i += 1;
-    }
-    i
+    run_end(text, at, is_digit)
 }
 
 // What a number's digits show, whether it is refused or not.
@@ -99,22 +88,21 @@ fn parse_number(text: &[u8], at: usize, limit: u64) -> Number
         return Number::Refused(ErrorKind::ExpectedInteger, at, digits_taken(0, 0));
     }
     let mut acc: u64 = 0;
-    let mut i = at;
-    while i < text.len() {
+    for i in at..text.len() {
         let b = text[i];
         if !is_digit(b) {
             return Number::Value(acc, i, digits_taken(first, i - at));
         }
-        let d = wide(b - 48);
+        let d = u64::from(b - b'0');
         if is_above(acc, d, limit) {
             let to = chomp_digits(text, i + 1);
             let digits = digits_taken(first, to - at);
             return Number::Refused(ErrorKind::IntegerTooLarge, to, digits);
         }
         acc = acc * 10 + d;
-        i += 1;
     }
-    Number::Value(acc, i, digits_taken(first, i - at))
+    let end = text.len();
+    Number::Value(acc, end, digits_taken(first, end - at))
 }
 
 // A number of 64 bits.
