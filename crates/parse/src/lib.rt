@@ -19,7 +19,7 @@ ghost use Rattle.parse.specs.Out.{opens_container, opened_container, contain_out
 ghost use Rattle.parse.specs.Agree.{NamedIs, Simple, SimpleReady, Ready, OneReady, Reads, ChildReady, Holds, CodesRead, ContainerReady, lists, EncodedIs};
 
 use codes::{
-    BitsDigits, Token, closes_fields, closes_item, indirections_end, same_container, single_kind,
+    BitsDigits, Token, closes_fields, closes_item, indirections_end, single_kind,
     token_at,
 };
 use kinds::{
@@ -282,7 +282,7 @@ fn end_items(p: Parsed, kind: ContainerKind, at: usize, n: usize, m: usize) -> I
         Parsed::Empty => Items::Refused(ErrorKind::WrongEndContainer(kind), at),
         Parsed::Encoding(_, _, _) => Items::Refused(ErrorKind::WrongEndContainer(kind), at),
         Parsed::ContainerEnd(other, to) => {
-            if same_container(kind, other) {
+            if kind == other {
                 Items::Read(to, n, m)
             } else {
                 Items::Refused(ErrorKind::Unknown(other.end_byte()), to)

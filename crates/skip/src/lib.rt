@@ -10,8 +10,8 @@ ghost use Rattle.skip.specs.Answer.{skipped_at, encoding_at};
 ghost use Rattle.skip.specs.Skips.{token_skipped, held_skipped, item_skipped, contained_skipped, end_skipped, fields_of, encoding_of, ends_object, object_alone, Skips, SkipsItems, OneAt, OpensAt};
 
 use codes::{
-    OBJECT_START, Token, closes_fields, closes_item, codes_end, indirections_end, same_container,
-    single_kind, start, token_at,
+    OBJECT_START, Token, closes_fields, closes_item, codes_end, indirections_end, single_kind,
+    start, token_at,
 };
 use kinds::{ContainerKind, ErrorKind, PRIMITIVES};
 use names::{Name, parse_name};
@@ -113,7 +113,7 @@ fn end_skipped(s: Skipped, text: &[u8], kind: ContainerKind) -> SkippedPart
         Skipped::Empty => SkippedPart::Refused(ErrorKind::WrongEndContainer(kind), text.len()),
         Skipped::Encoding(to) => SkippedPart::To(to),
         Skipped::ContainerEnd(other, to) => {
-            if same_container(kind, other) {
+            if kind == other {
                 SkippedPart::To(to)
             } else {
                 SkippedPart::Refused(ErrorKind::Unknown(other.end_byte()), to)
@@ -173,6 +173,7 @@ fn skip_items(text: &[u8], at: usize, kind: ContainerKind) -> SkippedPart
     requires { at ≤ length text.now }
     ensures { SkipsItems text.now at kind result }
 {
+    // A cursor that moves by what was read: no step of an iterator.
     let mut to = at;
     loop {
         let past = codes_end(text, to);
@@ -231,10 +232,7 @@ fn encoding_or_none(s: Skipped, text: &[u8]) -> SkippedPart
 fn ends_object(b: u8) -> bool
     ensures { result ≡ ends_object b }
 {
-    if b == b'?' {
-        return false;
-    }
-    b != b'"'
+    b != b'?' && b != b'"'
 }
 
 // An object of one byte stands at `at`.
