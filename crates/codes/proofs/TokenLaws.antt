@@ -1,5 +1,5 @@
 -- Laws of the tokens at a place of a text, and what an answer says of the text.
-use Prim.Native.Nat.{ℕ, zero, suc, ◌+◌, ◌-◌, ◌≤◌, ◌<◌}
+use Prim.Native.Nat.{ℕ, ◌+◌, ◌≤◌, ◌<◌}
 use mathlib.Core.Path.{◌≡◌, refl, sym, ap, ◌∙◌}
 use mathlib.Core.List.{List, [], ◌∷◌}
 use mathlib.Core.Bool.{Bool, true, false, not, cond, ◌&&◌}
@@ -22,7 +22,7 @@ use Rattle.numbers.specs.Answer.{digits_of}
 use Rattle.numbers.specs.declared.Digits.{Digits}
 use Rattle.parser.specs.Place.{place_of}
 use Rattle.parser.specs.Run.{run_end}
-use Rattle.parser.proofs.RunLaws.{run-to}
+use Rattle.parser.proofs.RunLaws.{run-to, run-keeps}
 use Rattle.parser.proofs.RestLaws.{RestOf, rest_all, rest-later, rest-shorter, rest-of-rest, unread-at, place-of-drop}
 use Rattle.numbers.proofs.NumberLaws.{LeftOf, left-number}
 use Rattle.codes.specs.Answer.{has_parts, type_kind, digits_then, digits_in, untyped_token, label_token, token_of, token_from, token_at}
@@ -91,17 +91,11 @@ complex-end s i h = ap parse_complex (unread-end s i h) ∙ sym (ap (refused Une
 abbrev pub quoted : ℕ → Bool
 quoted b = not (eqb b 34)
 
-quoted-past : (s : List ℕ) (at n to : ℕ) → at + n ≡ to → to ≤ length s → ((j : ℕ) → at ≤ j → j < to → quoted (get_or s j 0) ≡ true) → parse_quoted (drop at s) ≡ parse_quoted (drop to s)
-quoted-past s at zero to e l r = let here : at ≡ to = omega arith in ap (λ (k : ℕ). parse_quoted (drop k s)) here
-quoted-past s at (suc n) to e l r =
-    let h : at + n < length s = omega arith in
-    let next : at + n + 1 ≡ to = omega arith in
-    quoted-past s at n (at + n) refl (omega arith) (λ j a b. r j a (omega arith))
-    ∙ quoted-more s (at + n) h (not-quote _ (r (at + n) (omega arith) (omega arith)))
-    ∙ ap (λ (k : ℕ). parse_quoted (drop k s)) next
-  where
-    not-quote : (b : ℕ) → quoted b ≡ true → b ≡ 34 → ⊥
-    not-quote b q e = grind (arith, nat_tests)
+not-quote : (b : ℕ) → quoted b ≡ true → b ≡ 34 → ⊥
+not-quote b q e = grind (arith, nat_tests)
+
+quote : (b : ℕ) → quoted b ≡ false → b ≡ 34
+quote b q = grind (arith, nat_tests)
 
 -- Where they end, the text ends or a quote stands.
 pub record QuoteEnd (text : List ℕ) (at to : ℕ) : Type 0 where
@@ -114,12 +108,9 @@ quoted-run text at to l e =
     let p = run-to quoted text at to l e in
     record {
       within = p.within;
-      passed = quoted-past text at (to - at) to (omega (arith, p.onward)) p.within p.run;
+      passed = run-keeps quoted parse_quoted text at to p (λ i h q. quoted-more text i h (not-quote _ q));
       stopped = λ h. quote _ (p.stopped h);
     }
-  where
-    quote : (b : ℕ) → quoted b ≡ false → b ≡ 34
-    quote b q = grind (arith, nat_tests)
 
 pub quoted-end : (s : List ℕ) (i : ℕ) → length s ≤ i → parse_quoted (drop i s) ≡ refused UnexpectedEnd (drop i s)
 unfolding parse_quoted

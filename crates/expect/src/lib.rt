@@ -19,7 +19,7 @@ use kinds::{
     is_indirection, is_object, primitive_code,
 };
 use numbers::{Number, parse_u8, parse_u64};
-use parser::strip_leading_qualifiers;
+use parser::{run_end, strip_leading_qualifiers};
 use sheet::{Checked, check};
 use skip::{SkippedFields, skip_fields};
 
@@ -54,19 +54,10 @@ fn expect_bytes(bytes: &[u8], text: &[u8], at: usize) -> Expected
     requires { at ≤ length text.now }
     ensures { ExpectedIs text.now result (expect_bytes bytes.now (drop at text.now)) }
 {
-    let mut i = 0;
-    let mut to = at;
-    while i < bytes.len() {
-        if text.len() <= to {
-            return Expected::Mismatch;
-        }
-        if text[to] != bytes[i] {
-            return Expected::Mismatch;
-        }
-        i += 1;
-        to += 1;
+    if text[at..].starts_with(bytes) {
+        return Expected::Remaining(at + bytes.len());
     }
-    Expected::Remaining(to)
+    Expected::Mismatch
 }
 
 fn expect_u64(n: u64, text: &[u8], at: usize) -> Expected
@@ -104,12 +95,9 @@ fn expect_quote(text: &[u8], at: usize) -> Expected
     requires { at ≤ length text.now }
     ensures { ExpectedIs text.now result (expect_quote (drop at text.now)) }
 {
-    let mut i = at;
-    while i < text.len() {
-        if text[i] == b'"' {
-            return Expected::Remaining(i + 1);
-        }
-        i += 1;
+    let end = run_end(text, at, |b| b != b'"');
+    if end < text.len() {
+        return Expected::Remaining(end + 1);
     }
     Expected::Mismatch
 }
@@ -440,6 +428,7 @@ fn expect_encoding(
     requires kinds_and_names { KindsAndNames nodes.now (length names.now) from n }
     ensures { ExpectedIs text.now result (expect_encoding level (trees names.now nodes.now n from) (drop start text.now)) }
 {
+    // A cursor that moves by a node's count: no step of an iterator.
     let mut at = from;
     let mut left = n;
     let mut place = start;
