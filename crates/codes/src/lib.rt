@@ -4,7 +4,6 @@
 ghost use Rattle.std.specs.Prelude.{◌≡◌, ◌||◌, [], ◌≤◌, length, drop, ltb, eqb};
 ghost use Rattle.kinds.specs.Parse.{max_u64, parse_number, parse_complex, parse_quoted, parse_object, parse_bit_field, parse_bits, start};
 ghost use Rattle.kinds.specs.Strict.{typed_number, bits_numbers};
-ghost use Rattle.kinds.specs.Container.{same_container};
 ghost use Rattle.parser.specs.Run.{run_end};
 ghost use Rattle.codes.specs.Answer.{start_word, code_of, is_code, is_indirection, closed, closes_fields, no_digits, digits_then, digits_in, untyped_token, token_of, token_at};
 
@@ -12,6 +11,7 @@ use kinds::{
     ARRAY, ATOMIC, ContainerKind, ErrorKind, POINTER, PRIMITIVES, Primitive, STRUCT, UNION,
 };
 use numbers::{Digits, is_digit, parse_u8, parse_u64};
+use parser::run_end;
 
 // What the digits of a bitfield's numbers show, in their order; no digits for a number that was not met.
 #[derive(Clone, Copy)]
@@ -150,14 +150,11 @@ fn parse_quoted(text: &[u8], at: usize) -> Token
     requires { at ≤ length text.now }
     ensures { result ≡ token_of text.now (digits_in []) (parse_quoted (drop at text.now)) }
 {
-    let mut i = at;
-    while i < text.len() {
-        if text[i] == b'"' {
-            return Token::Primitive(Primitive::Object.kind(), i + 1);
-        }
-        i += 1;
+    let end = run_end(text, at, |b| b != b'"');
+    if end < text.len() {
+        return Token::Primitive(Primitive::Object.kind(), end + 1);
     }
-    refused(ErrorKind::UnexpectedEnd, i)
+    refused(ErrorKind::UnexpectedEnd, end)
 }
 
 // After `@`.
@@ -274,16 +271,10 @@ fn is_indirection(b: u8) -> bool
 pub fn indirections_end(text: &[u8], at: usize) -> usize
     ensures { result ≡ run_end is_indirection text.now at }
 {
-    let mut to = at;
-    while to < text.len() {
-        if !is_indirection(text[to]) {
-            return to;
-        }
-        to += 1;
-    }
-    to
+    run_end(text, at, is_indirection)
 }
 
+#[tactic(auto, unfolding(crate::specs::Answer::is_code))]
 fn is_code(b: u8) -> bool
     ensures { result ≡ is_code b }
 {
@@ -294,14 +285,7 @@ fn is_code(b: u8) -> bool
 pub fn codes_end(text: &[u8], at: usize) -> usize
     ensures { result ≡ run_end is_code text.now at }
 {
-    let mut i = at;
-    while i < text.len() {
-        if !is_code(text[i]) {
-            return i;
-        }
-        i += 1;
-    }
-    i
+    run_end(text, at, is_code)
 }
 
 // An array's item is closed at `to`.
@@ -316,19 +300,4 @@ pub fn closes_fields(text: &[u8], to: usize, kind: ContainerKind) -> bool
     ensures { result ≡ closes_fields text.now to kind }
 {
     to < text.len() && text[to] == kind.end_byte()
-}
-
-pub fn same_container(a: ContainerKind, b: ContainerKind) -> bool
-    ensures { result ≡ same_container a b }
-{
-    match a {
-        ContainerKind::Struct => match b {
-            ContainerKind::Struct => true,
-            ContainerKind::Union => false,
-        },
-        ContainerKind::Union => match b {
-            ContainerKind::Struct => false,
-            ContainerKind::Union => true,
-        },
-    }
 }

@@ -2,12 +2,20 @@
 use Rattle.std.specs.Prelude.{Option}
 use Prim.Native.Nat.{ℕ, ◌+◌, ◌≤◌, ◌<◌}
 use mathlib.Core.Path.{◌≡◌, refl, ap, ap₂, sym, ◌∙◌, subst}
-use mathlib.Core.List.{List, [], ◌∷◌}
-use mathlib.Core.Bool.{true, false}
+use mathlib.Core.List.{List, [], ◌∷◌, ◌++◌}
+use mathlib.Core.Bool.{Bool, true, false, not, false≢true}
+use native.Mathlib.Decide.{ℕ_discrete}
+use native.Mathlib.Omega.{arith}
 use borrow.Author.Tests.{eq-eqb, ne_eqb}
-use lib.ListN.{length, get_or, drop}
+use lib.ListN.{length, get_or, drop, length-drop, length-append}
 use lib.Dec.{eqb}
+use Rattle.std.specs.List.{starts_with}
+use Rattle.std.proofs.lemmas.Slice.Eq.{starts_is}
+use Rattle.std.proofs.lemmas.Bool.Decides.{Decides-eqb, nat_tests}
 use Rattle.kinds.proofs.ListLaws.{unread, unread-end}
+use Rattle.parser.specs.Run.{run_end}
+use Rattle.parser.proofs.RunLaws.{run-to, run-keeps}
+use Rattle.parser.proofs.PlaceLaws.{drop-on}
 use Rattle.kinds.specs.Expect.{Expected, remaining, mismatch, ◌then◌, or_else, expect_byte, expect_bytes, expect_number, expect_quote, class_name, expect_primitive}
 use Rattle.kinds.specs.Parse.{value, no_number, parse_number, max_u64, max_u8}
 use Rattle.kinds.specs.Container.{end_byte}
@@ -38,21 +46,31 @@ module _ (b : ℕ) (s : List ℕ) (i : ℕ) where
   unfolding expect_byte
   byte-taken h e = ap (expect_byte b) (unread s i h) ∙ rw (eq-eqb (get_or s i 0) b e, expect_byte)
 
--- The bytes of `m` from `j` on against the text from `i` on.
-module _ (m : List ℕ) (j : ℕ) (s : List ℕ) (i : ℕ) where
-  bytes-step : j < length m → expect_bytes (drop j m) (drop i s) ≡ (expect_byte (get_or m j 0) (drop i s) then (λ u. expect_bytes (drop (j + 1) m) u))
-  unfolding expect_bytes
-  bytes-step h = ap (λ (t : List ℕ). expect_bytes t (drop i s)) (unread m j h)
+-- The bytes of `m` stand at the start of the text, or do not.
+bytes-taken : (m s : List ℕ) → expect_bytes m (m ++ s) ≡ remaining s
+unfolding expect_bytes expect_byte
+bytes-taken [] s = refl
+bytes-taken (b ∷ m) s = then-remaining _ _ (m ++ s) (rw (eq-eqb b b refl, expect_byte)) ∙ bytes-taken m s
 
-  pub bytes-off : j < length m → expect_byte (get_or m j 0) (drop i s) ≡ mismatch → expect_bytes (drop j m) (drop i s) ≡ mismatch
-  bytes-off h e = bytes-step h ∙ then-mismatch _ _ e
+bytes-missing : (m s : List ℕ) → ((rest : List ℕ) → s ≡ m ++ rest → ⊥) → expect_bytes m s ≡ mismatch
+unfolding expect_bytes expect_byte
+bytes-missing [] s n = absurd (n s refl)
+bytes-missing (b ∷ m) [] n = then-mismatch _ _ refl
+bytes-missing (b ∷ m) (c ∷ s) n = elim (ℕ_discrete c b) [
+  | yes e ↦ then-remaining _ _ s (rw (eq-eqb c b e, expect_byte)) ∙ bytes-missing m s (λ rest h. n rest (ap₂ (λ (x : ℕ) (t : List ℕ). x ∷ t) e h))
+  | no k ↦ then-mismatch _ _ (rw (ne_eqb c b k, expect_byte))
+]
 
-  pub bytes-more : j < length m → i < length s → get_or s i 0 ≡ get_or m j 0 → expect_bytes (drop j m) (drop i s) ≡ expect_bytes (drop (j + 1) m) (drop (i + 1) s)
-  bytes-more h k e = bytes-step h ∙ then-remaining _ _ _ (byte-taken (get_or m j 0) s i k e)
+-- What `starts_with` says of them.
+module _ (m text : List ℕ) (at : ℕ) (r : Bool) (h : r ≡ starts_with eqb (drop at text) m) where
+  pub bytes-stand : r ≡ true → (expect_bytes m (drop at text) ≡ remaining (drop (at + length m) text)) × (at ≤ length text → at + length m ≤ length text)
+  bytes-stand e =
+      let is = (starts_is Decides-eqb (drop at text) m r h).0 e in
+      let n : length (drop at text) ≡ length m + length (drop (length m) (drop at text)) = ap length is ∙ length-append m _ in
+      (ap (expect_bytes m) is ∙ bytes-taken m _ ∙ ap remaining (sym (drop-on at (length m) text)), λ l. omega (arith, length-drop at text))
 
-  pub bytes-done : length m ≤ j → expect_bytes (drop j m) (drop i s) ≡ remaining (drop i s)
-  unfolding expect_bytes
-  bytes-done h = ap (λ (t : List ℕ). expect_bytes t (drop i s)) (unread-end m j h)
+  pub bytes-differ : r ≡ false → expect_bytes m (drop at text) ≡ mismatch
+  bytes-differ e = bytes-missing m (drop at text) (λ rest i. false≢true (sym e ∙ (starts_is Decides-eqb (drop at text) m r h).1 rest i))
 
 module _ (limit n : ℕ) (s : List ℕ) where
   pub number-none : (e : ErrorKind) (t : List ℕ) → parse_number limit s ≡ no_number e t → expect_number limit n s ≡ mismatch
@@ -76,10 +94,36 @@ module _ (s : List ℕ) (i : ℕ) where
   unfolding expect_quote
   quote-stop h e = ap expect_quote (unread s i h) ∙ rw (eq-eqb (get_or s i 0) 34 e, expect_quote)
 
-  pub quote-more : i < length s → (get_or s i 0 ≡ 34 → ⊥) → expect_quote (drop i s) ≡ expect_quote (drop (i + 1) s)
+  quote-more : i < length s → (get_or s i 0 ≡ 34 → ⊥) → expect_quote (drop i s) ≡ expect_quote (drop (i + 1) s)
   unfolding expect_quote
   quote-more h n = ap expect_quote (unread s i h) ∙ rw (ne_eqb (get_or s i 0) 34 n, expect_quote)
 
+-- The bytes inside quotes.
+abbrev pub quoted : ℕ → Bool
+quoted b = not (eqb b 34)
+
+not-quote : (b : ℕ) → quoted b ≡ true → b ≡ 34 → ⊥
+not-quote b q e = grind (arith, nat_tests)
+
+quote : (b : ℕ) → quoted b ≡ false → b ≡ 34
+quote b q = grind (arith, nat_tests)
+
+-- Where they end, the text ends or a quote stands.
+pub record QuoteEnd (text : List ℕ) (at to : ℕ) : Type 0 where
+  pub within : to ≤ length text
+  pub passed : expect_quote (drop at text) ≡ expect_quote (drop to text)
+  pub stopped : to < length text → get_or text to 0 ≡ 34
+
+pub quoted-run : (text : List ℕ) (at to : ℕ) → at ≤ length text → to ≡ run_end quoted text at → QuoteEnd text at to
+quoted-run text at to l e =
+    let p = run-to quoted text at to l e in
+    record {
+      within = p.within;
+      passed = run-keeps quoted expect_quote text at to p (λ i h q. quote-more text i h (not-quote _ q));
+      stopped = λ h. quote _ (p.stopped h);
+    }
+
+module _ (s : List ℕ) (i : ℕ) where
   pub class-end : length s ≤ i → class_name (drop i s) ≡ remaining (drop i s)
   unfolding class_name
   class-end h = ap class_name (unread-end s i h) ∙ ap remaining (sym (unread-end s i h))

@@ -19,7 +19,7 @@ use kinds::{
     primitive_code,
 };
 use numbers::{parse_u8, parse_u64};
-use parser::strip_leading_qualifiers;
+use parser::{run_end, strip_leading_qualifiers};
 use sheet::{Found, check};
 use skip::skip_fields;
 
@@ -46,19 +46,10 @@ fn expect_bytes(bytes: &[u8], text: &[u8], at: usize) -> Option<usize>
     requires { at ≤ length text.now }
     ensures { ExpectedIs text.now result (expect_bytes bytes.now (drop at text.now)) }
 {
-    let mut i = 0;
-    let mut to = at;
-    while i < bytes.len() {
-        if text.len() <= to {
-            return None;
-        }
-        if text[to] != bytes[i] {
-            return None;
-        }
-        i += 1;
-        to += 1;
+    if text[at..].starts_with(bytes) {
+        return Some(at + bytes.len());
     }
-    Some(to)
+    None
 }
 
 fn expect_u64(n: u64, text: &[u8], at: usize) -> Option<usize>
@@ -96,12 +87,9 @@ fn expect_quote(text: &[u8], at: usize) -> Option<usize>
     requires { at ≤ length text.now }
     ensures { ExpectedIs text.now result (expect_quote (drop at text.now)) }
 {
-    let mut i = at;
-    while i < text.len() {
-        if text[i] == b'"' {
-            return Some(i + 1);
-        }
-        i += 1;
+    let end = run_end(text, at, |b| b != b'"');
+    if end < text.len() {
+        return Some(end + 1);
     }
     None
 }
@@ -412,6 +400,7 @@ fn expect_encoding(
     requires kinds_and_names { KindsAndNames nodes.now (length names.now) from n }
     ensures { ExpectedIs text.now result (expect_encoding level (trees names.now nodes.now n from) (drop start text.now)) }
 {
+    // A cursor that moves by a node's count: no step of an iterator.
     let mut at = from;
     let mut left = n;
     let mut place = start;

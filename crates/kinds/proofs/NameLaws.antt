@@ -1,25 +1,19 @@
 -- Laws of names, and of their bytes at a place.
-use Prim.Native.Nat.{ℕ, ◌+◌, ◌≤◌, ◌<◌}
-use mathlib.Core.Path.{◌≡◌, refl, ap, sym, ◌∙◌}
-use mathlib.Core.Bool.{Bool, true, false, ◌&&◌, and-true, false≢true}
+use Prim.Native.Nat.{ℕ, ◌<◌}
+use mathlib.Core.Path.{◌≡◌, refl, sym}
+use mathlib.Core.Bool.{true, false, ◌&&◌, and-true, false≢true}
 use mathlib.Core.List.{List, [], ◌∷◌}
 use native.Mathlib.Omega.{arith}
-use lib.ListN.{length, drop, get_or}
+use lib.ListN.{length, get_or}
 use borrow.Author.Tests.{eq-eqb, ne_eqb}
 use Rattle.kinds.specs.Name.{is_name_byte, all_name_bytes, verify_name}
-use Rattle.kinds.proofs.ListLaws.{unread, unread-end}
+use Rattle.std.specs.List.{list_all}
+use Rattle.std.proofs.lemmas.List.Recursion.{same_from_clauses}
 
-pub all_more : (s : List ℕ) (i : ℕ) → i < length s → is_name_byte (get_or s i 0) ≡ true → all_name_bytes (drop i s) ≡ all_name_bytes (drop (i + 1) s)
+-- `iter().all` over the bytes.
+pub all-bytes : (s : List ℕ) → list_all is_name_byte s ≡ all_name_bytes s
 unfolding all_name_bytes
-all_more s i h e = ap all_name_bytes (unread s i h) ∙ ap (λ (x : Bool). x && all_name_bytes (drop (i + 1) s)) e
-
-pub all-stop : (s : List ℕ) (i : ℕ) → i < length s → is_name_byte (get_or s i 0) ≡ false → all_name_bytes (drop i s) ≡ false
-unfolding all_name_bytes
-all-stop s i h e = ap all_name_bytes (unread s i h) ∙ ap (λ (x : Bool). x && all_name_bytes (drop (i + 1) s)) e
-
-pub all_end : (s : List ℕ) (i : ℕ) → length s ≤ i → all_name_bytes (drop i s) ≡ true
-unfolding all_name_bytes
-all_end s i h = ap all_name_bytes (unread-end s i h)
+all-bytes = same_from_clauses (list_all is_name_byte) all_name_bytes (λ b r. is_name_byte b && r) refl (λ _ _. refl) (λ _ _. refl)
 
 pub name-empty : (s : List ℕ) → length s ≡ 0 → verify_name s ≡ false
 unfolding verify_name

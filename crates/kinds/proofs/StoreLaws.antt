@@ -4,9 +4,8 @@ use mathlib.Core.Path.{◌≡◌, refl, sym, ap, ◌∙◌}
 use mathlib.Core.List.{List, [], ◌∷◌, ◌++◌}
 use native.Mathlib.Nat.{add-zero, zero-add, suc-add}
 use native.Mathlib.Omega.{arith}
-use native.Mathlib.Numerals.{add-one}
 use lib.ListN.{length, take, drop, get_or, set, replicate, length-set, take-append-drop}
-use lib.Seq.{sets, set_comm, set-get_or, get_or-set_other, drop-set-lt, take-suc, length-take-le, set-append_left}
+use lib.Seq.{sets, set_comm, set-get_or, get_or-set_other, drop-set-lt, set-append_left}
 use borrow.Rule.Slice.PartMut.{mid_of, post_of, put_mid, mid_len}
 
 -- Runs that stand side by side are one run.
@@ -46,17 +45,16 @@ sets_same w i (suc n) x h =
     ap (λ (l : List ℕ). sets l (suc i) (replicate n x)) e
     ∙ sets_same w (suc i) n x (λ k l. ap (λ (j : ℕ). get_or w j 0) (omega arith) ∙ h (suc k) (omega arith))
 
--- A run that grows by one.
-pub sets_more : (w : List ℕ) (m : ℕ) (s : List ℕ) (i : ℕ) → i < length s → set (sets w m (take i s)) (m + i) (get_or s i 0) ≡ sets w m (take (i + 1) s)
-sets_more w m s i h =
-    ap (λ (k : ℕ). set (sets w m (take i s)) (m + k) (get_or s i 0)) (sym (length-take-le i s (omega arith)))
-    ∙ sym (sets-append w m (take i s) (get_or s i 0 ∷ []))
-    ∙ ap (sets w m) (sym (take-suc s i 0 h))
-    ∙ ap (λ (k : ℕ). sets w m (take k s)) (sym (add-one i))
-
 sets-cons : (x : ℕ) (w : List ℕ) (i : ℕ) (v : List ℕ) → sets (x ∷ w) (suc i) v ≡ x ∷ sets w i v
 sets-cons x w i [] = refl
 sets-cons x w i (y ∷ v) = sets-cons x (set w i y) (suc i) v
+
+-- A run as long as the list.
+pub sets-whole : (w v : List ℕ) → length w ≡ length v → sets w 0 v ≡ v
+sets-whole [] [] h = refl
+sets-whole [] (y ∷ v) h = absurd (omega arith)
+sets-whole (x ∷ w) [] h = absurd (omega arith)
+sets-whole (x ∷ w) (y ∷ v) h = sets-cons y w 0 v ∙ ap (λ (t : List ℕ). y ∷ t) (sets-whole w v (omega arith))
 
 -- A run stored in a part of the list, from `a` on.
 pub sets-part : (a : ℕ) (w : List ℕ) (i : ℕ) (v : List ℕ) → a ≤ length w → take a w ++ sets (drop a w) i v ≡ sets w (a + i) v

@@ -52,19 +52,19 @@ pub enum NestingLevel {
     Bottom,
 }
 
-#[derive(Clone, Copy)]
+#[derive(Clone, Copy, Debug, PartialEq, Eq)]
 pub enum IndirectionKind {
     Atomic,
     Pointer,
 }
 
-#[derive(Clone, Copy)]
+#[derive(Clone, Copy, Debug, PartialEq, Eq)]
 pub enum ContainerKind {
     Struct,
     Union,
 }
 
-#[derive(Clone, Copy)]
+#[derive(Clone, Copy, Debug, PartialEq, Eq)]
 pub enum Primitive {
     Char,
     Short,
@@ -101,7 +101,7 @@ pub enum Code {
 }
 
 // Why text cannot be read; `SurplusZero` is of strict reading alone.
-#[derive(Clone, Copy)]
+#[derive(Clone, Copy, Debug, PartialEq, Eq)]
 pub enum ErrorKind {
     UnexpectedEnd,
     Unknown(u8),
@@ -124,7 +124,7 @@ pub struct ParseError {
 
 // Why an input is turned away: document 01's 1 to 6, and 7 to 15 with their place; of signatures 16 and 17 with their place, and 18; of strict reading 19
 // with its place; of size 20; of the layout 21 with the number of a node.
-#[derive(Clone, Copy)]
+#[derive(Clone, Copy, Debug, PartialEq, Eq)]
 pub enum Refusal {
     TextTooLong,
     ListTooShort,
@@ -268,8 +268,8 @@ impl ErrorKind {
         let place = at as u64;
         match self {
             ErrorKind::UnexpectedEnd => [7, place, 0, 0],
-            ErrorKind::Unknown(b) => [UNKNOWN, place, wide(b), 0],
-            ErrorKind::UnknownAfterComplex(b) => [9, place, wide(b), 0],
+            ErrorKind::Unknown(b) => [UNKNOWN, place, u64::from(b), 0],
+            ErrorKind::UnknownAfterComplex(b) => [9, place, u64::from(b), 0],
             ErrorKind::ExpectedInteger => [10, place, 0, 0],
             ErrorKind::IntegerTooLarge => [11, place, 0, 0],
             ErrorKind::WrongEndArray => [12, place, 0, 0],
@@ -327,15 +327,13 @@ impl From<ParseError> for Refusal {
 }
 
 // A digit stands where a type should begin: refusal 8, with a digit.
+#[tactic(auto, unfolding(crate::specs::Parse::unknown_digit, crate::specs::Byte::is_digit))]
 pub fn unknown_digit(why: ErrorKind) -> bool
     ensures { result ≡ unknown_digit why }
 {
     let row = why.words(0);
-    if row[0] == UNKNOWN {
-        // the byte, from '0' to '9'
-        return 48 <= row[2] && row[2] <= 57;
-    }
-    false
+    // the byte, from '0' to '9'
+    row[0] == UNKNOWN && 48 <= row[2] && row[2] <= 57
 }
 
 impl Primitive {
@@ -446,12 +444,6 @@ fn table_entry(row: u64, kind: usize) -> u8
     sizes[kind]
 }
 
-fn wide(x: u8) -> u64
-    ensures { result ≡ x }
-{
-    x as u64
-}
-
 // `Primitive::size` on kind words.
 pub fn primitive_size(row: u64, kind: u64) -> Option<u64>
     ensures { result ≡ size_in row kind }
@@ -462,7 +454,7 @@ pub fn primitive_size(row: u64, kind: u64) -> Option<u64>
     if PRIMITIVES <= kind {
         return None; // no primitive
     }
-    let n = wide(table_entry(row, kind as usize));
+    let n = u64::from(table_entry(row, kind as usize));
     if n == 0 {
         return None;
     }
@@ -470,39 +462,26 @@ pub fn primitive_size(row: u64, kind: u64) -> Option<u64>
 }
 
 // Object, Block and Class, by their kind words.
+#[tactic(auto, unfolding(crate::specs::Primitive::is_object, crate::specs::Byte::among))]
 pub fn is_object(kind: u64) -> bool
     ensures { result ≡ is_object kind }
 {
-    if kind == OBJECT {
-        return true;
-    }
-    if kind == BLOCK {
-        return true;
-    }
-    kind == CLASS
+    kind == OBJECT || kind == BLOCK || kind == CLASS
 }
 
 // `Primitive::equivalents` on kind words; a kind that is no primitive is equivalent to itself alone.
+#[tactic(auto, unfolding(crate::specs::Primitive::equivalent))]
 pub fn equivalent_kinds(p: u64, q: u64) -> bool
     ensures { result ≡ equivalent p q }
 {
-    if p == q {
-        return true;
-    }
-    if !is_object(p) {
-        return false;
-    }
-    is_object(q)
+    p == q || is_object(p) && is_object(q)
 }
 
 // Struct and union, by their kind words.
 pub fn is_container(kind: u64) -> bool
     ensures { result ≡ is_container_kind kind }
 {
-    if kind == STRUCT {
-        return true;
-    }
-    kind == UNION
+    kind == STRUCT || kind == UNION
 }
 
 // Which of the two a container's kind word names; any other kind word goes with the union's.
@@ -519,55 +498,24 @@ pub fn container_of(kind: u64) -> ContainerKind
 pub fn is_indirection(kind: u64) -> bool
     ensures { result ≡ is_indirection kind }
 {
-    if kind == POINTER {
-        return true;
-    }
-    kind == ATOMIC
+    kind == POINTER || kind == ATOMIC
 }
 
 // An ASCII letter, digit or underscore.
+#[tactic(auto, unfolding(crate::specs::Name::is_name_byte, crate::specs::Byte::is_digit))]
 pub fn is_name_byte(b: u8) -> bool
     ensures { result ≡ is_name_byte b }
 {
-    if b < b'0' {
-        return false;
-    }
-    if b <= b'9' {
-        return true;
-    }
-    if b < b'A' {
-        return false;
-    }
-    if b <= b'Z' {
-        return true;
-    }
-    if b == b'_' {
-        return true;
-    }
-    if b < b'a' {
-        return false;
-    }
-    b <= b'z'
+    b.is_ascii_alphanumeric() || b == b'_'
 }
 
 // Whether a struct's or union's name is `?` or an identifier.
 pub fn verify_name(name: &[u8]) -> bool
     ensures { result ≡ verify_name name.now }
 {
-    if name.len() == 0 {
-        return false;
+    match name {
+        [] => false,
+        [b'?'] => true,
+        _ => name.iter().all(|b| is_name_byte(*b)),
     }
-    if name.len() == 1 {
-        if name[0] == b'?' {
-            return true;
-        }
-    }
-    let mut i = 0;
-    while i < name.len() {
-        if !is_name_byte(name[i]) {
-            return false;
-        }
-        i += 1;
-    }
-    true
 }

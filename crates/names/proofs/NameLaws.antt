@@ -1,8 +1,8 @@
 -- Laws of names at a place of a text, and where they end.
-use Prim.Native.Nat.{ℕ, suc, ◌+◌, ◌-◌, ◌≤◌, ◌<◌}
-use mathlib.Core.Path.{◌≡◌, refl, sym, ap, ◌∙◌}
+use Prim.Native.Nat.{ℕ, zero, suc, ◌+◌, ◌-◌, ◌≤◌, ◌<◌}
+use mathlib.Core.Path.{◌≡◌, refl, sym, ap, subst, ◌∙◌}
 use mathlib.Core.List.{List, [], ◌∷◌, ◌++◌, append_assoc, append-nil}
-use mathlib.Core.Bool.{Bool, true, false}
+use mathlib.Core.Bool.{Bool, true, false, not, ◌||◌}
 use native.Mathlib.Nat.{sub_self}
 use native.Mathlib.Omega.{arith}
 use native.Mathlib.Decide.{ℕ_discrete}
@@ -10,6 +10,7 @@ use lib.ListN.{length, take, drop, get_or, length-drop}
 use lib.Seq.{take-suc, get_or-drop, length-take-le}
 use lib.Dec.{eqb}
 use borrow.Author.Tests.{eq-eqb, ne_eqb}
+use Rattle.std.proofs.lemmas.Bool.Decides.{nat_tests}
 use Rattle.kinds.proofs.ListLaws.{unread, unread-end}
 use Rattle.kinds.proofs.NameLaws.{name-some}
 use Rattle.kinds.proofs.ParseLaws.{name-checked, name-bad}
@@ -21,6 +22,8 @@ use Rattle.kinds.specs.declared.ErrorKind.{ErrorKind}
 use Rattle.kinds.specs.declared.ErrorKind.TheVariants.{WrongEndContainer, InvalidIdentifier}
 use Rattle.parser.specs.Place.{place_of}
 use Rattle.parser.proofs.RestLaws.{RestOf, rest_all, rest-later, rest-of-rest, unread-at, place-of-drop}
+use Rattle.parser.specs.Run.{run_end}
+use Rattle.parser.proofs.RunLaws.{run-to}
 use Rattle.parser.proofs.PlaceLaws.{drop-on}
 use Rattle.names.specs.Answer.{name_at}
 use Rattle.names.specs.Ends.{NameEnd}
@@ -52,7 +55,7 @@ unfolding parse_name
 name-ends k acc s i h = ap (parse_name k acc) (unread-end s i h) ∙ sym (ap (unnamed (WrongEndContainer k)) (unread-end s i h))
 
 -- The bytes passed, with one more.
-pub passed-more : (s : List ℕ) (at i : ℕ) → at ≤ i → i < length s → take (i - at) (drop at s) ++ (get_or s i 0 ∷ []) ≡ take (i + 1 - at) (drop at s)
+passed-more : (s : List ℕ) (at i : ℕ) → at ≤ i → i < length s → take (i - at) (drop at s) ++ (get_or s i 0 ∷ []) ≡ take (i + 1 - at) (drop at s)
 passed-more s at i l h =
     let d : at + (i - at) ≡ i = omega arith in
     let e : get_or (drop at s) (i - at) 0 ≡ get_or s i 0 = get_or-drop at s (i - at) 0 ∙ ap (λ (k : ℕ). get_or s k 0) d in
@@ -61,8 +64,46 @@ passed-more s at i l h =
     ∙ sym (take-suc (drop at s) (i - at) 0 (simp length-drop (omega arith)))
     ∙ ap (λ (k : ℕ). take k (drop at s)) n
 
-pub taken_none : (s : List ℕ) (at : ℕ) → take (at - at) (drop at s) ≡ []
+taken_none : (s : List ℕ) (at : ℕ) → take (at - at) (drop at s) ≡ []
 taken_none s at = rw sub_self
+
+-- The bytes that a name goes on with.
+abbrev pub goes_on : ContainerKind → ℕ → Bool
+goes_on k b = not (eqb b 61 || eqb b (end_byte k))
+
+goes-on-past : (k : ContainerKind) (b : ℕ) → goes_on k b ≡ true → (b ≡ 61 → ⊥) × (b ≡ end_byte k → ⊥)
+goes-on-past k b e = (λ n. grind (arith, nat_tests), λ n. grind (arith, nat_tests))
+
+stops-at : (k : ContainerKind) (b : ℕ) → goes_on k b ≡ false → (b ≡ 61 → ⊥) → b ≡ end_byte k
+stops-at k b e n = grind (arith, nat_tests)
+
+abbrev Scanned : ContainerKind → List ℕ → ℕ → ℕ → Type 0
+Scanned k text at i = parse_name k [] (drop at text) ≡ parse_name k (take (i - at) (drop at text)) (drop i text)
+
+-- Such bytes belong to the name.
+scanned_to : (k : ContainerKind) (text : List ℕ) (at n i : ℕ) → at + n ≡ i → i ≤ length text → ((j : ℕ) → at ≤ j → j < i → goes_on k (get_or text j 0) ≡ true) → Scanned k text at i
+scanned_to k text at zero i e l r =
+    let here : at ≡ i = omega arith in
+    subst (Scanned k text at) here (ap (λ (x : List ℕ). parse_name k x (drop at text)) (sym (taken_none text at)))
+scanned_to k text at (suc n) i e l r =
+    let h : at + n < length text = omega arith in
+    let next : at + n + 1 ≡ i = omega arith in
+    let past = goes-on-past k _ (r (at + n) (omega arith) (omega arith)) in
+    subst (Scanned k text at) next
+    (scanned_to k text at n (at + n) refl (omega arith) (λ j a b. r j a (omega arith))
+    ∙ name-more k _ text (at + n) h past.0 past.1
+    ∙ ap (λ (x : List ℕ). parse_name k x (drop (at + n + 1) text)) (passed-more text at (at + n) (omega arith) h))
+
+-- The end of a run of such bytes is the name's end.
+pub name-run : (k : ContainerKind) (text : List ℕ) (at r : ℕ) → at ≤ length text → r ≡ run_end (goes_on k) text at → NameEnd text at k r
+name-run k text at r l e =
+    let p = run-to (goes_on k) text at r l e in
+    record {
+      onward = p.onward;
+      within = p.within;
+      scanned = scanned_to k text at (r - at) r (omega (arith, p.onward)) p.within p.run;
+      stopped = λ h n. stops-at k _ (p.stopped h) n;
+    }
 
 pub passed_length : (s : List ℕ) (at i : ℕ) → at ≤ i → i ≤ length s → length (take (i - at) (drop at s)) ≡ i - at
 passed_length s at i l h = length-take-le (i - at) (drop at s) (simp length-drop (omega arith))

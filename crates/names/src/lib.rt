@@ -7,6 +7,7 @@ ghost use Rattle.names.specs.Answer.{name_at};
 ghost use Rattle.names.specs.Ends.{NameEnd};
 
 use kinds::{ContainerKind, ErrorKind, ParseError, verify_name};
+use parser::run_end;
 
 // Where a container's name ends: at `=`, at the container's own closer, or with the text.
 fn name_end(text: &[u8], at: usize, kind: ContainerKind) -> usize
@@ -14,18 +15,7 @@ fn name_end(text: &[u8], at: usize, kind: ContainerKind) -> usize
     ensures { NameEnd text.now at kind result }
 {
     let close = kind.end_byte();
-    let mut i = at;
-    while i < text.len() {
-        let b = text[i];
-        if b == b'=' {
-            return i;
-        }
-        if b == close {
-            return i;
-        }
-        i += 1;
-    }
-    i
+    run_end(text, at, |b| b != b'=' && b != close)
 }
 
 // A container's name, checked and not copied: where it ends and the place after it, with `=` passed.

@@ -9,6 +9,7 @@ ghost use Rattle.numbers.specs.Answer.{digits_taken, number_at};
 ghost use Rattle.kinds.specs.Refusal.{parse_error};
 
 use kinds::{ErrorKind, ParseError};
+use parser::run_end;
 
 // How many digits a number took, and whether the first is a surplus zero: there are more, and it is 0.
 #[derive(Clone, Copy)]
@@ -24,30 +25,18 @@ pub struct Number {
     pub digits: Digits,
 }
 
-fn wide(b: u8) -> u64
-    ensures { result ≡ b }
-{
-    b as u64
-}
-
+#[tactic(auto, unfolding(kinds::specs::Byte::is_digit))]
 pub fn is_digit(b: u8) -> bool
     ensures { result ≡ is_digit b }
 {
-    48 <= b && b <= 57
+    b.is_ascii_digit()
 }
 
 // The place after the digits from `at` on.
 fn chomp_digits(text: &[u8], at: usize) -> usize
     ensures { result ≡ run_end is_digit text.now at }
 {
-    let mut i = at;
-    while i < text.len() {
-        if !is_digit(text[i]) {
-            return i;
-        }
-        i += 1;
-    }
-    i
+    run_end(text, at, is_digit)
 }
 
 // What `count` digits show, of which `first` is the first.
@@ -100,8 +89,7 @@ fn parse_number(text: &[u8], at: usize, limit: u64) -> Number
         return refused(ErrorKind::ExpectedInteger, at, digits_taken(0, 0));
     }
     let mut acc: u64 = 0;
-    let mut i = at;
-    while i < text.len() {
+    for i in at..text.len() {
         let b = text[i];
         if !is_digit(b) {
             return Number {
@@ -109,18 +97,18 @@ fn parse_number(text: &[u8], at: usize, limit: u64) -> Number
                 digits: digits_taken(first, i - at),
             };
         }
-        let d = wide(b - 48);
+        let d = u64::from(b - b'0');
         if is_above(acc, d, limit) {
             let to = chomp_digits(text, i + 1);
             let digits = digits_taken(first, to - at);
             return refused(ErrorKind::IntegerTooLarge, to, digits);
         }
         acc = acc * 10 + d;
-        i += 1;
     }
-    let taken = digits_taken(first, i - at);
+    let end = text.len();
+    let taken = digits_taken(first, end - at);
     Number {
-        read: Ok((acc, i)),
+        read: Ok((acc, end)),
         digits: taken,
     }
 }

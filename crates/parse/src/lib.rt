@@ -19,8 +19,7 @@ ghost use Rattle.parse.specs.Out.{opens_container, opened_container, contain_out
 ghost use Rattle.parse.specs.Agree.{NamedIs, Simple, SimpleReady, Ready, OneReady, Reads, ChildReady, Holds, CodesRead, ContainerReady, lists, EncodedIs};
 
 use codes::{
-    BitsDigits, Token, closes_fields, closes_item, indirections_end, same_container, single_kind,
-    token_at,
+    BitsDigits, Token, closes_fields, closes_item, indirections_end, single_kind, token_at,
 };
 use kinds::{
     ARRAY, ATOMIC, BIT_FIELD, ContainerKind, ErrorKind, MAX_TEXT, NONE, POINTER, PRIMITIVES,
@@ -71,11 +70,7 @@ fn copy_name(names: &mut [u8], m: usize, name: &[u8])
     requires { m + length name.now ≤ length names.old }
     ensures { names.new ≡ sets names.old m name.now }
 {
-    let mut i = 0;
-    while i < name.len() {
-        names[m + i] = name[i];
-        i += 1;
-    }
+    names[m..m + name.len()].copy_from_slice(name);
 }
 
 // The calls of the crates below hand the text on anew, which spares each a stall.
@@ -299,7 +294,7 @@ fn end_items(
             split_point: at,
         }),
         Parsed::ContainerEnd(other, to) => {
-            if same_container(kind, other) {
+            if kind == other {
                 Ok((to, n, m))
             } else {
                 Err(ParseError {
@@ -408,17 +403,9 @@ fn put_indirections(
     ensures { Holds text.now at to n m words.old words.new child result }
 {
     let mut p = child;
-    let mut i = to;
-    while at < i {
-        p = put_indirection(
-            p,
-            i,
-            indirection_word(text[i - 1]),
-            words,
-            n + (i - 1 - at),
-            m,
-        );
-        i -= 1;
+    for i in (at..to).rev() {
+        let kind = indirection_word(text[i]);
+        p = put_indirection(p, i + 1, kind, words, n + (i - at), m);
     }
     p
 }
@@ -501,16 +488,14 @@ fn put_codes(text: &[u8], at: usize, words: &mut [u64], n: usize) -> usize
     requires { (at ≤ length text.now) × (4 * (n + slack (drop at text.now)) ≤ length words.old) }
     ensures { CodesRead text.now at n words.old words.new result }
 {
-    let mut i = at;
-    while i < text.len() {
+    for i in at..text.len() {
         let p = single_kind(text[i]);
         if PRIMITIVES <= p {
             return i;
         }
         put_node(words, n + (i - at), p, 0, 0, 1);
-        i += 1;
     }
-    i
+    text.len()
 }
 
 // A type from `at` on, as `parse_inner` reads it. A container goes straight to its reader, so that a level of nested containers takes one frame.
@@ -553,6 +538,7 @@ fn parse_container(
     ensures { Reads strict text.now at n m (lists words.old names.old) (lists words.new names.new) result }
 {
     let (start, named) = put_name(text, at + 1, kind, names, m)?;
+    // A cursor that moves by what was read: no step of an iterator.
     let mut to = start;
     let mut k = n + 1;
     let mut l = named;
@@ -589,11 +575,7 @@ fn clear_names(names: &mut [u8], n: usize)
     requires { n ≤ length names.old }
     ensures { names.new ≡ cleared n names.old }
 {
-    let mut i = 0;
-    while i < n {
-        names[i] = 0;
-        i += 1;
-    }
+    names[0..n].fill(0);
 }
 
 // The header, where the nodes are known to fit.

@@ -13,9 +13,10 @@ use Rattle.kinds.specs.Parse.{is_qualifier, strip_leading_qualifiers}
 use Rattle.kinds.proofs.ParseLaws.{strip-shorter}
 use borrow.Author.Tests.{lt-ltb, le-ltb}
 use Rattle.parser.specs.Place.{end_of, remaining_at, peek_at, advance_at, strip_at}
+use Rattle.parser.specs.Run.{run_end}
 use Rattle.parser.specs.Answer.{new_parser, remaining, strip_qualifiers, skip_qualifiers}
 use Rattle.std.specs.Prelude.{Some, None}
-use Rattle.parser.proofs.TextLaws.{strip-more}
+use Rattle.parser.proofs.TextLaws.{strip-run}
 
 pub peek-byte : (s : List ℕ) (at : ℕ) → at < length s → peek_at s at ≡ Some (get_or s at 0)
 unfolding peek_at
@@ -33,15 +34,10 @@ pub advance-stays : (s : List ℕ) (at : ℕ) → length s ≤ at → advance_at
 unfolding advance_at
 advance-stays s at h = rw (le-ltb at (length s) h, advance_at) refl
 
-pub strip-at-more : (s : List ℕ) (i : ℕ) → i < length s → is_qualifier (get_or s i 0) ≡ true → strip_at s i ≡ strip_at s (i + 1)
-unfolding strip_at
-strip-at-more s i h e =
-    let same : length (strip_leading_qualifiers (drop i s)) ≡ length (strip_leading_qualifiers (drop (i + 1) s)) = ap length (strip-more s i h e) in
-    omega (arith, same, length-drop i s, length-drop (i + 1) s, strip-shorter (drop (i + 1) s))
-
-pub strip-at-stop : (s : List ℕ) (i : ℕ) → strip_leading_qualifiers (drop i s) ≡ drop i s → strip_at s i ≡ i
-unfolding strip_at
-strip-at-stop s i e = let same : length (strip_leading_qualifiers (drop i s)) ≡ length (drop i s) = ap length e in omega (arith, same)
+-- The place after the qualifiers is the end of their run.
+pub strip-at-run : (s : List ℕ) (at : ℕ) → run_end is_qualifier s at ≡ strip_at s at
+unfolding strip_at run_end
+strip-at-run s at = ap (λ (t : List ℕ). at + (length (drop at s) - length t)) (sym (strip-run (drop at s)))
 
 -- What stripping leaves is the list from a place on.
 pub strip-leaves : (s : List ℕ) → drop (length s - length (strip_leading_qualifiers s)) s ≡ strip_leading_qualifiers s

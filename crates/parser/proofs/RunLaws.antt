@@ -85,6 +85,19 @@ module _ (test : ℕ → Bool) where
         stopped = λ h. ap test (sym (step to (omega arith))) ∙ ap (λ (x : ℕ). test (get_or (drop at text) x 0)) q ∙ p.stopped (omega arith);
       }
 
+  -- What each byte of a run keeps, the run keeps.
+  pub run-keeps : {Y : Type 0} (f : List ℕ → Y) (text : List ℕ) (at to : ℕ) → RunTo test text at to
+      → ((i : ℕ) → i < length text → test (get_or text i 0) ≡ true → f (drop i text) ≡ f (drop (i + 1) text)) → f (drop at text) ≡ f (drop to text)
+  run-keeps f text at to p more = go (to - at) to (omega (arith, p.onward)) p.within p.run
+    where
+      go : (n j : ℕ) → at + n ≡ j → j ≤ length text → ((i : ℕ) → at ≤ i → i < j → test (get_or text i 0) ≡ true) → f (drop at text) ≡ f (drop j text)
+      go zero j e l r = let here : at ≡ j = omega arith in ap (λ (k : ℕ). f (drop k text)) here
+      go (suc n) j e l r =
+          let next : at + n + 1 ≡ j = omega arith in
+          go n (at + n) refl (omega arith) (λ i a b. r i a (omega arith))
+          ∙ more (at + n) (omega arith) (r (at + n) (omega arith) (omega arith))
+          ∙ ap (λ (k : ℕ). f (drop k text)) next
+
   pub run_more : (s : List ℕ) (i : ℕ) → i < length s → test (get_or s i 0) ≡ true → run_end test s i ≡ run_end test s (i + 1)
   unfolding run_end
   run_more s i h e =

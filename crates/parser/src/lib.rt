@@ -2,10 +2,10 @@
 // and leaves the work to a function on the text and the place.
 #![tactic(auto)]
 
-ghost use Rattle.std.specs.Prelude.{◌≡◌};
-ghost use Rattle.kinds.specs.Byte.{among};
+ghost use Rattle.std.specs.Prelude.{ℕ, ◌≡◌, Bool};
 ghost use Rattle.kinds.specs.Parse.{is_qualifier, strip_leading_qualifiers};
 ghost use Rattle.parser.specs.Place.{lent, place_of, peek_at, is_empty_at, remaining_at, advance_at, strip_at};
+ghost use Rattle.parser.specs.Run.{Computes, run_end};
 ghost use Rattle.parser.specs.Answer.{new_parser, peek, is_empty, remaining, advance, strip_qualifiers, skip_qualifiers};
 
 #[derive(Clone, Copy)]
@@ -48,39 +48,31 @@ fn advance_at(text: &[u8], at: usize) -> usize
     if at < text.len() { at + 1 } else { at }
 }
 
-const QUALIFIERS: [u8; 7] = *b"rnNoORV";
-
-fn contains(s: &[u8], b: u8) -> bool
-    ensures { result ≡ among b s.now }
-{
-    let mut i = 0;
-    while i < s.len() {
-        if b == s[i] {
-            return true;
-        }
-        i += 1;
-    }
-    false
-}
-
+#[tactic(auto, unfolding(kinds::specs::Parse::is_qualifier, kinds::specs::Parse::qualifiers, kinds::specs::Byte::among))]
 fn is_qualifier(b: u8) -> bool
     ensures { result ≡ is_qualifier b }
 {
-    contains(&QUALIFIERS, b)
+    matches!(b, b'r' | b'n' | b'N' | b'o' | b'O' | b'R' | b'V')
+}
+
+// The place after the run of bytes from `at` on that pass the test; past the end the place stays.
+pub fn run_end<F: Fn(u8) -> bool>(text: &[u8], at: usize, passes: F) -> usize
+    requires { F.IsAlwaysCallable passes }
+    ensures { (test : ℕ → Bool) → Computes (F.post passes) test → result ≡ run_end test text.now at }
+{
+    for i in at..text.len() {
+        if !passes(text[i]) {
+            return i;
+        }
+    }
+    at.max(text.len())
 }
 
 // The place after the qualifiers from `at` on; past the end the place stays.
 pub fn strip_at(text: &[u8], at: usize) -> usize
     ensures { result ≡ strip_at text.now at }
 {
-    let mut i = at;
-    while i < text.len() {
-        if !is_qualifier(text[i]) {
-            return i;
-        }
-        i += 1;
-    }
-    i
+    run_end(text, at, is_qualifier)
 }
 
 impl<'a> Parser<'a> {

@@ -43,10 +43,7 @@ fn name_ok(first: u64, second: u64, name: u64, end: u64) -> bool
     requires { name ≤ end }
     ensures { result ≡ (eqb first name && leb (name + second) end) }
 {
-    if first != name {
-        return false;
-    }
-    second <= end - name
+    first == name && second <= end - name
 }
 
 // Whether the two numbers of a node that has no name are those that its kind takes.
@@ -106,10 +103,7 @@ fn arity_ok(nodes: &[u64], at: usize, kind: u64, count: u64, left: usize) -> boo
 fn no_numbers(first: u64, second: u64) -> bool
     ensures { result ≡ (eqb first 0 && eqb second 0) }
 {
-    if first != 0 {
-        return false;
-    }
-    second == 0
+    first == 0 && second == 0
 }
 
 // Whether the node at `at`, no container, can stand first among the `left` nodes from there on. Codes and what points to others,
@@ -120,21 +114,12 @@ fn plain_ok(nodes: &[u64], at: usize, left: usize) -> bool
 {
     let kind = nodes[at];
     if kind < PRIMITIVES {
-        if !no_numbers(nodes[at + 1], nodes[at + 2]) {
-            return false;
-        }
-        return nodes[at + 3] == 1;
+        return no_numbers(nodes[at + 1], nodes[at + 2]) && nodes[at + 3] == 1;
     }
     if is_indirection(kind) {
-        if !no_numbers(nodes[at + 1], nodes[at + 2]) {
-            return false;
-        }
-        return child_ok(nodes, at, nodes[at + 3], left);
+        return no_numbers(nodes[at + 1], nodes[at + 2]) && child_ok(nodes, at, nodes[at + 3], left);
     }
-    if !numbers_ok(kind, nodes[at + 1], nodes[at + 2]) {
-        return false;
-    }
-    arity_ok(nodes, at, kind, nodes[at + 3], left)
+    numbers_ok(kind, nodes[at + 1], nodes[at + 2]) && arity_ok(nodes, at, kind, nodes[at + 3], left)
 }
 
 // Whether the container at `at` can stand first among the `left` nodes from there on, where `name` is the place of the next name.
@@ -146,10 +131,7 @@ fn container_ok(nodes: &[u64], at: usize, left: usize, name: u64, end: u64) -> b
         return false;
     }
     let count = nodes[at + 3];
-    if count < 1 {
-        return false;
-    }
-    count <= left as u64
+    1 <= count && count <= left as u64
 }
 
 // Whether the names so far are good, and the one of `size` bytes from `from` on.
@@ -179,6 +161,7 @@ fn check_nodes(
     requires { (at + 4 * left ≤ length nodes.now) × (name ≤ end) × (end ≤ length names.now) }
     ensures { result ≡ walked names.now nodes.now left at name end good }
 {
+    // A cursor that moves by a node's count: no step of an iterator.
     while 0 < left {
         if !is_container(nodes[at]) {
             if !plain_ok(nodes, at, left) {
@@ -217,34 +200,18 @@ fn check_nodes(
     Some((name, good))
 }
 
+#[tactic(auto, unfolding(kinds::specs::Sheet::header))]
 fn header_ok(words: &[u64], room: usize) -> bool
     ensures { result ≡ header words.now room }
 {
-    if words.len() < HEADER {
-        return false;
-    }
-    let nodes = words[0];
-    let bytes = words[2];
-    let used = words[3];
-    if nodes < 1 {
-        return false;
-    }
-    if MAX_NODES < nodes {
-        return false;
-    }
-    if words[1] != HEADER as u64 {
-        return false;
-    }
-    if MAX_NAMES < bytes {
-        return false;
-    }
-    if used != HEADER as u64 + 4 * nodes {
-        return false;
-    }
-    if (words.len() as u64) < used {
-        return false;
-    }
-    bytes <= room as u64
+    HEADER <= words.len()
+        && 1 <= words[0]
+        && words[0] <= MAX_NODES
+        && words[1] == HEADER as u64
+        && words[2] <= MAX_NAMES
+        && words[3] == HEADER as u64 + 4 * words[0]
+        && words[3] <= words.len() as u64
+        && words[2] <= room as u64
 }
 
 // What a whole pass says of a sheet whose names end at `end`.
@@ -305,28 +272,14 @@ fn lone_code(words: &[u64]) -> bool
     ensures holds { result ≡ true → LoneCode words.now }
     ensures fails { result ≡ false → LoneCode words.now → ⊥ }
 {
-    if words.len() < HEADER + 4 {
-        return false;
-    }
-    if words[0] != 1 {
-        return false;
-    }
-    if words[1] != HEADER as u64 {
-        return false;
-    }
-    if words[2] != 0 {
-        return false;
-    }
-    if words[3] != HEADER as u64 + 4 {
-        return false;
-    }
-    if PRIMITIVES <= words[HEADER] {
-        return false;
-    }
-    if !no_numbers(words[HEADER + 1], words[HEADER + 2]) {
-        return false;
-    }
-    words[HEADER + 3] == 1
+    HEADER + 4 <= words.len()
+        && words[0] == 1
+        && words[1] == HEADER as u64
+        && words[2] == 0
+        && words[3] == HEADER as u64 + 4
+        && words[HEADER] < PRIMITIVES
+        && no_numbers(words[HEADER + 1], words[HEADER + 2])
+        && words[HEADER + 3] == 1
 }
 
 // The code that the words hold, whatever names stand beside them: for a call that can answer for codes before the check of its sheets.
@@ -435,9 +388,5 @@ pub fn put_header(words: &mut [u64], nodes: usize, names: usize)
 pub fn clear_words(words: &mut [u64])
     ensures { words.new ≡ replicate (length words.old) 0 }
 {
-    let mut i = 0;
-    while i < words.len() {
-        words[i] = 0;
-        i += 1;
-    }
+    words.fill(0);
 }

@@ -32,10 +32,8 @@ fn starts_digit(text: &[u8], at: usize) -> bool
 fn own_place(why: ErrorKind, to: usize) -> usize
     ensures { result ≡ own_place why to }
 {
-    if unknown_digit(why) {
-        if 0 < to {
-            return to - 1;
-        }
+    if unknown_digit(why) && 0 < to {
+        return to - 1;
     }
     to
 }
@@ -89,6 +87,7 @@ fn read_entries(text: &[u8], list: &mut [u64]) -> Result<usize, Refusal>
     requires { used (length text.now) ≤ length list.old }
     ensures { EntriesRead text.now list.old list.new result }
 {
+    // A cursor that moves by an entry's bytes: no step of an iterator.
     let mut at = 0;
     let mut k = 0;
     while at < text.len() {

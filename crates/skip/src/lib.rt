@@ -12,8 +12,8 @@ ghost use Rattle.kinds.specs.declared.ErrorKind.TheVariants.{Unknown};
 ghost use Rattle.skip.specs.Skips.{token_skipped, held_skipped, item_skipped, end_skipped, encoding_of, ends_object, object_alone, Skips, SkipsItems, OneAt, OpensAt};
 
 use codes::{
-    OBJECT_START, Token, closes_fields, closes_item, codes_end, indirections_end, same_container,
-    single_kind, start, token_at,
+    OBJECT_START, Token, closes_fields, closes_item, codes_end, indirections_end, single_kind,
+    start, token_at,
 };
 use kinds::{ContainerKind, ErrorKind, PRIMITIVES, ParseError};
 use names::parse_name;
@@ -105,7 +105,7 @@ fn end_skipped(s: Skipped, text: &[u8], kind: ContainerKind) -> Result<usize, Pa
         }),
         Skipped::Encoding(to) => Ok(to),
         Skipped::ContainerEnd(other, to) => {
-            if same_container(kind, other) {
+            if kind == other {
                 Ok(to)
             } else {
                 Err(unknown_end(other.end_byte(), to))
@@ -165,6 +165,7 @@ fn skip_items(text: &[u8], at: usize, kind: ContainerKind) -> Result<usize, Pars
     requires { at ≤ length text.now }
     ensures { SkipsItems text.now at kind result }
 {
+    // A cursor that moves by what was read: no step of an iterator.
     let mut to = at;
     loop {
         let past = codes_end(text, to);
@@ -209,10 +210,7 @@ fn encoding_or_none(s: Skipped, text: &[u8]) -> Result<usize, ParseError>
 fn ends_object(b: u8) -> bool
     ensures { result ≡ ends_object b }
 {
-    if b == b'?' {
-        return false;
-    }
-    b != b'"'
+    b != b'?' && b != b'"'
 }
 
 // An object of one byte stands at `at`.

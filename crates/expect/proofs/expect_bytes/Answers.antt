@@ -1,27 +1,14 @@
-use Prim.Native.Nat.{◌-◌}
-use mathlib.Core.Path.{refl, ◌∙◌}
-use native.Mathlib.Omega.{arith}
-use borrow.Author.Rules.{rules}
-use Rattle.expect.proofs.TextLaws.{byte-end, byte-other, bytes-off, bytes-more, bytes-done}
+use borrow.Author.Rules.{part_to_end}
+use Rattle.expect.proofs.TextLaws.{bytes-stand, bytes-differ}
 use Rattle.expect.proofs.expect_bytes.Goals as goal
 
-pub loop-i-init : goal.loop-i-init
-loop-i-init c = (refl, search rules)
-
-pub returns-then-text-to : goal.returns-then-text-to
-returns-then-text-to c =
-    c.loop-i.invariant.0 ∙ bytes-off _ _ c.args.text.now c.loop-i.to c.loop-i-test.true
-    (byte-end _ c.args.text.now c.loop-i.to c.if-text-to.true)
-
-pub returns-then-text-to-2 : goal.returns-then-text-to-2
-returns-then-text-to-2 c =
-    c.loop-i.invariant.0 ∙ bytes-off _ _ c.args.text.now c.loop-i.to c.loop-i-test.true
-    (byte-other _ c.args.text.now c.loop-i.to c.if-text-to.false c.if-text-to-2.true)
-
-pub loop-i-preserved : goal.loop-i-preserved
-loop-i-preserved c =
-    (c.loop-i.invariant.0 ∙ bytes-more _ _ c.args.text.now c.loop-i.to c.loop-i-test.true c.if-text-to.false (omega (arith, c.if-text-to-2.false)), omega arith)
+pub returns-then-starts_with : goal.returns-then-starts_with
+returns-then-starts_with c =
+    let a = c.args in
+    let s = bytes-stand a.bytes.now a.text.now a.at _ (rw part_to_end at c.starts_with.ensures.value) c.if-starts_with.true in
+    (s.0, s.1 c.requires)
 
 pub returns : goal.returns
 returns c =
-    (c.loop-i.invariant.0 ∙ bytes-done _ _ c.args.text.now c.loop-i.to c.loop-i-test.false, c.loop-i.invariant.1)
+    let a = c.args in
+    bytes-differ a.bytes.now a.text.now a.at _ (rw part_to_end at c.starts_with.ensures.value) c.if-starts_with.false

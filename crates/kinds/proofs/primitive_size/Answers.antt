@@ -13,7 +13,7 @@ pub table_entry-requires : goal.table_entry-requires
 table_entry-requires c = (c.if-row-ge-ROWS.false, c.if-kind-ge-PRIMITIVES.false)
 
 pub returns-then-n-eq0 : goal.returns-then-n-eq0
-returns-then-n-eq0 c = entry-none c.if-n-eq0.true ∙ ap entry c.wide-n.ensures ∙ c.table_entry.ensures
+returns-then-n-eq0 c = entry-none c.if-n-eq0.true ∙ ap entry c.from-n.ensures ∙ c.table_entry.ensures
 
 pub returns : goal.returns
-returns c = entry-some c.if-n-eq0.false ∙ ap entry c.wide-n.ensures ∙ c.table_entry.ensures
+returns c = entry-some c.if-n-eq0.false ∙ ap entry c.from-n.ensures ∙ c.table_entry.ensures

@@ -6,9 +6,9 @@ use Rattle.kinds.specs.Strict.{digit_count}
 use Rattle.numbers.proofs.parse_number.Given as goal
 
 abbrev pub invariant-loop-i : goal.invariant-loop-i
-invariant-loop-i l =
-    (parse_number l.limit (drop l.at l.text) ≡ bounded l.limit (more_digits l.acc (drop l.i l.text)))
-    × ((l.at ≤ l.i) × (l.i ≤ length l.text) × (l.acc ≤ l.limit) × (digit_count (drop l.at l.text) ≡ l.i - l.at + digit_count (drop l.i l.text)))
-
-abbrev pub decreases-loop-i : goal.decreases-loop-i
-decreases-loop-i l = length l.text - l.i
+invariant-loop-i l = record {
+  read : parse_number l.limit (drop l.at l.text) ≡ bounded l.limit (more_digits l.acc (drop l.i l.text));
+  within : l.i ≤ length l.text;
+  bound : l.acc ≤ l.limit;
+  counted : digit_count (drop l.at l.text) ≡ l.i - l.at + digit_count (drop l.i l.text);
+}

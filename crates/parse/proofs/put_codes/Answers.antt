@@ -1,5 +1,6 @@
-use Prim.Native.Nat.{◌-◌}
-use mathlib.Core.Path.{refl, ◌∙◌}
+use mathlib.Core.Path.{◌≡◌, refl, subst, ◌∙◌}
+use lib.ListN.{length}
+use Rattle.parse.specs.Agree.{CodesRead}
 use native.Mathlib.Omega.{arith}
 use Rattle.codes.proofs.CodeLaws.{single-code}
 use Rattle.parse.proofs.Runs.{codes-none, codes-more}
@@ -28,12 +29,6 @@ pub put_node-requires : goal.put_node-requires
 put_node-requires c =
     omega (arith, c.requires.1, c.loop-i.invariant.0.room, c.loop-i.invariant.1, slack-some c.args.text.now c.loop-i.i c.loop-i-test.true)
 
-pub overflow_add-i : goal.overflow_add-i
-overflow_add-i c = omega arith
-
-pub loop-i-smaller : goal.loop-i-smaller
-loop-i-smaller c = omega arith
-
 pub loop-i-preserved : goal.loop-i-preserved
 loop-i-preserved c =
     let l = c.loop-i in
@@ -47,4 +42,7 @@ pub shape_of-words : goal.shape_of-words
 shape_of-words c = c.loop-i.invariant.1
 
 pub returns : goal.returns
-returns c = c.loop-i.invariant.0
+returns c =
+    let l = c.loop-i in
+    let ended : l.i ≡ length c.args.text.now = omega (arith, l.invariant.0.within) in
+    subst (CodesRead c.args.text.now c.args.at c.args.n c.args.words.now l.words) ended l.invariant.0

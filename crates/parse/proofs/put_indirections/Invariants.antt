@@ -8,10 +8,10 @@ use Rattle.parse.specs.Out.{After}
 use Rattle.parse.proofs.put_indirections.Given as goal
 
 abbrev pub invariant-loop-i : goal.invariant-loop-i
-invariant-loop-i l =
-    ((l.at ≤ l.i) × (l.i ≤ l.to)) × (After l.p (l.n + (l.i - l.at)) × ((length l.words ≡ length l.initial.words)
-    × ((strict : Bool) (b : Lists) (ns : List ℕ) → Reads strict l.text l.to (l.n + (l.to - l.at)) l.m b (lists l.initial.words ns) l.initial.p
-    → Reads strict l.text l.i (l.n + (l.i - l.at)) l.m b (lists l.words ns) l.p)))
-
-abbrev pub decreases-loop-i : goal.decreases-loop-i
-decreases-loop-i l = l.i
+invariant-loop-i l = record {
+  onward : l.at ≤ l.i;
+  after : After l.p (l.n + (l.i - l.at));
+  size : length l.words ≡ length l.initial.words;
+  reads : (strict : Bool) (b : Lists) (ns : List ℕ) → Reads strict l.text l.to (l.n + (l.to - l.at)) l.m b (lists l.initial.words ns) l.initial.p
+      → Reads strict l.text l.i (l.n + (l.i - l.at)) l.m b (lists l.words ns) l.p;
+}
