@@ -7,7 +7,6 @@ use native.Mathlib.Omega.{arith}
 use lib.Dec.{leb, eqb}
 use lib.ListN.{length, drop, get_or, length-drop}
 use borrow.Author.Tests.{lt-leb, le-leb, ne_eqb}
-use Rattle.std.proofs.lemmas.Bool.Decides.{nat_tests}
 use Rattle.kinds.proofs.ListLaws.{unread, unread-end}
 use Rattle.kinds.specs.Byte.{is_digit}
 use Rattle.kinds.specs.Parse as R
@@ -21,8 +20,6 @@ use Rattle.kinds.specs.declared.ErrorKind.TheVariants.{UnexpectedEnd, IntegerToo
 use Rattle.numbers.specs.Answer.{digits_of}
 use Rattle.numbers.specs.declared.Digits.{Digits}
 use Rattle.parser.specs.Place.{place_of}
-use Rattle.parser.specs.Run.{run_end}
-use Rattle.parser.proofs.RunLaws.{run-to, run-keeps}
 use Rattle.parser.proofs.RestLaws.{RestOf, rest_all, rest-later, rest-shorter, rest-of-rest, unread-at, place-of-drop}
 use Rattle.numbers.proofs.NumberLaws.{LeftOf, left-number}
 use Rattle.codes.specs.Answer.{has_parts, type_kind, digits_then, digits_in, untyped_token, label_token, token_of, token_from, token_at}
@@ -86,31 +83,6 @@ module _ (s : List ℕ) (i : ℕ) (h : i < length s) where
 pub complex-end : (s : List ℕ) (i : ℕ) → length s ≤ i → parse_complex (drop i s) ≡ refused UnexpectedEnd (drop i s)
 unfolding parse_complex
 complex-end s i h = ap parse_complex (unread-end s i h) ∙ sym (ap (refused UnexpectedEnd) (unread-end s i h))
-
--- The bytes inside quotes.
-abbrev pub quoted : ℕ → Bool
-quoted b = not (eqb b 34)
-
-not-quote : (b : ℕ) → quoted b ≡ true → b ≡ 34 → ⊥
-not-quote b q e = grind (arith, nat_tests)
-
-quote : (b : ℕ) → quoted b ≡ false → b ≡ 34
-quote b q = grind (arith, nat_tests)
-
--- Where they end, the text ends or a quote stands.
-pub record QuoteEnd (text : List ℕ) (at to : ℕ) : Type 0 where
-  pub within : to ≤ length text
-  pub passed : parse_quoted (drop at text) ≡ parse_quoted (drop to text)
-  pub stopped : to < length text → get_or text to 0 ≡ 34
-
-pub quoted-run : (text : List ℕ) (at to : ℕ) → at ≤ length text → to ≡ run_end quoted text at → QuoteEnd text at to
-quoted-run text at to l e =
-    let p = run-to quoted text at to l e in
-    record {
-      within = p.within;
-      passed = run-keeps quoted parse_quoted text at to p (λ i h q. quoted-more text i h (not-quote _ q));
-      stopped = λ h. quote _ (p.stopped h);
-    }
 
 pub quoted-end : (s : List ℕ) (i : ℕ) → length s ≤ i → parse_quoted (drop i s) ≡ refused UnexpectedEnd (drop i s)
 unfolding parse_quoted

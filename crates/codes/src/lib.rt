@@ -11,7 +11,7 @@ use kinds::{
     ARRAY, ATOMIC, ContainerKind, ErrorKind, POINTER, PRIMITIVES, Primitive, STRUCT, UNION,
 };
 use numbers::{Digits, is_digit, parse_u8, parse_u64};
-use parser::run_end;
+use parser::{ByteTest, quote_end, run_end};
 
 // What the digits of a bitfield's numbers show, in their order; no digits for a number that was not met.
 #[derive(Clone, Copy)]
@@ -150,7 +150,7 @@ fn parse_quoted(text: &[u8], at: usize) -> Token
     requires { at ≤ length text.now }
     ensures { result ≡ token_of text.now (digits_in []) (parse_quoted (drop at text.now)) }
 {
-    let end = run_end(text, at, |b| b != b'"');
+    let end = quote_end(text, at);
     if end < text.len() {
         return Token::Primitive(Primitive::Object.kind(), end + 1);
     }
@@ -267,11 +267,21 @@ fn is_indirection(b: u8) -> bool
     b == b'^' || b == b'A'
 }
 
+struct IndirectionByte;
+
+impl ByteTest for IndirectionByte {
+    ghost test = { λ _. is_indirection };
+
+    fn passes(&self, b: u8) -> bool {
+        is_indirection(b)
+    }
+}
+
 // The place after the pointers and atomics from `at` on.
 pub fn indirections_end(text: &[u8], at: usize) -> usize
     ensures { result ≡ run_end is_indirection text.now at }
 {
-    run_end(text, at, is_indirection)
+    run_end(text, at, &IndirectionByte)
 }
 
 #[tactic(auto, unfolding(crate::specs::Answer::is_code))]
@@ -281,11 +291,21 @@ fn is_code(b: u8) -> bool
     single_kind(b) < PRIMITIVES
 }
 
+struct CodeByte;
+
+impl ByteTest for CodeByte {
+    ghost test = { λ _. is_code };
+
+    fn passes(&self, b: u8) -> bool {
+        is_code(b)
+    }
+}
+
 // The place after the codes that `single_kind` knows, from `at` on.
 pub fn codes_end(text: &[u8], at: usize) -> usize
     ensures { result ≡ run_end is_code text.now at }
 {
-    run_end(text, at, is_code)
+    run_end(text, at, &CodeByte)
 }
 
 // An array's item is closed at `to`.

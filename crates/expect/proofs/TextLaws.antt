@@ -11,10 +11,8 @@ use lib.ListN.{length, get_or, drop, length-drop, length-append}
 use lib.Dec.{eqb}
 use Rattle.std.specs.List.{starts_with}
 use Rattle.std.proofs.lemmas.Slice.Eq.{starts_is}
-use Rattle.std.proofs.lemmas.Bool.Decides.{Decides-eqb, nat_tests}
+use Rattle.std.proofs.lemmas.Bool.Decides.{Decides-eqb}
 use Rattle.kinds.proofs.ListLaws.{unread, unread-end}
-use Rattle.parser.specs.Run.{run_end}
-use Rattle.parser.proofs.RunLaws.{run-to, run-keeps}
 use Rattle.parser.proofs.PlaceLaws.{drop-on}
 use Rattle.kinds.specs.Expect.{Expected, remaining, mismatch, ◌then◌, or_else, expect_byte, expect_bytes, expect_number, expect_quote, class_name, expect_primitive}
 use Rattle.kinds.specs.Parse.{value, no_number, parse_number, max_u64, max_u8}
@@ -94,34 +92,9 @@ module _ (s : List ℕ) (i : ℕ) where
   unfolding expect_quote
   quote-stop h e = ap expect_quote (unread s i h) ∙ rw (eq-eqb (get_or s i 0) 34 e, expect_quote)
 
-  quote-more : i < length s → (get_or s i 0 ≡ 34 → ⊥) → expect_quote (drop i s) ≡ expect_quote (drop (i + 1) s)
+  pub quote-more : i < length s → (get_or s i 0 ≡ 34 → ⊥) → expect_quote (drop i s) ≡ expect_quote (drop (i + 1) s)
   unfolding expect_quote
   quote-more h n = ap expect_quote (unread s i h) ∙ rw (ne_eqb (get_or s i 0) 34 n, expect_quote)
-
--- The bytes inside quotes.
-abbrev pub quoted : ℕ → Bool
-quoted b = not (eqb b 34)
-
-not-quote : (b : ℕ) → quoted b ≡ true → b ≡ 34 → ⊥
-not-quote b q e = grind (arith, nat_tests)
-
-quote : (b : ℕ) → quoted b ≡ false → b ≡ 34
-quote b q = grind (arith, nat_tests)
-
--- Where they end, the text ends or a quote stands.
-pub record QuoteEnd (text : List ℕ) (at to : ℕ) : Type 0 where
-  pub within : to ≤ length text
-  pub passed : expect_quote (drop at text) ≡ expect_quote (drop to text)
-  pub stopped : to < length text → get_or text to 0 ≡ 34
-
-pub quoted-run : (text : List ℕ) (at to : ℕ) → at ≤ length text → to ≡ run_end quoted text at → QuoteEnd text at to
-quoted-run text at to l e =
-    let p = run-to quoted text at to l e in
-    record {
-      within = p.within;
-      passed = run-keeps quoted expect_quote text at to p (λ i h q. quote-more text i h (not-quote _ q));
-      stopped = λ h. quote _ (p.stopped h);
-    }
 
 module _ (s : List ℕ) (i : ℕ) where
   pub class-end : length s ≤ i → class_name (drop i s) ≡ remaining (drop i s)

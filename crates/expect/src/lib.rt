@@ -19,7 +19,7 @@ use kinds::{
     primitive_code,
 };
 use numbers::{parse_u8, parse_u64};
-use parser::{run_end, strip_leading_qualifiers};
+use parser::{quote_end, strip_leading_qualifiers};
 use sheet::{Found, check};
 use skip::skip_fields;
 
@@ -87,7 +87,7 @@ fn expect_quote(text: &[u8], at: usize) -> Option<usize>
     requires { at ≤ length text.now }
     ensures { ExpectedIs text.now result (expect_quote (drop at text.now)) }
 {
-    let end = run_end(text, at, |b| b != b'"');
+    let end = quote_end(text, at);
     if end < text.len() {
         return Some(end + 1);
     }

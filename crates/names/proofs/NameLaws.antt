@@ -26,7 +26,7 @@ use Rattle.parser.specs.Run.{run_end}
 use Rattle.parser.proofs.RunLaws.{run-to}
 use Rattle.parser.proofs.PlaceLaws.{drop-on}
 use Rattle.names.specs.Answer.{name_at}
-use Rattle.names.specs.Ends.{NameEnd}
+use Rattle.names.specs.Ends.{NameEnd, goes_on}
 use Rattle.std.specs.Prelude.{Result, Ok, Err}
 use Rattle.kinds.specs.declared.ParseError.{ParseError}
 use Rattle.kinds.specs.Refusal.{parse_error}
@@ -68,13 +68,12 @@ taken_none : (s : List ℕ) (at : ℕ) → take (at - at) (drop at s) ≡ []
 taken_none s at = rw sub_self
 
 -- The bytes that a name goes on with.
-abbrev pub goes_on : ContainerKind → ℕ → Bool
-goes_on k b = not (eqb b 61 || eqb b (end_byte k))
-
 goes-on-past : (k : ContainerKind) (b : ℕ) → goes_on k b ≡ true → (b ≡ 61 → ⊥) × (b ≡ end_byte k → ⊥)
+unfolding goes_on
 goes-on-past k b e = (λ n. grind (arith, nat_tests), λ n. grind (arith, nat_tests))
 
 stops-at : (k : ContainerKind) (b : ℕ) → goes_on k b ≡ false → (b ≡ 61 → ⊥) → b ≡ end_byte k
+unfolding goes_on
 stops-at k b e n = grind (arith, nat_tests)
 
 abbrev Scanned : ContainerKind → List ℕ → ℕ → ℕ → Type 0

@@ -1,8 +1,12 @@
 -- Where a name ends: at `=`, at the container's own closer, or with the text (what the private `name_end` promises).
-use Rattle.std.specs.Prelude.{ℕ, ◌-◌, ◌≤◌, ◌<◌, ◌≡◌, List, [], length, take, drop, get_or}
+use Rattle.std.specs.Prelude.{ℕ, ◌-◌, ◌≤◌, ◌<◌, ◌≡◌, Bool, not, ◌||◌, eqb, List, [], length, take, drop, get_or}
 use Rattle.kinds.specs.Container.{end_byte}
 use Rattle.kinds.specs.Parse.{parse_name}
 use Rattle.kinds.specs.declared.ContainerKind.{ContainerKind}
+
+-- A name goes on with this byte.
+unfoldable pub goes_on : ContainerKind → ℕ → Bool
+goes_on k b = not (eqb b 61 || eqb b (end_byte k))
 
 pub record NameEnd (text : List ℕ) (at : ℕ) (kind : ContainerKind) (r : ℕ) : Type 0 where
   pub onward : at ≤ r

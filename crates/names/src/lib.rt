@@ -4,18 +4,29 @@
 ghost use Rattle.std.specs.Prelude.{◌≡◌, [], ◌≤◌, length, drop};
 ghost use Rattle.kinds.specs.Parse.{parse_name};
 ghost use Rattle.names.specs.Answer.{name_at};
-ghost use Rattle.names.specs.Ends.{NameEnd};
+ghost use Rattle.names.specs.Ends.{NameEnd, goes_on};
 
 use kinds::{ContainerKind, ErrorKind, ParseError, verify_name};
-use parser::run_end;
+use parser::{ByteTest, run_end};
+
+// A byte of the name of a container of this kind.
+#[derive(Clone, Copy)]
+struct NameByte(ContainerKind);
+
+impl ByteTest for NameByte {
+    ghost test = { λ s. goes_on s.0 };
+
+    fn passes(&self, b: u8) -> bool {
+        b != b'=' && b != self.0.end_byte()
+    }
+}
 
 // Where a container's name ends: at `=`, at the container's own closer, or with the text.
 fn name_end(text: &[u8], at: usize, kind: ContainerKind) -> usize
     requires { at ≤ length text.now }
     ensures { NameEnd text.now at kind result }
 {
-    let close = kind.end_byte();
-    run_end(text, at, |b| b != b'=' && b != close)
+    run_end(text, at, &NameByte(kind))
 }
 
 // A container's name, checked and not copied: where it ends and the place after it, with `=` passed.

@@ -9,7 +9,7 @@ ghost use Rattle.numbers.specs.Answer.{digits_taken, number_at};
 ghost use Rattle.kinds.specs.Refusal.{parse_error};
 
 use kinds::{ErrorKind, ParseError};
-use parser::run_end;
+use parser::{ByteTest, run_end};
 
 // How many digits a number took, and whether the first is a surplus zero: there are more, and it is 0.
 #[derive(Clone, Copy)]
@@ -32,11 +32,21 @@ pub fn is_digit(b: u8) -> bool
     b.is_ascii_digit()
 }
 
+struct Digit;
+
+impl ByteTest for Digit {
+    ghost test = { λ _. is_digit };
+
+    fn passes(&self, b: u8) -> bool {
+        is_digit(b)
+    }
+}
+
 // The place after the digits from `at` on.
 fn chomp_digits(text: &[u8], at: usize) -> usize
     ensures { result ≡ run_end is_digit text.now at }
 {
-    run_end(text, at, is_digit)
+    run_end(text, at, &Digit)
 }
 
 // What `count` digits show, of which `first` is the first.
@@ -92,9 +102,10 @@ fn parse_number(text: &[u8], at: usize, limit: u64) -> Number
     for i in at..text.len() {
         let b = text[i];
         if !is_digit(b) {
+            let taken = digits_taken(first, i - at);
             return Number {
                 read: Ok((acc, i)),
-                digits: digits_taken(first, i - at),
+                digits: taken,
             };
         }
         let d = u64::from(b - b'0');

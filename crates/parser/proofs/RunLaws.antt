@@ -6,8 +6,9 @@ use mathlib.Core.Bool.{Bool, true, false}
 use native.Mathlib.Omega.{arith}
 use lib.ListN.{length, drop, get_or, length-drop}
 use lib.Seq.{get_or-drop, drop-nil}
+use Rattle.std.proofs.lemmas.Bool.Decides.{nat_tests}
 use Rattle.kinds.proofs.ListLaws.{unread}
-use Rattle.parser.specs.Run.{after, run_end}
+use Rattle.parser.specs.Run.{after, run_end, quoted}
 use Rattle.parser.proofs.PlaceLaws.{drop-on}
 
 -- The first `k` bytes of `s` pass, and no more.
@@ -115,3 +116,29 @@ module _ (test : ℕ → Bool) where
   pub run_end_lem : (s : List ℕ) (i : ℕ) → length s ≤ i → run_end test s i ≡ i
   unfolding run_end
   run_end_lem s i h = omega (arith, length-drop i s)
+
+-- ---- Within quotes.
+
+not-quote : (b : ℕ) → quoted b ≡ true → b ≡ 34 → ⊥
+unfolding quoted
+not-quote b q e = grind (arith, nat_tests)
+
+quote : (b : ℕ) → quoted b ≡ false → b ≡ 34
+unfolding quoted
+quote b q = grind (arith, nat_tests)
+
+-- Where quotes end, the text ends or a quote stands; what each byte within them keeps, stands.
+pub record QuoteEnd {Y : Type 0} (f : List ℕ → Y) (text : List ℕ) (at to : ℕ) : Type 0 where
+  pub within : to ≤ length text
+  pub passed : f (drop at text) ≡ f (drop to text)
+  pub stopped : to < length text → get_or text to 0 ≡ 34
+
+pub quoted-run : {Y : Type 0} (f : List ℕ → Y) (text : List ℕ) (at to : ℕ) → ((i : ℕ) → i < length text → (get_or text i 0 ≡ 34 → ⊥) → f (drop i text) ≡ f (drop (i + 1) text))
+    → at ≤ length text → to ≡ run_end quoted text at → QuoteEnd f text at to
+quoted-run f text at to more l e =
+    let p = run-to quoted text at to l e in
+    record {
+      within = p.within;
+      passed = run-keeps quoted f text at to p (λ i h q. more i h (not-quote _ q));
+      stopped = λ h. quote _ (p.stopped h);
+    }

@@ -5,7 +5,7 @@
 ghost use Rattle.std.specs.Prelude.{ℕ, ◌≡◌, Bool};
 ghost use Rattle.kinds.specs.Parse.{is_qualifier, strip_leading_qualifiers};
 ghost use Rattle.parser.specs.Place.{lent, place_of, peek_at, is_empty_at, remaining_at, advance_at, strip_at};
-ghost use Rattle.parser.specs.Run.{Computes, run_end};
+ghost use Rattle.parser.specs.Run.{quoted, run_end};
 ghost use Rattle.parser.specs.Answer.{new_parser, peek, is_empty, remaining, advance, strip_qualifiers, skip_qualifiers};
 
 #[derive(Clone, Copy)]
@@ -48,31 +48,60 @@ fn advance_at(text: &[u8], at: usize) -> usize
     if at < text.len() { at + 1 } else { at }
 }
 
-#[tactic(auto, unfolding(kinds::specs::Parse::is_qualifier, kinds::specs::Parse::qualifiers, kinds::specs::Byte::among))]
-fn is_qualifier(b: u8) -> bool
-    ensures { result ≡ is_qualifier b }
-{
-    matches!(b, b'r' | b'n' | b'N' | b'o' | b'O' | b'R' | b'V')
+// A test of a byte; `test` is what it computes.
+pub trait ByteTest {
+    ghost test: { Self → ℕ → Bool };
+
+    fn passes(&self, b: u8) -> bool
+        ensures { result ≡ test self.now b };
 }
 
 // The place after the run of bytes from `at` on that pass the test; past the end the place stays.
-pub fn run_end<F: Fn(u8) -> bool>(text: &[u8], at: usize, passes: F) -> usize
-    requires { F.IsAlwaysCallable passes }
-    ensures { (test : ℕ → Bool) → Computes (F.post passes) test → result ≡ run_end test text.now at }
+pub fn run_end<T: ByteTest>(text: &[u8], at: usize, of: &T) -> usize
+    ensures { result ≡ run_end (T.test of.now) text.now at }
 {
     for i in at..text.len() {
-        if !passes(text[i]) {
+        if !of.passes(text[i]) {
             return i;
         }
     }
     at.max(text.len())
 }
 
+const QUALIFIERS: [u8; 7] = *b"rnNoORV";
+
+struct Qualifier;
+
+impl ByteTest for Qualifier {
+    ghost test = { λ _. is_qualifier };
+
+    fn passes(&self, b: u8) -> bool {
+        QUALIFIERS.contains(&b)
+    }
+}
+
 // The place after the qualifiers from `at` on; past the end the place stays.
 pub fn strip_at(text: &[u8], at: usize) -> usize
     ensures { result ≡ strip_at text.now at }
 {
-    run_end(text, at, is_qualifier)
+    run_end(text, at, &Qualifier)
+}
+
+struct QuotedByte;
+
+impl ByteTest for QuotedByte {
+    ghost test = { λ _. quoted };
+
+    fn passes(&self, b: u8) -> bool {
+        b != b'"'
+    }
+}
+
+// The place of the closing quote, or the end of the text.
+pub fn quote_end(text: &[u8], at: usize) -> usize
+    ensures { result ≡ run_end quoted text.now at }
+{
+    run_end(text, at, &QuotedByte)
 }
 
 impl<'a> Parser<'a> {

@@ -36,7 +36,7 @@ returns-then-not-is_digit-2 c =
     let stop = digits-stop-at _ _ _ h no in
     let a = c.args in
     let all = all_digits_lem a.text.now a.at (l.i - a.at) (omega (arith, l.invariant.counted, count-stop-at a.text.now l.i h no)) c.if-text-at.false in
-    answer-value _ _ _ _ _ _ (omega arith) (c.digits_taken-then-not-is_digit-2.ensures ∙ all) (l.invariant.read ∙ ap (bounded _) stop ∙ within-limit _ _ _ l.invariant.bound)
+    answer-value _ _ _ _ _ _ (omega arith) (c.digits_taken-taken.ensures ∙ all) (l.invariant.read ∙ ap (bounded _) stop ∙ within-limit _ _ _ l.invariant.bound)
 
 pub overflow_sub-b : goal.overflow_sub-b
 overflow_sub-b c = omega (arith, digit-range _ (sym c.is_digit-in-loop-i.ensures ∙ c.if-not-is_digit-2.false))
@@ -106,5 +106,5 @@ returns c =
     let a = c.args in
     let ended : l.i ≡ length a.text.now = omega (arith, l.invariant.within) in
     let all = all_digits_lem a.text.now a.at (length a.text.now - a.at) (omega (arith, l.invariant.counted, count-end-at a.text.now l.i c.loop-i-test.false)) c.if-text-at.false in
-    answer-value _ _ _ _ _ _ (omega arith) (c.digits_taken-taken.ensures ∙ all)
+    answer-value _ _ _ _ _ _ (omega arith) (c.digits_taken-taken-2.ensures ∙ all)
     (l.invariant.read ∙ ap (bounded _) (digits-end-at _ _ _ c.loop-i-test.false) ∙ within-limit _ _ _ l.invariant.bound ∙ ap (λ (k : ℕ). value l.acc (drop k a.text.now)) ended)
