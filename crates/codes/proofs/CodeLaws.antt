@@ -1,4 +1,7 @@
 -- Laws of the tables of codes: what a byte begins, by which byte it is.
+use Rattle.std.specs.Prelude.{Option, Some, None, unwrap_or}
+use Rattle.std.specs.Option.{is_some}
+use borrow.Author.Rules.{rules}
 use Prim.Native.Nat.{ℕ, ◌≤◌, ◌<◌}
 use mathlib.Core.Path.{◌≡◌, refl, sym, ap, subst, ◌∙◌}
 use mathlib.Core.List.{List, [], ◌∷◌}
@@ -12,7 +15,12 @@ use Rattle.kinds.specs.Parse.{Start, single, complex, object, bits, indirection,
 use Rattle.kinds.specs.Tree.{Label, kind, pointer, atomic}
 use Rattle.kinds.specs.declared.ContainerKind.TheVariants.{Struct, Union}
 use Rattle.kinds.proofs.TableLaws.{Each, both}
-use Rattle.codes.specs.Answer.{start_word, code_of, is_indirection, has_parts}
+use Rattle.kinds.specs.declared.IndirectionKind.{IndirectionKind}
+use Rattle.kinds.specs.declared.IndirectionKind.TheVariants.{Pointer, Atomic}
+use Rattle.kinds.specs.declared.Primitive as P
+use Rattle.codes.specs.declared.Begun.{Begun}
+use Rattle.codes.specs.declared.Begun.TheVariants.{Single, Complex, Object, Bits, Indirection, OpenArray, CloseArray, OpenContainer, CloseContainer, Nothing}
+use Rattle.codes.specs.Answer.{start_of, code_of, is_code, is_indirection, has_parts}
 
 -- ---- A byte that is none of some bytes.
 
@@ -102,31 +110,53 @@ each_start P b (x ∷ xs) all n = go (eqb b x.0) all.0 (each_start P b xs all.1 
 
 -- A start that is no code.
 abbrev NoCode : Start → Type 0
-NoCode s = code_of s ≡ 255
+NoCode s = code_of s ≡ None
 
-others-code : (b : ℕ) → code_of (in_others b others) ≡ 255
+others-code : (b : ℕ) → code_of (in_others b others) ≡ None
 unfolding others code_of
 others-code b = each_start NoCode b others (refl, (refl, (refl, (refl, (refl, (refl, (refl, (refl, (refl, (refl, (refl, tt))))))))))) refl
 
-no-code-is : (b : ℕ) → Differs b code_bytes → 255 ≡ code_of (start b)
+no-code-is : (b : ℕ) → Differs b code_bytes → None ≡ code_of (start b)
 no-code-is b d = sym (ap code_of (no_code_lem b d) ∙ others-code b)
 
 -- A code is the whole start.
-code_is : (s : Start) → code_of s < 255 → s ≡ single (code_of s)
+code_is : (s : Start) (p : ℕ) → Some p ≡ code_of s → s ≡ single p
 unfolding code_of
-code_is (single p) h = refl
-code_is complex h = absurd (omega arith)
-code_is object h = absurd (omega arith)
-code_is bits h = absurd (omega arith)
-code_is (indirection l) h = absurd (omega arith)
-code_is open_array h = absurd (omega arith)
-code_is close_array h = absurd (omega arith)
-code_is (open_container k) h = absurd (omega arith)
-code_is (close_container k) h = absurd (omega arith)
-code_is nothing h = absurd (omega arith)
+code_is (single q) p e = search rules
+code_is complex p e = search rules
+code_is object p e = search rules
+code_is bits p e = search rules
+code_is (indirection l) p e = search rules
+code_is open_array p e = search rules
+code_is close_array p e = search rules
+code_is (open_container k) p e = search rules
+code_is (close_container k) p e = search rules
+code_is nothing p e = search rules
 
-pub single-code : (b p : ℕ) → p ≡ code_of (start b) → p < 255 → start b ≡ single p
-single-code b p e h = code_is (start b) (omega arith) ∙ ap single (sym e)
+pub no-single : (s : Begun) → ((p : P.Primitive) → s ≡ Single p → ⊥) → code_of (start_of s) ≡ None
+unfolding start_of code_of
+no-single (Single p) n = absurd (n p refl)
+no-single Complex n = refl
+no-single Object n = refl
+no-single Bits n = refl
+no-single (Indirection Pointer) n = refl
+no-single (Indirection Atomic) n = refl
+no-single OpenArray n = refl
+no-single CloseArray n = refl
+no-single (OpenContainer k) n = refl
+no-single (CloseContainer k) n = refl
+no-single Nothing n = refl
+
+pub single-code : (b p : ℕ) → Some p ≡ code_of (start b) → start b ≡ single p
+single-code b p e = code_is (start b) p e
+
+pub some-code : (b : ℕ) → is_code b ≡ true → start b ≡ single (unwrap_or (code_of (start b)) 0)
+unfolding is_code
+some-code b e = go (code_of (start b)) refl e
+  where
+    go : (x : Option ℕ) → code_of (start b) ≡ x → is_some x ≡ true → start b ≡ single (unwrap_or x 0)
+    go None f t = absurd (false≢true t)
+    go (Some p) f t = single-code b p (sym f)
 
 -- ---- The types that a bitfield may have.
 
@@ -139,18 +169,15 @@ not-integral b d =
 abbrev pub integral_kind : ℕ → Bool
 integral_kind p = ltb p 10 || eqb p 16
 
-pub integral-is : (b : ℕ) → integral b ≡ integral_kind (code_of (start b))
-unfolding start in_singles singles integral among code_of
-integral-is b = by_bytes (λ x. integral x ≡ integral_kind (code_of (start x))) b code_bytes
-    (refl, (refl, (refl, (refl, (refl, (refl, (refl, (refl, (refl, (refl, (refl, (refl, (refl, (refl, (refl, (refl, (refl, (refl, (refl, tt)))))))))))))))))))
-    (λ d. not-integral b d ∙ ap integral_kind (no-code-is b d))
+abbrev pub integral_code : Option ℕ → Bool
+integral_code None = false
+integral_code (Some p) = integral_kind p
 
-pub integral-small : (p : ℕ) → integral_kind p ≡ true → p < 255
-integral-small p e = go (ltb p 10) refl
-  where
-    go : (d : Bool) → ltb p 10 ≡ d → p < 255
-    go true l = omega (arith, ltb-true p 10 l)
-    go false l = omega (arith, eqb-true p 16 (ap (λ (x : Bool). x || eqb p 16) (sym l) ∙ e))
+pub integral-is : (b : ℕ) → integral b ≡ integral_code (code_of (start b))
+unfolding start in_singles singles integral among code_of
+integral-is b = by_bytes (λ x. integral x ≡ integral_code (code_of (start x))) b code_bytes
+    (refl, (refl, (refl, (refl, (refl, (refl, (refl, (refl, (refl, (refl, (refl, (refl, (refl, (refl, (refl, (refl, (refl, (refl, (refl, tt)))))))))))))))))))
+    (λ d. not-integral b d ∙ ap integral_code (no-code-is b d))
 
 -- ---- The bytes that are no code.
 
@@ -167,82 +194,58 @@ not-other b (x ∷ xs) d = rw (ne_eqb b x.0 d.0, in_others) (not-other b xs d.1)
 pub starts : (b k : ℕ) {S : Start} → b ≡ k → start k ≡ S → start b ≡ S
 starts b k e s = ap start e ∙ s
 
--- ---- What a byte begins, as a number.
-
--- What the numbers from 24 on stand for.
-abbrev start_words : List (ℕ × Start)
-start_words =
-    (32, object) ∷ (28, open_array) ∷ (29, open_container Struct) ∷ (30, open_container Union) ∷ (33, bits) ∷ (26, indirection pointer)
-    ∷ (34, complex) ∷ (27, indirection atomic) ∷ (35, close_array) ∷ (36, close_container Struct) ∷ (37, close_container Union) ∷ []
-
-abbrev start_of : ℕ → Start
-start_of k = elim (ltb k 24) [ true ↦ single k | false ↦ in_others k start_words ]
-
--- The number of what a byte begins stands for it.
-abbrev Stands : Start → Type 0
-Stands s = start_of (start_word s) ≡ s
-
-stands : (b : ℕ) → Stands (start b)
-unfolding start in_singles singles others in_others start_word kind
-stands b = by_bytes (λ x. Stands (start x)) b code_bytes
-    (refl, (refl, (refl, (refl, (refl, (refl, (refl, (refl, (refl, (refl, (refl, (refl, (refl, (refl, (refl, (refl, (refl, (refl, (refl, tt)))))))))))))))))))
-    (λ d. subst Stands (sym (no_code_lem b d)) (each_start Stands b others
-    (refl, (refl, (refl, (refl, (refl, (refl, (refl, (refl, (refl, (refl, (refl, tt))))))))))) refl))
-
-module _ (b k : ℕ) (e : k ≡ start_word (start b)) where
-  begun : start b ≡ start_of k
-  begun = sym (ap start_of e ∙ stands b)
-
-  pub begun-single : k < 24 → start b ≡ single k
-  begun-single l = begun ∙ (rw (lt-ltb k 24 l, start_of) refl)
-
-  begun-other : 24 ≤ k → start b ≡ in_others k start_words
-  begun-other l = begun ∙ (rw (le-ltb k 24 l, start_of) refl)
-
-  -- where the number is known
-  pub begun-is : (n : ℕ) {S : Start} → k ≡ n → start_of n ≡ S → start b ≡ S
-  begun-is n f s = begun ∙ ap start_of f ∙ s
-
-  pub begun-nothing : 24 ≤ k → Differs k (heads start_words) → start b ≡ nothing
-  begun-nothing l d = begun-other l ∙ not-other k start_words d
-
-  pub begun-code : k < 24 → k ≡ code_of (start b)
-  unfolding code_of
-  begun-code l = sym (ap code_of (begun-single l))
-
-  pub begun-no-code : 24 ≤ k → 255 ≡ code_of (start b)
-  unfolding code_of
-  begun-no-code l =
-      let none = each_start NoCode k start_words (refl, (refl, (refl, (refl, (refl, (refl, (refl, (refl, (refl, (refl, (refl, tt))))))))))) refl in
-      sym (ap code_of (begun-other l) ∙ none)
-
--- The number of a byte that is known.
-pub word-here : (b k : ℕ) → b ≡ k → start_word (start k) ≡ start_word (start b)
-word-here b k e = ap (λ (x : ℕ). start_word (start x)) (sym e)
-
 -- The bytes of `codes::start`, in its order; any other begins nothing.
 abbrev start_bytes : List ℕ
 start_bytes = bytes "cislqCISLQfdBv*@#:[{(b^?DjA]})"
 
-pub no_word : (b : ℕ) → Differs b start_bytes → 255 ≡ start_word (start b)
-unfolding start_word among others
-no_word b d = sym (ap start_word (no_code_lem b (differs-from b start_bytes d code_bytes refl) ∙ not-other b others (differs-from b start_bytes d (heads others) refl)))
+pub no-start : (b : ℕ) → Differs b start_bytes → nothing ≡ start b
+unfolding among others
+no-start b d = sym (no_code_lem b (differs-from b start_bytes d code_bytes refl) ∙ not-other b others (differs-from b start_bytes d (heads others) refl))
 
 -- Only `@` begins an object.
-abbrev only_at : ℕ → ℕ → Bool
-only_at b k = cond (eqb k 32) (eqb b 64) true
+abbrev object_at : Start → Bool → Bool
+object_at (single p) d = true
+object_at complex d = true
+object_at object d = d
+object_at bits d = true
+object_at (indirection l) d = true
+object_at open_array d = true
+object_at close_array d = true
+object_at (open_container k) d = true
+object_at (close_container k) d = true
+object_at nothing d = true
 
-only_at_lem : (b : ℕ) → only_at b (start_word (start b)) ≡ true
-unfolding start in_singles singles others in_others start_word kind
-only_at_lem b = by-test (λ x. only_at x (start_word (start x))) b start_bytes refl (λ d. ap (only_at b) (sym (no_word b d)))
+only_at_lem : (b : ℕ) → object_at (start b) (eqb b 64) ≡ true
+unfolding start in_singles singles others in_others
+only_at_lem b = by-test (λ x. object_at (start x) (eqb x 64)) b start_bytes refl (λ d. ap (λ (x : Start). object_at x (eqb b 64)) (sym (no-start b d)))
 
-module _ (b k : ℕ) (e : k ≡ start_word (start b)) where
-  pub begun-object : k ≡ 32 → b ≡ 64
-  begun-object h = eqb-true b 64 (sym (ap (only_at b) (sym e ∙ h)) ∙ only_at_lem b)
+module _ (b : ℕ) (s : Begun) (e : start_of s ≡ start b) where
+  pub begun-object : s ≡ Object → b ≡ 64
+  unfolding start_of
+  begun-object h = eqb-true b 64 (sym (ap (λ (x : Start). object_at x (eqb b 64)) (sym e ∙ ap start_of h)) ∙ only_at_lem b)
 
-  pub begun-no-object : (k ≡ 32 → ⊥) → b ≡ 64 → ⊥
-  unfolding start in_singles singles others in_others start_word
-  begun-no-object n h = n (e ∙ ap (λ (x : ℕ). start_word (start x)) h)
+  pub begun-no-object : (s ≡ Object → ⊥) → b ≡ 64 → ⊥
+  unfolding start_of start in_singles singles others in_others
+  begun-no-object n h = is-object s n (e ∙ ap start h)
+    where
+      is-object : (s : Begun) → (s ≡ Object → ⊥) → start_of s ≡ object → ⊥
+      is-object Object n f = n refl
+      is-object (Single p) n f = search rules
+      is-object Complex n f = search rules
+      is-object Bits n f = search rules
+      is-object (Indirection Pointer) n f = search rules
+      is-object (Indirection Atomic) n f = search rules
+      is-object OpenArray n f = search rules
+      is-object CloseArray n f = search rules
+      is-object (OpenContainer k) n f = search rules
+      is-object (CloseContainer k) n f = search rules
+      is-object Nothing n f = search rules
+
+-- A pointer or an atomic has a part.
+pub indirection-parts : (k : IndirectionKind) → has_parts (start_of (Indirection k)) ≡ true
+unfolding start_of has_parts
+indirection-parts Pointer = refl
+indirection-parts Atomic = refl
 
 -- ---- The bytes that begin nothing with parts.
 

@@ -1,51 +1,54 @@
 -- What a byte begins; what stands at a place and has no parts: a primitive, a bitfield, a closer, or a refusal (parse.rs, the arms of `parse_inner` that call no reader).
-use Rattle.std.specs.Prelude.{ℕ, ◌+◌, Bool, true, false, cond, ◌&&◌, ◌||◌, List, [], ◌∷◌, leb, ltb, eqb, length, drop, get_or}
+use Rattle.std.specs.Prelude.{Option, Some, None, ℕ, ◌+◌, Bool, true, false, cond, ◌&&◌, ◌||◌, List, [], ◌∷◌, leb, ltb, eqb, length, drop, get_or}
+use Rattle.std.specs.Option.{is_some}
 use Rattle.kinds.specs.Byte.{byte}
 use Rattle.kinds.specs.Container.{end_byte}
 use Rattle.kinds.specs.Parse as R
+use Rattle.kinds.specs.Primitive.{kind_of}
 use Rattle.kinds.specs.Parse.{max_u8, Start, single, complex, object, bits, indirection, open_array, close_array, open_container, close_container, nothing, start, begin, empty, encoding, container_end, array_end, refused, items_refused}
 use Rattle.kinds.specs.Strict.{numbers_of}
 use Rattle.kinds.specs.Tree.{Label, Trees, end, node, kind, primitive, bit_field, typed_bit_field, pointer, atomic, array, struct, union, none}
 use Rattle.kinds.specs.declared.ContainerKind.{ContainerKind}
-use Rattle.kinds.specs.declared.ContainerKind.TheVariants.{Struct, Union}
+use Rattle.kinds.specs.declared.IndirectionKind.TheVariants.{Pointer, Atomic}
 use Rattle.kinds.specs.declared.ErrorKind.TheVariants.{UnexpectedEnd, IntegerTooLarge}
 use Rattle.numbers.specs.Answer.{digits_of}
 use Rattle.numbers.specs.declared.Digits.{Digits}
 use Rattle.parser.specs.Place.{place_of}
+use Rattle.codes.specs.declared.Begun.{Begun}
+use Rattle.codes.specs.declared.Begun.TheVariants.{Single, Complex, Object, Bits, Indirection, OpenArray, CloseArray, OpenContainer, CloseContainer, Nothing}
 use Rattle.codes.specs.declared.BitsDigits.{BitsDigits}
 use Rattle.codes.specs.declared.Token.{Token}
 use Rattle.codes.specs.declared.Token.TheVariants.{Primitive, BitField, TypedBitField, ArrayEnd, ContainerEnd, Refused, Parts, End}
 
--- What a byte begins as one number: its kind in a sheet; a number beyond the kinds where several may come of it, where a form ends, and for nothing.
-unfoldable pub start_word : Start → ℕ
-start_word (single p) = p
-start_word object = 32
-start_word open_array = 28
-start_word (open_container Struct) = 29
-start_word (open_container Union) = 30
-start_word bits = 33
-start_word (indirection l) = kind l
-start_word complex = 34
-start_word close_array = 35
-start_word (close_container Struct) = 36
-start_word (close_container Union) = 37
-start_word nothing = 255
+-- What a byte begins, as the function `start` gives it.
+unfoldable pub start_of : Begun → Start
+start_of (Single p) = single (kind_of p)
+start_of Complex = complex
+start_of Object = object
+start_of Bits = bits
+start_of (Indirection Pointer) = indirection pointer
+start_of (Indirection Atomic) = indirection atomic
+start_of OpenArray = open_array
+start_of CloseArray = close_array
+start_of (OpenContainer k) = open_container k
+start_of (CloseContainer k) = close_container k
+start_of Nothing = nothing
 
--- The kind of the primitive whose code a byte is that never goes on behind it; 255 where it is none.
-unfoldable pub code_of : Start → ℕ
-code_of (single p) = p
-code_of complex = 255
-code_of object = 255
-code_of bits = 255
-code_of (indirection l) = 255
-code_of open_array = 255
-code_of close_array = 255
-code_of (open_container k) = 255
-code_of (close_container k) = 255
-code_of nothing = 255
+-- The kind of the primitive whose code a byte is that never goes on behind it.
+unfoldable pub code_of : Start → Option ℕ
+code_of (single p) = Some p
+code_of complex = None
+code_of object = None
+code_of bits = None
+code_of (indirection l) = None
+code_of open_array = None
+code_of close_array = None
+code_of (open_container k) = None
+code_of (close_container k) = None
+code_of nothing = None
 
 unfoldable pub is_code : ℕ → Bool
-is_code b = ltb (code_of (start b)) 24
+is_code b = is_some (code_of (start b))
 
 -- A pointer or an atomic begins.
 abbrev pub is_indirection : ℕ → Bool

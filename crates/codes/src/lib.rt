@@ -5,11 +5,9 @@ ghost use Rattle.std.specs.Prelude.{◌≡◌, ◌||◌, [], ◌≤◌, length, 
 ghost use Rattle.kinds.specs.Parse.{max_u64, parse_number, parse_complex, parse_quoted, parse_object, parse_bit_field, parse_bits, start};
 ghost use Rattle.kinds.specs.Strict.{typed_number, bits_numbers};
 ghost use Rattle.parser.specs.Run.{run_end};
-ghost use Rattle.codes.specs.Answer.{start_word, code_of, is_code, is_indirection, closed, closes_fields, no_digits, digits_then, digits_in, untyped_token, token_of, token_at};
+ghost use Rattle.codes.specs.Answer.{start_of, code_of, is_code, is_indirection, closed, closes_fields, no_digits, digits_then, digits_in, untyped_token, token_of, token_at};
 
-use kinds::{
-    ARRAY, ATOMIC, ContainerKind, ErrorKind, POINTER, PRIMITIVES, Primitive, STRUCT, UNION,
-};
+use kinds::{ContainerKind, ErrorKind, IndirectionKind, Primitive};
 use numbers::{Digits, is_digit, parse_u8, parse_u64};
 use parser::{ByteTest, quote_end, run_end};
 
@@ -35,71 +33,71 @@ pub enum Token {
     End,
 }
 
-// Numbers beyond the kinds of the sheet: what may become one of several kinds, what a closer ends, and that there is no kind.
-pub const OBJECT_START: u64 = 32;
+// What a byte begins: a primitive's whole code, what may become one of several kinds, what opens or closes something with parts.
+#[derive(Clone, Copy, Debug, PartialEq, Eq)]
+pub enum Begun {
+    Single(Primitive),
+    Complex,
+    Object,
+    Bits,
+    Indirection(IndirectionKind),
+    OpenArray,
+    CloseArray,
+    OpenContainer(ContainerKind),
+    CloseContainer(ContainerKind),
+    Nothing,
+}
 
-const BITS_START: u64 = 33;
-
-const COMPLEX_START: u64 = 34;
-
-const ARRAY_END: u64 = 35;
-
-const STRUCT_END: u64 = 36;
-
-const UNION_END: u64 = 37;
-
-const NO_KIND: u64 = 255;
-
-// What a byte begins, by its kind or a number above: the list of all type codes. They stand in the order of the table in Apple's guide
+// The list of all type codes. They stand in the order of the table in Apple's guide
 // ("Type Encodings"), then those that the crate adds, in the order of its parser (parse.rs, `parse_inner`). A closer is no code and
 // comes after them. What opens something (`^`, `A`, `[`, `{`, `(`) reading also tells by tests of its own, before it asks here.
-pub fn start(b: u8) -> u64
-    ensures { result ≡ start_word (start b) }
+pub fn start(b: u8) -> Begun
+    ensures { start_of result ≡ start b }
 {
     match b {
-        b'c' => Primitive::Char.kind(),
-        b'i' => Primitive::Int.kind(),
-        b's' => Primitive::Short.kind(),
-        b'l' => Primitive::Long.kind(),
-        b'q' => Primitive::LongLong.kind(),
-        b'C' => Primitive::UChar.kind(),
-        b'I' => Primitive::UInt.kind(),
-        b'S' => Primitive::UShort.kind(),
-        b'L' => Primitive::ULong.kind(),
-        b'Q' => Primitive::ULongLong.kind(),
-        b'f' => Primitive::Float.kind(),
-        b'd' => Primitive::Double.kind(),
-        b'B' => Primitive::Bool.kind(),
-        b'v' => Primitive::Void.kind(),
-        b'*' => Primitive::String.kind(),
-        b'@' => OBJECT_START,
-        b'#' => Primitive::Class.kind(),
-        b':' => Primitive::Sel.kind(),
-        b'[' => ARRAY,
-        b'{' => STRUCT,
-        b'(' => UNION,
-        b'b' => BITS_START,
-        b'^' => POINTER,
-        b'?' => Primitive::Unknown.kind(),
-        b'D' => Primitive::LongDouble.kind(),
-        b'j' => COMPLEX_START,
-        b'A' => ATOMIC,
-        b']' => ARRAY_END,
-        b'}' => STRUCT_END,
-        b')' => UNION_END,
-        _ => NO_KIND,
+        b'c' => Begun::Single(Primitive::Char),
+        b'i' => Begun::Single(Primitive::Int),
+        b's' => Begun::Single(Primitive::Short),
+        b'l' => Begun::Single(Primitive::Long),
+        b'q' => Begun::Single(Primitive::LongLong),
+        b'C' => Begun::Single(Primitive::UChar),
+        b'I' => Begun::Single(Primitive::UInt),
+        b'S' => Begun::Single(Primitive::UShort),
+        b'L' => Begun::Single(Primitive::ULong),
+        b'Q' => Begun::Single(Primitive::ULongLong),
+        b'f' => Begun::Single(Primitive::Float),
+        b'd' => Begun::Single(Primitive::Double),
+        b'B' => Begun::Single(Primitive::Bool),
+        b'v' => Begun::Single(Primitive::Void),
+        b'*' => Begun::Single(Primitive::String),
+        b'@' => Begun::Object,
+        b'#' => Begun::Single(Primitive::Class),
+        b':' => Begun::Single(Primitive::Sel),
+        b'[' => Begun::OpenArray,
+        b'{' => Begun::OpenContainer(ContainerKind::Struct),
+        b'(' => Begun::OpenContainer(ContainerKind::Union),
+        b'b' => Begun::Bits,
+        b'^' => Begun::Indirection(IndirectionKind::Pointer),
+        b'?' => Begun::Single(Primitive::Unknown),
+        b'D' => Begun::Single(Primitive::LongDouble),
+        b'j' => Begun::Complex,
+        b'A' => Begun::Indirection(IndirectionKind::Atomic),
+        b']' => Begun::CloseArray,
+        b'}' => Begun::CloseContainer(ContainerKind::Struct),
+        b')' => Begun::CloseContainer(ContainerKind::Union),
+        _ => Begun::Nothing,
     }
 }
 
-// The kind of the primitive whose code is this byte and never goes on behind it; `NO_KIND` where there is none, as of `@`, which `?` or a name may follow.
-pub fn single_kind(b: u8) -> u64
+// The kind word of the primitive whose code is this byte and never goes on behind it: not of `@`, which `?` or a name may follow.
+pub fn single_kind(b: u8) -> Option<u64>
     ensures { result ≡ code_of (start b) }
 {
     let begun = start(b);
-    if begun < PRIMITIVES {
-        return begun;
+    match begun {
+        Begun::Single(p) => Some(p.kind()),
+        _ => None,
     }
-    NO_KIND
 }
 
 // Of a number that was not met.
@@ -200,7 +198,9 @@ fn parse_bit_field(text: &[u8], first: u64, to: usize, digits: Digits) -> Token
     if text.len() - to < 2 {
         return untyped(first, to, digits);
     }
-    let p = single_kind(text[to]);
+    let Some(p) = single_kind(text[to]) else {
+        return untyped(first, to, digits);
+    };
     if !is_integral(p) {
         return untyped(first, to, digits);
     }
@@ -241,22 +241,17 @@ pub fn token_at(text: &[u8], at: usize) -> Token
     let b = text[at];
     let next = at + 1;
     let begun = start(b);
-    if begun < PRIMITIVES {
-        return Token::Primitive(begun, next);
-    }
     match begun {
-        OBJECT_START => parse_object(text, next),
-        ARRAY => Token::Parts,
-        STRUCT => Token::Parts,
-        UNION => Token::Parts,
-        BITS_START => parse_bits(text, next),
-        POINTER => Token::Parts,
-        COMPLEX_START => parse_complex(text, next),
-        ATOMIC => Token::Parts,
-        ARRAY_END => Token::ArrayEnd(next),
-        STRUCT_END => Token::ContainerEnd(ContainerKind::Struct, next),
-        UNION_END => Token::ContainerEnd(ContainerKind::Union, next),
-        _ => refused(ErrorKind::Unknown(b), next),
+        Begun::Single(p) => Token::Primitive(p.kind(), next),
+        Begun::Complex => parse_complex(text, next),
+        Begun::Object => parse_object(text, next),
+        Begun::Bits => parse_bits(text, next),
+        Begun::Indirection(_) => Token::Parts,
+        Begun::OpenArray => Token::Parts,
+        Begun::CloseArray => Token::ArrayEnd(next),
+        Begun::OpenContainer(_) => Token::Parts,
+        Begun::CloseContainer(kind) => Token::ContainerEnd(kind, next),
+        Begun::Nothing => refused(ErrorKind::Unknown(b), next),
     }
 }
 
@@ -288,7 +283,7 @@ pub fn indirections_end(text: &[u8], at: usize) -> usize
 fn is_code(b: u8) -> bool
     ensures { result ≡ is_code b }
 {
-    single_kind(b) < PRIMITIVES
+    single_kind(b).is_some()
 }
 
 struct CodeByte;

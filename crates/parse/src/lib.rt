@@ -22,8 +22,8 @@ use codes::{
     BitsDigits, Token, closes_fields, closes_item, indirections_end, single_kind, token_at,
 };
 use kinds::{
-    ARRAY, ATOMIC, BIT_FIELD, ContainerKind, ErrorKind, MAX_TEXT, NONE, POINTER, PRIMITIVES,
-    ParseError, Refusal, TYPED_BIT_FIELD, unknown_digit,
+    ARRAY, ATOMIC, BIT_FIELD, ContainerKind, ErrorKind, MAX_TEXT, NONE, POINTER, ParseError,
+    Refusal, TYPED_BIT_FIELD, unknown_digit,
 };
 use names::parse_name;
 use numbers::{Number, parse_u64};
@@ -489,10 +489,9 @@ fn put_codes(text: &[u8], at: usize, words: &mut [u64], n: usize) -> usize
     ensures { CodesRead text.now at n words.old words.new result }
 {
     for i in at..text.len() {
-        let p = single_kind(text[i]);
-        if PRIMITIVES <= p {
+        let Some(p) = single_kind(text[i]) else {
             return i;
-        }
+        };
         put_node(words, n + (i - at), p, 0, 0, 1);
     }
     text.len()
@@ -676,8 +675,7 @@ fn parse_encoding_or_none(
     }
     // A text of one code needs no walk.
     if n == 1 {
-        let p = single_kind(text[0]);
-        if p < PRIMITIVES {
+        if let Some(p) = single_kind(text[0]) {
             put_code(p, words, names);
             return Ok(1);
         }

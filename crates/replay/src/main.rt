@@ -14,12 +14,17 @@ const MAX_DECODED: usize = 32768;
 
 const MAX_ANSWER: usize = 65536;
 
-// A tree stands in the lent lists, or the text was turned away, or the question is bad.
+// Why no tree stands in the lent lists: the text was turned away, or the question is bad.
 #[derive(Clone, Copy)]
-enum Loaded {
-    Tree,
+enum NotLoaded {
     Unread(Refusal),
     Bad,
+}
+
+impl From<Refusal> for NotLoaded {
+    fn from(why: Refusal) -> NotLoaded {
+        NotLoaded::Unread(why)
+    }
 }
 
 // A text: `t:` and its bytes in hex.
@@ -31,28 +36,20 @@ fn load_text(argument: &[u8], text: &mut [u8]) -> Option<usize> {
 }
 
 // A sheet: its words in decimal with commas, `:`, its name bytes in hex.
-fn load_sheet(sheet: &[u8], words: &mut [u64], names: &mut [u8]) -> Loaded {
-    let Some(_) = lines::decode_words(lines::field(sheet, b':'), words) else {
-        return Loaded::Bad;
-    };
-    let Some(_) = lines::decode_hex(lines::rest(sheet, b':'), names) else {
-        return Loaded::Bad;
-    };
-    Loaded::Tree
+fn load_sheet(sheet: &[u8], words: &mut [u64], names: &mut [u8]) -> Option<()> {
+    lines::decode_words(lines::field(sheet, b':'), words)?;
+    lines::decode_hex(lines::rest(sheet, b':'), names)?;
+    Some(())
 }
 
 // A tree: a sheet, or a text, which is read.
-fn load_tree(argument: &[u8], text: &mut [u8], words: &mut [u64], names: &mut [u8]) -> Loaded {
+fn load_tree(argument: &[u8], text: &mut [u8], words: &mut [u64], names: &mut [u8]) -> Result<(), NotLoaded> {
     if matches!(lines::field(argument, b':'), b"s") {
-        return load_sheet(lines::rest(argument, b':'), words, names);
+        return load_sheet(lines::rest(argument, b':'), words, names).ok_or(NotLoaded::Bad);
     }
-    let Some(n) = load_text(argument, text) else {
-        return Loaded::Bad;
-    };
-    match encoding_box::from_str(lines::front(text, n), words, names) {
-        Ok(()) => Loaded::Tree,
-        Err(why) => Loaded::Unread(why),
-    }
+    let n = load_text(argument, text).ok_or(NotLoaded::Bad)?;
+    encoding_box::from_str(lines::front(text, n), words, names)?;
+    Ok(())
 }
 
 // Two trees, or why there are not two.
@@ -63,11 +60,16 @@ fn load_trees(
     an: &mut [u8],
     bw: &mut [u64],
     bn: &mut [u8],
-) -> Loaded {
-    match load_tree(lines::field(arguments, b' '), text, aw, an) {
-        Loaded::Unread(why) => Loaded::Unread(why),
-        Loaded::Bad => Loaded::Bad,
-        Loaded::Tree => load_tree(lines::rest(arguments, b' '), text, bw, bn),
+) -> Result<(), NotLoaded> {
+    load_tree(lines::field(arguments, b' '), text, aw, an)?;
+    load_tree(lines::rest(arguments, b' '), text, bw, bn)
+}
+
+// The answer where no tree could be loaded.
+fn put_not_loaded(out: &mut [u8], why: NotLoaded) -> usize {
+    match why {
+        NotLoaded::Unread(refusal) => put_refused(out, b"unread ", refusal),
+        NotLoaded::Bad => put_bad_line(out),
     }
 }
 
@@ -270,9 +272,8 @@ fn answer_matching(
     out: &mut [u8],
 ) -> usize {
     match load_tree(lines::field(arguments, b' '), text, words, names) {
-        Loaded::Unread(why) => put_refused(out, b"unread ", why),
-        Loaded::Bad => put_bad_line(out),
-        Loaded::Tree => {
+        Err(why) => put_not_loaded(out, why),
+        Ok(()) => {
             let Some(n) = load_text(lines::rest(arguments, b' '), text) else {
                 return put_bad_line(out);
             };
@@ -305,9 +306,8 @@ fn answer_tree(
     out: &mut [u8],
 ) -> usize {
     match load_tree(argument, text, words, names) {
-        Loaded::Unread(why) => put_refused(out, b"unread ", why),
-        Loaded::Bad => put_bad_line(out),
-        Loaded::Tree => answer_one(question, words, names, text, out),
+        Err(why) => put_not_loaded(out, why),
+        Ok(()) => answer_one(question, words, names, text, out),
     }
 }
 
@@ -334,9 +334,8 @@ fn answer_by_row(
         return put_bad_line(out);
     };
     match load_tree(lines::rest(arguments, b' '), text, words, names) {
-        Loaded::Unread(why) => put_refused(out, b"unread ", why),
-        Loaded::Bad => put_bad_line(out),
-        Loaded::Tree => match question {
+        Err(why) => put_not_loaded(out, why),
+        Ok(()) => match question {
             b"layout" => answer_layout(row[0], words, names, list, out),
             _ => answer_size(row[0], b"no ", words, names, out),
         },
@@ -379,9 +378,8 @@ fn answer_trees(
     out: &mut [u8],
 ) -> usize {
     match load_trees(arguments, text, aw, an, bw, bn) {
-        Loaded::Unread(why) => put_refused(out, b"unread ", why),
-        Loaded::Bad => put_bad_line(out),
-        Loaded::Tree => answer_two(question, aw, an, bw, bn, text, out),
+        Err(why) => put_not_loaded(out, why),
+        Ok(()) => answer_two(question, aw, an, bw, bn, text, out),
     }
 }
 

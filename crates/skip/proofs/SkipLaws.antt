@@ -25,7 +25,7 @@ use Rattle.names.proofs.NameLaws.{NameRead}
 use Rattle.codes.specs.Answer.{closed, closes_fields, code_of, is_code, is_indirection}
 use Rattle.codes.specs.declared.Token.{Token}
 use Rattle.codes.specs.declared.Token.TheVariants as T
-use Rattle.codes.proofs.CodeLaws.{single-code, indirection-is}
+use Rattle.codes.proofs.CodeLaws.{some-code, indirection-is}
 use Rattle.codes.proofs.StepLaws.{parse-step, parse-nil, begins, begins-held, begins-item, next-is, fuel_on, closed_in, closed_is, closes-it, closes-not, same_self, closes_in, closes-starts}
 use Rattle.codes.proofs.TokenLaws.{TokenIs}
 use Rattle.skip.specs.Answer.{skipped_at, encoding_at}
@@ -293,10 +293,9 @@ module _ (text : List ℕ) (at : ℕ) (kind : ContainerKind) where
 -- ---- Runs of codes.
 
 skips-code : (text : List ℕ) (at : ℕ) → at < length text → is_code (get_or text at 0) ≡ true → Skips text at (Ok (Encoding (at + 1)))
-unfolding is_code Begun begin leaf
+unfolding Begun begin leaf
 skips-code text at h c =
-    let l : code_of (start (get_or text at 0)) < 24 = ltb-true _ _ c in
-    let st = single-code (get_or text at 0) (code_of (start (get_or text at 0))) refl (omega arith) in
+    let st = some-code (get_or text at 0) c in
     record { bound = omega arith; says = begun text at (Ok (Encoding (at + 1))) h (λ g f. record { label = primitive _; children = end; is = begins text at st _ _ }) }
 
 module _ (text : List ℕ) (to : ℕ) (kind : ContainerKind) (i : Result ℕ ParseError) (s : SkipsItems text to kind i) where

@@ -12,10 +12,10 @@ ghost use Rattle.kinds.specs.declared.ErrorKind.TheVariants.{Unknown};
 ghost use Rattle.skip.specs.Skips.{token_skipped, held_skipped, item_skipped, end_skipped, encoding_of, ends_object, object_alone, Skips, SkipsItems, OneAt, OpensAt};
 
 use codes::{
-    OBJECT_START, Token, closes_fields, closes_item, codes_end, indirections_end, single_kind,
-    start, token_at,
+    Begun, Token, closes_fields, closes_item, codes_end, indirections_end, single_kind, start,
+    token_at,
 };
-use kinds::{ContainerKind, ErrorKind, PRIMITIVES, ParseError};
+use kinds::{ContainerKind, ErrorKind, ParseError};
 use names::parse_name;
 use numbers::parse_u64;
 use parser::strip_at;
@@ -218,9 +218,9 @@ fn object_alone(text: &[u8], at: usize) -> bool
     requires { at < length text.now }
     ensures { result ≡ object_alone (get_or text.now at 0) (drop (at + 1) text.now) }
 {
-    if start(text[at]) != OBJECT_START {
+    let Begun::Object = start(text[at]) else {
         return false;
-    }
+    };
     let next = at + 1;
     if text.len() <= next {
         return true;
@@ -236,7 +236,7 @@ pub fn skip_encoding_or_none(text: &[u8], at: usize) -> Result<usize, ParseError
         return Ok(text.len());
     }
     // What takes one byte needs no walk, and no qualifier does.
-    if single_kind(text[at]) < PRIMITIVES {
+    if single_kind(text[at]).is_some() {
         return Ok(at + 1);
     }
     if object_alone(text, at) {

@@ -297,13 +297,12 @@ fn say_sizes(
     text: &[u8],
     words: &[u64],
     names: &[u8],
-    given: bool,
-    row: u64,
+    row: Option<u64>,
 ) -> io::Result<()> {
-    if given {
-        return say_size(rt, text, words, names, row);
+    match row {
+        Some(row) => say_size(rt, text, words, names, row),
+        None => say_rows(rt, words, names),
     }
-    say_rows(rt, words, names)
 }
 
 // What a command says of the tree of its text; a layout is in row 0 where no row was given.
@@ -313,13 +312,12 @@ fn say_of_tree(
     text: &[u8],
     words: &[u64],
     names: &[u8],
-    given: bool,
-    row: u64,
+    row: Option<u64>,
 ) -> io::Result<()> {
     match command {
         b"print" => say_print(rt, text, words, names),
-        b"size" => say_sizes(rt, text, words, names, given, row),
-        b"layout" => say_layout(rt, text, words, names, row),
+        b"size" => say_sizes(rt, text, words, names, row),
+        b"layout" => say_layout(rt, text, words, names, row.unwrap_or(0)),
         _ => say_tree(rt, words, names),
     }
 }
@@ -329,14 +327,13 @@ fn answer_tree(
     rt: &impl Print,
     command: &[u8],
     text: &[u8],
-    given: bool,
-    row: u64,
+    row: Option<u64>,
 ) -> io::Result<()> {
     let mut words = [0u64; MAX_WORDS];
     let mut names = [0u8; MAX_TEXT];
     let strict = matches!(command, b"read-strict");
     if reads_by(rt, strict, text, &mut words, &mut names)? {
-        say_of_tree(rt, command, text, &words, &names, given, row)?;
+        say_of_tree(rt, command, text, &words, &names, row)?;
     }
     Ok(())
 }
@@ -356,11 +353,11 @@ fn answer_by_row(
     row: &[u8],
 ) -> io::Result<()> {
     if texts == 1 {
-        return answer_tree(rt, command, text, false, 0);
+        return answer_tree(rt, command, text, None);
     }
     if texts == 2 {
         if show::is_number(row) {
-            return answer_tree(rt, command, text, true, show::number_of(row));
+            return answer_tree(rt, command, text, Some(show::number_of(row)));
         }
         return complain(err, row, b"' is no row's number\n");
     }

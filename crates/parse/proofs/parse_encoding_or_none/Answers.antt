@@ -1,4 +1,4 @@
-use mathlib.Core.Path.{refl, ap}
+use mathlib.Core.Path.{refl, ap, sym, ◌∙◌}
 use native.Mathlib.Omega.{arith}
 use lib.ListN.{length, length-drop}
 use Prim.Native.Nat.{ℕ}
@@ -20,12 +20,12 @@ returns-then-words-n c = (few_words _ _ _ c.if-n-gt-MAX_TEXT.false c.if-words-n.
 pub returns-then-names-n : goal.returns-then-names-n
 returns-then-names-n c = (few-names _ _ _ c.if-n-gt-MAX_TEXT.false c.if-names-n.true, record { words-kept = refl; names-kept = refl })
 
-pub returns-then-p-lt-PRIMITIVES : goal.returns-then-p-lt-PRIMITIVES
-returns-then-p-lt-PRIMITIVES c =
+pub returns-in-Some : goal.returns-in-Some
+returns-in-Some c =
     let a = c.args in
-    let code = single-code _ _ c.single_kind-p.ensures (omega (arith, c.if-p-lt-PRIMITIVES.true)) in
+    let code = single-code _ _ (sym c.in-Some.is ∙ c.single_kind.ensures) in
     let put = c.put_code.ensures in
-    one_code a.strict a.text.now a.words.now a.names.now c.single_kind-p.result c.if-n-eq1.true c.if-words-n.false c.if-names-n.false code _ _
+    one_code a.strict a.text.now a.words.now a.names.now _ c.if-n-eq1.true c.if-words-n.false c.if-names-n.false code _ _
     put.0 put.1
 
 pub parse_inner-p-requires : goal.parse_inner-p-requires

@@ -1,4 +1,4 @@
-use mathlib.Core.Path.{◌≡◌, refl, subst, ◌∙◌}
+use mathlib.Core.Path.{◌≡◌, refl, sym, subst, ◌∙◌}
 use lib.ListN.{length}
 use Rattle.parse.specs.Agree.{CodesRead}
 use native.Mathlib.Omega.{arith}
@@ -13,11 +13,11 @@ loop-i-init c = (codes-none _ _ _ _ c.requires.0, refl)
 pub bounds-text-i : goal.bounds-text-i
 bounds-text-i c = omega arith
 
-pub shape_of-words-then-p-ge-PRIMITIVES : goal.shape_of-words-then-p-ge-PRIMITIVES
-shape_of-words-then-p-ge-PRIMITIVES c = c.loop-i.invariant.1
+pub shape_of-words-in_default : goal.shape_of-words-in_default
+shape_of-words-in_default c = c.loop-i.invariant.1
 
-pub returns-then-p-ge-PRIMITIVES : goal.returns-then-p-ge-PRIMITIVES
-returns-then-p-ge-PRIMITIVES c = c.loop-i.invariant.0
+pub returns-in_default : goal.returns-in_default
+returns-in_default c = c.loop-i.invariant.0
 
 pub overflow_sub-i : goal.overflow_sub-i
 overflow_sub-i c = omega (arith, c.loop-i.invariant.0.onward)
@@ -34,8 +34,8 @@ loop-i-preserved c =
     let l = c.loop-i in
     let a = c.args in
     let w = c.put_node in
-    let code = single-code _ _ c.single_kind-p.ensures (omega (arith, c.if-p-ge-PRIMITIVES.false)) in
-    let more = codes-more a.text.now a.at a.n a.words.now l.words l.i c.single_kind-p.result l.invariant.0 c.loop-i-test.true code in
+    let code = single-code _ _ (sym c.in-Some.is ∙ c.single_kind.ensures) in
+    let more = codes-more a.text.now a.at a.n a.words.now l.words l.i _ l.invariant.0 c.loop-i-test.true code in
     (rw w.ensures more, w.auto.words ∙ l.invariant.1)
 
 pub shape_of-words : goal.shape_of-words

@@ -5,6 +5,7 @@ use lib.ListN.{drop}
 use borrow.Author.Tests.{lt-ltb}
 use Rattle.kinds.proofs.ListLaws.{whole}
 use Rattle.parser.proofs.PlaceLaws.{unread-stripped, strip-at-within}
+use Rattle.std.specs.Option.{is_some}
 use Rattle.codes.specs.Answer.{is_code}
 use Rattle.skip.proofs.SkipLaws.{answer-none, answer-code, answer-object, answer-encoding, answer-no-encoding}
 use Rattle.skip.proofs.skip_encoding_or_none.Goals as goal
@@ -12,10 +13,10 @@ use Rattle.skip.proofs.skip_encoding_or_none.Goals as goal
 pub returns-then-text-at : goal.returns-then-text-at
 returns-then-text-at c = answer-none _ _ c.if-text-at.true
 
-pub returns-then-single_kind-lt-PRIMITIVES : goal.returns-then-single_kind-lt-PRIMITIVES
+pub returns-then-is_some : goal.returns-then-is_some
 unfolding is_code
-returns-then-single_kind-lt-PRIMITIVES c =
-    answer-code _ _ c.if-text-at.false (lt-ltb _ _ (rw c.single_kind.ensures at c.if-single_kind-lt-PRIMITIVES.true))
+returns-then-is_some c =
+    answer-code _ _ c.if-text-at.false (ap is_some (sym c.single_kind.ensures) ∙ sym c.is_some.ensures ∙ c.if-is_some.true)
 
 pub returns-then-object_alone : goal.returns-then-object_alone
 returns-then-object_alone c =
