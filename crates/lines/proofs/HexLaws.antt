@@ -3,15 +3,16 @@ use Prim.Native.Nat.{ℕ, ◌+◌, ◌-◌, ◌*◌, ◌/◌, ◌%◌, ◌≤◌
 use native.Mathlib.Omega.{arith}
 use native.Mathlib.Numerals.{add-one}
 use mathlib.Core.Path.{◌≡◌, refl, ap, ap₂, sym, subst, ◌∙◌}
-use mathlib.Core.Bool.{Bool, true, false, ◌&&◌}
+use mathlib.Core.Bool.{Bool, true, false, cond, ◌&&◌}
 use mathlib.Core.List.{List, [], ◌∷◌}
 use lib.Dec.{ltb}
 use lib.ListN.{length, take, drop, set, get_or, length-set}
 use lib.Seq.{sets, take_all}
-use borrow.Author.Tests.{le-leb, lt-leb, lt-ltb, le-ltb}
+use borrow.Author.Tests.{le-leb, lt-leb, lt-ltb, le-ltb, ltb-true, ltb-false}
 use Rattle.kinds.specs.Byte.{is_digit}
-use Rattle.lines.specs.Answer.{hex_digit, is_pair, hex_bytes, is_hex, hex_answer, hex_glyph, hex_pair}
-use Rattle.std.specs.Prelude.{Some, None}
+use Rattle.lines.specs.Answer.{hex_digit, digit_value, is_pair, hex_bytes, is_hex, hex_answer, hex_glyph, hex_pair}
+use Rattle.std.specs.Prelude.{Option, Some, None}
+use borrow.Author.Rules.{rules}
 
 pub digit_low : (b : ℕ) → b < 48 → hex_digit b ≡ 16
 unfolding hex_digit is_digit
@@ -33,6 +34,34 @@ pub digit-high : (b : ℕ) → 102 < b → hex_digit b ≡ 16
 unfolding hex_digit is_digit
 digit-high b h = let j : 48 ≤ b = omega arith in let i : 57 < b = omega arith in let k : 97 ≤ b = omega arith
     in rw (le-leb 48 b j, lt-leb b 57 i, le-leb 97 b k, lt-leb b 102 h)
+
+pub digit_some : (b x : ℕ) → hex_digit b ≡ x → x < 16 → Some x ≡ digit_value b
+unfolding digit_value
+digit_some b x e h = let l : hex_digit b < 16 = omega arith in sym (rw (lt-ltb (hex_digit b) 16 l) (ap Some e))
+
+pub digit_none : (b : ℕ) → hex_digit b ≡ 16 → None ≡ digit_value b
+unfolding digit_value
+digit_none b e = let l : 16 ≤ hex_digit b = omega arith in sym (rw (le-ltb (hex_digit b) 16 l) refl)
+
+pub record DigitIs (b x : ℕ) : Type 0 where
+  pub is : x ≡ hex_digit b
+  pub low : x < 16
+
+pub digit-is : (b x : ℕ) → Some x ≡ digit_value b → DigitIs b x
+unfolding digit_value
+digit-is b x e = go (ltb (hex_digit b) 16) refl e
+  where
+    go : (t : Bool) → ltb (hex_digit b) 16 ≡ t → Some x ≡ cond t (Some (hex_digit b)) None → DigitIs b x
+    go true l f = let i : x ≡ hex_digit b = search rules in record { is = i; low = omega (arith, ltb-true (hex_digit b) 16 l) }
+    go false l f = search rules
+
+pub digit-not : (b : ℕ) → None ≡ digit_value b → 16 ≤ hex_digit b
+unfolding digit_value
+digit-not b e = go (ltb (hex_digit b) 16) refl e
+  where
+    go : (t : Bool) → ltb (hex_digit b) 16 ≡ t → None ≡ cond t (Some (hex_digit b)) None → 16 ≤ hex_digit b
+    go true l f = search rules
+    go false l f = ltb-false (hex_digit b) 16 l
 
 pub glyph-number : (d : ℕ) → d < 10 → 48 + d ≡ hex_glyph d
 unfolding hex_glyph

@@ -26,6 +26,10 @@ front_of s n = (s.ref_ptr, take n s.now)
 unfoldable pub hex_digit : ℕ → ℕ
 hex_digit b = cond (is_digit b) (b - byte "0") (cond (leb (byte "a") b && leb b (byte "f")) (b - 87) 16)
 
+-- The same, where it is a digit.
+unfoldable pub digit_value : ℕ → Option ℕ
+digit_value b = cond (ltb (hex_digit b) 16) (Some (hex_digit b)) None
+
 -- Both are digits.
 unfoldable pub is_pair : ℕ → ℕ → Bool
 is_pair a b = ltb (hex_digit a) 16 && ltb (hex_digit b) 16

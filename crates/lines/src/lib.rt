@@ -7,7 +7,7 @@ ghost use Rattle.std.specs.Prelude.{◌≡◌, ◌+◌, ◌≤◌, ◌<◌, [], 
 ghost use Rattle.std.proofs.lemmas.List.Edits.{sets};
 ghost use Rattle.kinds.specs.Parse.{max_u64};
 ghost use Rattle.parser.specs.Place.{lent, remaining_at};
-ghost use Rattle.lines.specs.Answer.{until, front_of, hex_digit, hex_bytes, hex_answer, hex_glyph, hex_pair, grown, decimals, decimals_answer, Put, each, joined, sheet_text, refusal_text};
+ghost use Rattle.lines.specs.Answer.{until, front_of, digit_value, hex_bytes, hex_answer, hex_glyph, hex_pair, grown, decimals, decimals_answer, Put, each, joined, sheet_text, refusal_text};
 ghost use Rattle.lines.specs.Steps.{stepped, step_words};
 
 use kinds::Refusal;
@@ -71,23 +71,15 @@ pub fn word_at(words: &[u64], i: usize) -> u64
     0
 }
 
-// The value of a hex digit in lower case; 16 where it is none.
-fn digit_of(b: u8) -> u8
-    ensures { result ≡ hex_digit b }
+// The value of a hex digit in lower case.
+fn digit_of(b: u8) -> Option<u8>
+    ensures { result ≡ digit_value b }
 {
-    if b < b'0' {
-        return 16;
+    match b {
+        b'0'..=b'9' => Some(b - b'0'),
+        b'a'..=b'f' => Some(b - b'a' + 10),
+        _ => None,
     }
-    if b <= b'9' {
-        return b - b'0';
-    }
-    if b < b'a' {
-        return 16;
-    }
-    if b <= b'f' {
-        return b - 87;
-    }
-    16
 }
 
 // Stores one word where there is room.
@@ -107,14 +99,8 @@ pub fn decode_hex(hex: &[u8], out: &mut [u8]) -> Option<usize>
     let mut n = 0;
     let mut unread = hex;
     while let [a, b, rest @ ..] = unread {
-        let high = digit_of(*a);
-        if 16 <= high {
-            return None;
-        }
-        let low = digit_of(*b);
-        if 16 <= low {
-            return None;
-        }
+        let high = digit_of(*a)?;
+        let low = digit_of(*b)?;
         put_byte(out, n, 16 * high + low);
         n += 1;
         unread = rest;
