@@ -1,12 +1,12 @@
 -- Tree against text at a place of the text: each definition by what stands there.
-use Rattle.std.specs.Prelude.{Option}
+use Rattle.std.specs.Prelude.{Option, Some, None, Result, Ok, Err}
 use Prim.Native.Nat.{ℕ, ◌+◌, ◌≤◌, ◌<◌}
 use mathlib.Core.Path.{◌≡◌, refl, ap, ap₂, sym, ◌∙◌, subst}
 use mathlib.Core.List.{List, [], ◌∷◌, ◌++◌}
-use mathlib.Core.Bool.{Bool, true, false, not, false≢true}
+use mathlib.Core.Bool.{Bool, true, false, not, cond, false≢true}
 use native.Mathlib.Decide.{ℕ_discrete}
 use native.Mathlib.Omega.{arith}
-use borrow.Author.Tests.{eq-eqb, ne_eqb}
+use borrow.Author.Tests.{eq-eqb, ne_eqb, eqb-true}
 use lib.ListN.{length, get_or, drop, length-drop, length-append}
 use lib.Dec.{eqb}
 use Rattle.std.specs.List.{starts_with}
@@ -20,7 +20,11 @@ use Rattle.kinds.specs.Container.{end_byte}
 use Rattle.kinds.specs.Primitive.{code, codes, is_object}
 use Rattle.kinds.specs.declared.ErrorKind.{ErrorKind}
 use Rattle.kinds.specs.Kind.{container_of}
-use Rattle.expect.specs.Agree.{ExpectedIs, any_object, opening_byte, opening, closing}
+use Rattle.kinds.specs.declared.ParseError.{ParseError}
+use Rattle.numbers.specs.declared.Number.{Number}
+use Rattle.numbers.specs.Answer.{number_at}
+use Rattle.numbers.proofs.NumberLaws as N
+use Rattle.expect.specs.Agree.{ExpectedIs, number_end, any_object, opening_byte, opening, closing}
 
 -- What follows a match, and what follows none.
 pub then-remaining : (x : Expected) (f : List ℕ → Expected) (s : List ℕ) → x ≡ remaining s → (x then f) ≡ f s
@@ -71,17 +75,31 @@ module _ (m text : List ℕ) (at : ℕ) (r : Bool) (h : r ≡ starts_with eqb (d
   bytes-differ e = bytes-missing m (drop at text) (λ rest i. false≢true (sym e ∙ (starts_is Decides-eqb (drop at text) m r h).1 rest i))
 
 module _ (limit n : ℕ) (s : List ℕ) where
-  pub number-none : (e : ErrorKind) (t : List ℕ) → parse_number limit s ≡ no_number e t → expect_number limit n s ≡ mismatch
+  number-none : (e : ErrorKind) (t : List ℕ) → parse_number limit s ≡ no_number e t → expect_number limit n s ≡ mismatch
   unfolding expect_number
   number-none e t h = rw (h, expect_number)
 
-  pub number-other : (m : ℕ) (t : List ℕ) → parse_number limit s ≡ value m t → (m ≡ n → ⊥) → expect_number limit n s ≡ mismatch
+  number-other : (m : ℕ) (t : List ℕ) → parse_number limit s ≡ value m t → (m ≡ n → ⊥) → expect_number limit n s ≡ mismatch
   unfolding expect_number
   number-other m t h k = rw (h, expect_number, ne_eqb m n k, expect_number)
 
-  pub number_is : (m : ℕ) (t : List ℕ) → parse_number limit s ≡ value m t → m ≡ n → expect_number limit n s ≡ remaining t
+  number_is : (m : ℕ) (t : List ℕ) → parse_number limit s ≡ value m t → m ≡ n → expect_number limit n s ≡ remaining t
   unfolding expect_number
   number_is m t h k = rw (h, expect_number, eq-eqb m n k, expect_number)
+
+-- A number that is read where `n` is wanted.
+pub number-ends : (text : List ℕ) (limit n at : ℕ) (r : Number) → at ≤ length text → r ≡ number_at text (drop at text) (parse_number limit (drop at text))
+    → ExpectedIs text (number_end n r.«read») (expect_number limit n (drop at text))
+number-ends text limit n at r l e = go r.«read» (N.number_is text limit at r l e)
+  where
+    taken : (m to : ℕ) → N.NumberIs text at (Ok (m, to)) (parse_number limit (drop at text)) → (d : Bool) → eqb m n ≡ d
+        → ExpectedIs text (cond d (Some to) None) (expect_number limit n (drop at text))
+    taken m to i true f = (number_is limit n _ _ _ i.0 (eqb-true m n f), i.1.1)
+    taken m to i false f = number-other limit n _ _ _ i.0 (λ h. false≢true (sym f ∙ eq-eqb m n h))
+
+    go : (x : Result (ℕ × ℕ) ParseError) → N.NumberIs text at x (parse_number limit (drop at text)) → ExpectedIs text (number_end n x) (expect_number limit n (drop at text))
+    go (Ok x) i = taken x.0 x.1 i (eqb x.0 n) refl
+    go (Err x) i = number-none limit n _ _ _ i.0
 
 module _ (s : List ℕ) (i : ℕ) where
   pub quote-end : length s ≤ i → expect_quote (drop i s) ≡ mismatch

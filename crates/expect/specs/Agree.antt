@@ -14,7 +14,8 @@ use Rattle.kinds.specs.declared.IndirectionKind.{IndirectionKind}
 use Rattle.kinds.specs.declared.IndirectionKind.TheVariants.{Atomic, Pointer}
 use Rattle.kinds.specs.declared.NestingLevel.{NestingLevel}
 use Rattle.kinds.specs.declared.NestingLevel.TheVariants.{Within}
-use Rattle.std.specs.Prelude.{Option, Some, None}
+use Rattle.std.specs.Prelude.{Option, Some, None, Result, Ok, Err}
+use Rattle.kinds.specs.declared.ParseError.{ParseError}
 use Rattle.expect.specs.declared.Opened.{Opened}
 use Rattle.expect.specs.declared.Opened.TheVariants as O
 
@@ -22,6 +23,11 @@ use Rattle.expect.specs.declared.Opened.TheVariants as O
 abbrev pub ExpectedIs : List ℕ → Option ℕ → E.Expected → Type 0
 ExpectedIs text (Some to) q = (q ≡ remaining (drop to text)) × (to ≤ length text)
 ExpectedIs text None q = q ≡ mismatch
+
+-- The place after a number that was read, if it is `n`.
+abbrev pub number_end : ℕ → Result (ℕ × ℕ) ParseError → Option ℕ
+number_end n (Ok x) = cond (eqb x.0 n) (Some x.1) None
+number_end n (Err e) = None
 
 -- The node at `at`, its children included.
 unfoldable pub expect_at : List ℕ → List ℕ → ℕ → NestingLevel → List ℕ → E.Expected

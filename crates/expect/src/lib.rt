@@ -10,7 +10,7 @@ ghost use Rattle.kinds.specs.Primitive.{code_bytes};
 ghost use Rattle.kinds.specs.Sheet.{kind_at, count_at, is_container_kind, trees};
 ghost use Rattle.kinds.specs.Tree.{end, node, primitive};
 ghost use Rattle.kinds.specs.Walk.{NodeAt, TreesAt, KindAndName, KindsAndNames};
-ghost use Rattle.expect.specs.Agree.{ExpectedIs, expect_at, any_object, expect_leaf, opening_byte, opening, closing, after_name, InText, OpenedIs, ContainerOpenedAt, code_byte, own_byte, level_after, taken_of, fields_of, OpenedAt};
+ghost use Rattle.expect.specs.Agree.{ExpectedIs, number_end, expect_at, any_object, expect_leaf, opening_byte, opening, closing, after_name, InText, OpenedIs, ContainerOpenedAt, code_byte, own_byte, level_after, taken_of, fields_of, OpenedAt};
 ghost use Rattle.expect.specs.Answer.{compared};
 
 use kinds::{
@@ -18,7 +18,7 @@ use kinds::{
     PRIMITIVES, Refusal, TYPED_BIT_FIELD, container_of, is_container, is_indirection, is_object,
     primitive_code,
 };
-use numbers::{parse_u8, parse_u64};
+use numbers::{Number, parse_u8, parse_u64};
 use parser::{quote_end, strip_leading_qualifiers};
 use sheet::{Found, check};
 use skip::skip_fields;
@@ -52,34 +52,28 @@ fn expect_bytes(bytes: &[u8], text: &[u8], at: usize) -> Option<usize>
     None
 }
 
+// The place after a number that was read, if it is `n`.
+fn number_end(n: u64, number: Number) -> Option<usize>
+    ensures { result ≡ number_end n number.read }
+{
+    match number.read {
+        Ok((m, to)) => { if m == n { Some(to) } else { None } }
+        Err(_) => None,
+    }
+}
+
 fn expect_u64(n: u64, text: &[u8], at: usize) -> Option<usize>
     requires { at ≤ length text.now }
     ensures { ExpectedIs text.now result (expect_number max_u64 n (drop at text.now)) }
 {
-    match parse_u64(text, at).read {
-        Err(_) => None,
-        Ok((m, to)) => {
-            if m == n {
-                return Some(to);
-            }
-            None
-        }
-    }
+    number_end(n, parse_u64(text, at))
 }
 
 fn expect_u8(n: u64, text: &[u8], at: usize) -> Option<usize>
     requires { at ≤ length text.now }
     ensures { ExpectedIs text.now result (expect_number max_u8 n (drop at text.now)) }
 {
-    match parse_u8(text, at).read {
-        Err(_) => None,
-        Ok((m, to)) => {
-            if m == n {
-                return Some(to);
-            }
-            None
-        }
-    }
+    number_end(n, parse_u8(text, at))
 }
 
 // Up to the closing quote.
