@@ -14,8 +14,8 @@ ghost use Rattle.static_str.specs.Answer.{encoding_len, encoding_array, encoding
 ghost use Rattle.berzhotun.specs.Answer.{size_number, size_values, compare_number, compare_values, print_number, print_values, read_number, read_values, rest_place, signature_number, signature_values};
 ghost use Rattle.berzhotun.specs.Answer.{reason_number, reason_values, layout_number, layout_values};
 
-use layout::LaidOut;
 use kinds::Refusal;
+use layout::LaidOut;
 
 // A comparison's answer as numbers.
 fn give_compared(c: Result<bool, Refusal>, answer: &mut [u64; 1]) -> u64

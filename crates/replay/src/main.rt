@@ -43,7 +43,12 @@ fn load_sheet(sheet: &[u8], words: &mut [u64], names: &mut [u8]) -> Option<()> {
 }
 
 // A tree: a sheet, or a text, which is read.
-fn load_tree(argument: &[u8], text: &mut [u8], words: &mut [u64], names: &mut [u8]) -> Result<(), NotLoaded> {
+fn load_tree(
+    argument: &[u8],
+    text: &mut [u8],
+    words: &mut [u64],
+    names: &mut [u8],
+) -> Result<(), NotLoaded> {
     if matches!(lines::field(argument, b':'), b"s") {
         return load_sheet(lines::rest(argument, b':'), words, names).ok_or(NotLoaded::Bad);
     }

@@ -323,12 +323,7 @@ fn say_of_tree(
 }
 
 // Answers a command on one text, which is read.
-fn answer_tree(
-    rt: &impl Print,
-    command: &[u8],
-    text: &[u8],
-    row: Option<u64>,
-) -> io::Result<()> {
+fn answer_tree(rt: &impl Print, command: &[u8], text: &[u8], row: Option<u64>) -> io::Result<()> {
     let mut words = [0u64; MAX_WORDS];
     let mut names = [0u8; MAX_TEXT];
     let strict = matches!(command, b"read-strict");
@@ -481,7 +476,7 @@ fn answer_known(rt: &impl Print, command: &[u8], a: &[u8], b: &[u8]) -> io::Resu
         b"reason-all" => answer_compare(rt, true, false, a, b),
         b"match" => answer_match(rt, a, b),
         b"signature" => answer_signature(rt, a),
-        _ => answer_tree(rt, command, a, false, 0),
+        _ => answer_tree(rt, command, a, None),
     }
 }
 
