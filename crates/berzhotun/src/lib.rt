@@ -17,6 +17,8 @@ ghost use Rattle.berzhotun.specs.Answer.{reason_number, reason_values, layout_nu
 use kinds::Refusal;
 use layout::LaidOut;
 
+// What an answer looks like in a lent array is fixed in C's header, for each its own way: so each has a function.
+
 // A comparison's answer as numbers.
 fn give_compared(c: Result<bool, Refusal>, answer: &mut [u64; 1]) -> u64
     ensures returns { result ≡ compare_number c }

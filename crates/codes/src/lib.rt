@@ -20,7 +20,8 @@ pub struct BitsDigits {
 
 // A primitive's kind; a bitfield's size; its offset, its type's kind and its size; a closer; each with the place after it. Digits are those of
 // a bitfield, also where it is refused.
-// `Parts`: a pointer, an atomic, an array or a container begins. `End`: the text ended.
+// `Parts`: a pointer, an atomic, an array or a container begins. `End`: the text ended. Eight kinds with values of their own, of which a
+// refusal has digits too: a `Result` around seven of them would be no plainer.
 #[derive(Clone, Copy)]
 pub enum Token {
     Primitive(u64, usize),

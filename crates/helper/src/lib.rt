@@ -24,7 +24,7 @@ const STRING: usize = 18;
 // The row in which pointers have 32 bits.
 const ROW_OF_32_BITS: u64 = 2;
 
-// A size: none, a count of bytes, or one above 2^64 - 1.
+// A size: none, a count of bytes, or one above 2^64 - 1. Sizes add up with all three, so too large is a value here and no refusal yet.
 #[derive(Clone, Copy)]
 pub enum Measured {
     Nothing,

@@ -12,7 +12,7 @@ ghost use Rattle.kinds.specs.Parse.{unknown_digit};
 ghost use Rattle.kinds.specs.Refusal.{number, container_word, values, words};
 ghost use Rattle.kinds.specs.declared.Refusal.TheVariants.{Parse};
 
-// The kind words of a sheet from 24 on; below are the primitives, of which there are so many.
+// The kind words of a sheet from 24 on; below are the primitives, of which there are so many. Numbers, since C fills sheets with them.
 pub const PRIMITIVES: u64 = 24;
 
 pub const BIT_FIELD: u64 = 24;
@@ -258,7 +258,7 @@ impl ContainerKind {
 // The number of the refusal of which a digit is told apart: no type starts with this byte.
 const UNKNOWN: u64 = 8;
 
-// The table of refusals, as in specs/Refusal.antt: number, place, byte and container, 0 where there is none. A refusal more is its
+// The table of refusals, in C's numbers, as in specs/Refusal.antt: number, place, byte and container, 0 where there is none. A refusal more is its
 // name in an enum, a row here and a row there.
 impl ErrorKind {
     // The row of what is refused by this at a place.
@@ -326,7 +326,7 @@ impl From<ParseError> for Refusal {
     }
 }
 
-// A digit stands where a type should begin: refusal 8, with a digit.
+// A digit stands where a type should begin: refusal 8, with a digit. Read off the one table of C's numbers, so that a refusal more is one row.
 #[tactic(auto, unfolding(crate::specs::Parse::unknown_digit, crate::specs::Byte::is_digit))]
 pub fn unknown_digit(why: ErrorKind) -> bool
     ensures { result ≡ unknown_digit why }
@@ -343,7 +343,7 @@ impl Primitive {
         primitive_code(self.kind())
     }
 
-    // The kind word of the primitive in a sheet.
+    // The kind word of the primitive in a sheet: C's number, so it stands beside each name and does not hang on their order.
     pub fn kind(self) -> u64
         ensures { result ≡ kind_of self }
     {

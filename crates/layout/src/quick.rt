@@ -251,6 +251,7 @@ fn walk(tree: Tree, numbers: &mut [u64]) -> Result<Room, usize>
         next: 1,
         run: Room::new(),
     };
+    // the walk enters and leaves containers, which is no step of an iterator
     loop {
         let from = o.next;
         if from < o.stop {

@@ -98,6 +98,7 @@ pub fn decode_hex(hex: &[u8], out: &mut [u8]) -> Option<usize>
 {
     let mut n = 0;
     let mut unread = hex;
+    // two digits at a time off the front, so no index is counted
     while let [a, b, rest @ ..] = unread {
         let high = digit_of(*a)?;
         let low = digit_of(*b)?;
