@@ -272,14 +272,29 @@ fn lone_code(words: &[u64]) -> bool
     ensures holds { result ≡ true → LoneCode words.now }
     ensures fails { result ≡ false → LoneCode words.now → ⊥ }
 {
-    HEADER + 4 <= words.len()
-        && words[0] == 1
-        && words[1] == HEADER as u64
-        && words[2] == 0
-        && words[3] == HEADER as u64 + 4
-        && words[HEADER] < PRIMITIVES
-        && no_numbers(words[HEADER + 1], words[HEADER + 2])
-        && words[HEADER + 3] == 1
+    // one test after the other: as a chain of `&&` the calls on codes took a tenth more
+    if words.len() < HEADER + 4 {
+        return false;
+    }
+    if words[0] != 1 {
+        return false;
+    }
+    if words[1] != HEADER as u64 {
+        return false;
+    }
+    if words[2] != 0 {
+        return false;
+    }
+    if words[3] != HEADER as u64 + 4 {
+        return false;
+    }
+    if PRIMITIVES <= words[HEADER] {
+        return false;
+    }
+    if !no_numbers(words[HEADER + 1], words[HEADER + 2]) {
+        return false;
+    }
+    words[HEADER + 3] == 1
 }
 
 // The code that the words hold, whatever names stand beside them: for a call that can answer for codes before the check of its sheets.
