@@ -52,7 +52,6 @@ pub enum Begun {
 // The list of all type codes. They stand in the order of the table in Apple's guide
 // ("Type Encodings"), then those that the crate adds, in the order of its parser (parse.rs, `parse_inner`). A closer is no code and
 // comes after them. What opens something (`^`, `A`, `[`, `{`, `(`) reading also tells by tests of its own, before it asks here.
-#[inline(always)]
 pub fn start(b: u8) -> Begun
     ensures { start_of result ≡ start b }
 {

@@ -274,7 +274,8 @@ fn put_container(
     }
 }
 
-// What ends a container's fields.
+// What ends a container's fields, where its closer does not: rarely asked.
+#[cold]
 fn end_items(
     p: Parsed,
     kind: ContainerKind,
