@@ -239,7 +239,7 @@ fn size_of(sizes: &[u8; 24], nodes: &[u64], at: usize, level: NestingLevel) -> M
 }
 
 // Whether the names of two containers are the same bytes.
-pub fn same_name(a: &[u64], an: &[u8], at: usize, b: &[u64], bn: &[u8], bt: usize) -> bool
+fn same_name(a: &[u64], an: &[u8], at: usize, b: &[u64], bn: &[u8], bt: usize) -> bool
     requires at_in_bounds { (at + 4 ≤ length a.now) × (bt + 4 ≤ length b.now) }
     requires names_in_bounds { (first_at a.now at + second_at a.now at ≤ length an.now) × (first_at b.now bt + second_at b.now bt ≤ length bn.now) }
     ensures { result ≡ same_bytes (take (second_at a.now at) (drop (first_at a.now at) an.now)) (take (second_at b.now bt) (drop (first_at b.now bt) bn.now)) }

@@ -1,12 +1,13 @@
 // The first difference of two trees, in the order of helper.rs, `compare_encodings`.
 ghost use Rattle.std.specs.Prelude.{ℕ, ◌+◌, ◌-◌, ◌≤◌, ◌<◌, ◌≡◌, true, false, List, [], length};
+ghost use Rattle.kinds.specs.Byte.{same_bytes};
 ghost use Rattle.kinds.specs.Sheet.{kind_at, first_at, second_at, count_at, label_at, is_container_kind, trees};
 ghost use Rattle.kinds.specs.Walk.{NodeAt, TreesAt, KindAndName, KindsAndNames};
 ghost use Rattle.kinds.specs.declared.NestingLevel.TheVariants.{Within};
 ghost use Rattle.reason.specs.Reason.{items, own_difference};
 ghost use Rattle.reason.specs.Spot.{spotted, items_spot, name_at, Finds, CountsAre};
 
-use helper::{level_after, level_for, same_name, shown_count};
+use helper::{level_after, level_for, shown_count};
 use kinds::{
     ARRAY, BIT_FIELD, NestingLevel, PRIMITIVES, TYPED_BIT_FIELD, equivalent_kinds, is_container,
 };
@@ -33,12 +34,38 @@ pub(crate) struct FirstDifference {
     pub(crate) j: u64,
 }
 
+// That the nodes at `at` and `bt` differ, in this and by these numbers.
+fn found(at: usize, bt: usize, aspect: Aspect, k: u64, j: u64) -> Option<FirstDifference>
+    ensures { result ≡ Some (record { at = at; bt = bt; aspect = aspect; k = k; j = j }) }
+{
+    Some(FirstDifference {
+        at,
+        bt,
+        aspect,
+        k,
+        j,
+    })
+}
+
 // How the counts of two containers' fields compare, where the fields are compared at all.
 #[derive(Clone, Copy)]
 enum Counts {
     NotCompared,
     Unequal(u64, u64),
     Equal,
+}
+
+// Whether the names of two containers are the same bytes. Private here as in helper, since it asks more than a public function may.
+fn same_name(a: &[u64], an: &[u8], at: usize, b: &[u64], bn: &[u8], bt: usize) -> bool
+    requires at_in_bounds { (at + 4 ≤ length a.now) × (bt + 4 ≤ length b.now) }
+    requires names_in_bounds { (first_at a.now at + second_at a.now at ≤ length an.now) × (first_at b.now bt + second_at b.now bt ≤ length bn.now) }
+    ensures { result ≡ same_bytes (name_at an.now a.now at) (name_at bn.now b.now bt) }
+{
+    let af = a[at + 1] as usize;
+    let ae = af + a[at + 2] as usize;
+    let bf = b[bt + 1] as usize;
+    let be = bf + b[bt + 2] as usize;
+    an[af..ae] == bn[bf..be]
 }
 
 // What of the numbers of two nodes of one kind, which is neither a primitive's nor a container's, differs first.
@@ -54,25 +81,13 @@ fn number_difference(a: &[u64], at: usize, b: &[u64], bt: usize) -> Option<First
         let n = a[at + 2];
         let m = b[bt + 2];
         if n != m {
-            return Some(FirstDifference {
-                at,
-                bt,
-                aspect: Aspect::Size,
-                k: n,
-                j: m,
-            });
+            return found(at, bt, Aspect::Size, n, m);
         }
         if kind == BIT_FIELD {
             return None;
         }
         if k != j {
-            return Some(FirstDifference {
-                at,
-                bt,
-                aspect: Aspect::Offset,
-                k,
-                j,
-            });
+            return found(at, bt, Aspect::Offset, k, j);
         }
         return None;
     }
@@ -80,13 +95,7 @@ fn number_difference(a: &[u64], at: usize, b: &[u64], bt: usize) -> Option<First
         return None;
     }
     if k != j {
-        return Some(FirstDifference {
-            at,
-            bt,
-            aspect: Aspect::Length,
-            k,
-            j,
-        });
+        return found(at, bt, Aspect::Length, k, j);
     }
     None
 }
@@ -107,13 +116,7 @@ fn own_difference(
     let kind = a[at];
     let other = b[bt];
     if !equivalent_kinds(kind, other) {
-        return Some(FirstDifference {
-            at,
-            bt,
-            aspect: Aspect::Kind,
-            k: kind,
-            j: other,
-        });
+        return found(at, bt, Aspect::Kind, kind, other);
     }
     if kind < PRIMITIVES {
         return None;
@@ -124,13 +127,7 @@ fn own_difference(
     if same_name(a, an, at, b, bn, bt) {
         return None;
     }
-    Some(FirstDifference {
-        at,
-        bt,
-        aspect: Aspect::Name,
-        k: a[at + 2],
-        j: b[bt + 2],
-    })
+    found(at, bt, Aspect::Name, a[at + 2], b[bt + 2])
 }
 
 // How many nodes the subtree at `at` has. Most nodes are codes, and asking for the kind first does not wait for the count.
@@ -218,6 +215,7 @@ fn items_difference(
 
 // The first difference of the trees of the `left` nodes from `at` on and those of the `more` nodes from `bt` on, up to where either ends. A node with
 // one child is followed by that child, and a container with nothing behind it by its fields, so only other containers need a call.
+// `at` and `bt` move by their nodes' counts, which is no step of an iterator.
 #[cycle(first_difference_items_difference)]
 pub(crate) fn first_difference(
     a: &[u64],
@@ -237,7 +235,6 @@ pub(crate) fn first_difference(
         (items_spot all level at (trees an.now a.now left at) (trees bn.now b.now more bt)) result }
 {
     let mut here = level;
-    // `at` and `bt` move by their nodes' counts, which is no step of an iterator
     while 0 < left {
         if more == 0 {
             return None;
@@ -252,13 +249,7 @@ pub(crate) fn first_difference(
             d = b[bt + 3] as usize;
             match compare_counts(a, at, b, bt, level_for(all, here)) {
                 Counts::NotCompared => {}
-                Counts::Unequal(k, j) => return Some(FirstDifference {
-                    at,
-                    bt,
-                    aspect: Aspect::Count,
-                    k,
-                    j,
-                }),
+                Counts::Unequal(k, j) => return found(at, bt, Aspect::Count, k, j),
                 Counts::Equal => {
                     if left == c {
                         at += 4;

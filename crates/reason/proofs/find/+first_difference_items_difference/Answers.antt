@@ -88,9 +88,9 @@ first_difference-compare_counts-requires t c =
 
 pub first_difference-returns-in-Unequal : goal.first_difference-returns-in-Unequal
 first_difference-returns-in-Unequal t c =
-    left-count c.loop-left.invariant.1 c.loop-left-test.true (some_left _ c.if-more-eq0.false) (rw c.in_default.is at c.own_difference.ensures)
+    rw c.found.ensures (left-count c.loop-left.invariant.1 c.loop-left-test.true (some_left _ c.if-more-eq0.false) (rw c.in_default.is at c.own_difference.ensures)
     (sym c.is_container.ensures ∙ c.if-is_container.true) c.level_for.ensures
-    (rw c.in-Unequal.is at (c.compare_counts.ensures c.args.an.now c.args.bn.now))
+    (rw c.in-Unequal.is at (c.compare_counts.ensures c.args.an.now c.args.bn.now)))
 
 pub first_difference-overflow_add-at : goal.first_difference-overflow_add-at
 first_difference-overflow_add-at t c =

@@ -3,8 +3,8 @@ use Rattle.reason.proofs.find.number_difference.Goals as goal
 
 pub returns-then-n-m : goal.returns-then-n-m
 returns-then-n-m c =
-    λ an bn. own-size an c.args.a.now bn c.args.b.now c.args.at c.args.bt c.requires.node_at.0 c.requires.node_at.1 c.requires.node_at.2 c.requires.bound.0
-    c.if-kind-le-TYPED_BIT_FIELD.true c.if-n-m.true
+    λ an bn. rw c.found.ensures (own-size an c.args.a.now bn c.args.b.now c.args.at c.args.bt c.requires.node_at.0 c.requires.node_at.1 c.requires.node_at.2 c.requires.bound.0
+    c.if-kind-le-TYPED_BIT_FIELD.true c.if-n-m.true)
 
 pub returns-then-kind-eq-BIT_FIELD : goal.returns-then-kind-eq-BIT_FIELD
 returns-then-kind-eq-BIT_FIELD c =
@@ -13,8 +13,8 @@ returns-then-kind-eq-BIT_FIELD c =
 
 pub returns-then-k-j : goal.returns-then-k-j
 returns-then-k-j c =
-    λ an bn. own-offset an c.args.a.now bn c.args.b.now c.args.at c.args.bt c.requires.node_at.0 c.requires.node_at.1 c.requires.node_at.2
-    c.requires.bound.0 c.if-kind-le-TYPED_BIT_FIELD.true c.if-kind-eq-BIT_FIELD.false c.if-n-m.false c.if-k-j.true
+    λ an bn. rw c.found-then-k-j.ensures (own-offset an c.args.a.now bn c.args.b.now c.args.at c.args.bt c.requires.node_at.0 c.requires.node_at.1 c.requires.node_at.2
+    c.requires.bound.0 c.if-kind-le-TYPED_BIT_FIELD.true c.if-kind-eq-BIT_FIELD.false c.if-n-m.false c.if-k-j.true)
 
 pub returns-then-kind-le-TYPED_BIT_FIELD : goal.returns-then-kind-le-TYPED_BIT_FIELD
 returns-then-kind-le-TYPED_BIT_FIELD c =
@@ -28,8 +28,8 @@ returns-then-kind-ne-ARRAY c =
 
 pub returns-then-k-j-2 : goal.returns-then-k-j-2
 returns-then-k-j-2 c =
-    λ an bn. own-length an c.args.a.now bn c.args.b.now c.args.at c.args.bt c.requires.node_at.0 c.requires.node_at.1 c.requires.node_at.2
-    c.if-kind-ne-ARRAY.false c.if-k-j-2.true
+    λ an bn. rw c.found-then-k-j-2.ensures (own-length an c.args.a.now bn c.args.b.now c.args.at c.args.bt c.requires.node_at.0 c.requires.node_at.1 c.requires.node_at.2
+    c.if-kind-ne-ARRAY.false c.if-k-j-2.true)
 
 pub returns : goal.returns
 returns c =
