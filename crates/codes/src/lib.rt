@@ -52,6 +52,8 @@ pub enum Begun {
 // The list of all type codes. They stand in the order of the table in Apple's guide
 // ("Type Encodings"), then those that the crate adds, in the order of its parser (parse.rs, `parse_inner`). A closer is no code and
 // comes after them. What opens something (`^`, `A`, `[`, `{`, `(`) reading also tells by tests of its own, before it asks here.
+// Put into its callers with `single_kind`: what it answers is then a jump in their loops, where a call for each byte took up to half as long again.
+#[inline(always)]
 pub fn start(b: u8) -> Begun
     ensures { start_of result ≡ start b }
 {
@@ -91,6 +93,7 @@ pub fn start(b: u8) -> Begun
 }
 
 // The kind word of the primitive whose code is this byte and never goes on behind it: not of `@`, which `?` or a name may follow.
+#[inline(always)]
 pub fn single_kind(b: u8) -> Option<u64>
     ensures { result ≡ code_of (start b) }
 {

@@ -4,8 +4,9 @@ use mathlib.Core.Path.{◌≡◌, refl, sym, ap, ◌∙◌}
 use mathlib.Core.List.{List, [], ◌∷◌, ◌++◌}
 use native.Mathlib.Nat.{add-zero, zero-add, suc-add}
 use native.Mathlib.Omega.{arith}
+use native.Mathlib.Numerals.{add-one}
 use lib.ListN.{length, take, drop, get_or, set, replicate, length-set, take-append-drop}
-use lib.Seq.{sets, set_comm, set-get_or, get_or-set_other, drop-set-lt, set-append_left}
+use lib.Seq.{sets, set_comm, set-get_or, get_or-set_other, drop-set-lt, take-suc, length-take-le, set-append_left}
 use borrow.Rule.Slice.PartMut.{mid_of, post_of, put_mid, mid_len}
 
 -- Runs that stand side by side are one run.
@@ -44,6 +45,14 @@ sets_same w i (suc n) x h =
     let e : set w i x ≡ w = ap (set w i) (sym (ap (λ (k : ℕ). get_or w k 0) (sym (add-zero i)) ∙ h 0 (omega arith))) ∙ set-get_or w i 0 in
     ap (λ (l : List ℕ). sets l (suc i) (replicate n x)) e
     ∙ sets_same w (suc i) n x (λ k l. ap (λ (j : ℕ). get_or w j 0) (omega arith) ∙ h (suc k) (omega arith))
+
+-- A run that grows by one.
+pub sets_more : (w : List ℕ) (m : ℕ) (s : List ℕ) (i : ℕ) → i < length s → set (sets w m (take i s)) (m + i) (get_or s i 0) ≡ sets w m (take (i + 1) s)
+sets_more w m s i h =
+    ap (λ (k : ℕ). set (sets w m (take i s)) (m + k) (get_or s i 0)) (sym (length-take-le i s (omega arith)))
+    ∙ sym (sets-append w m (take i s) (get_or s i 0 ∷ []))
+    ∙ ap (sets w m) (sym (take-suc s i 0 h))
+    ∙ ap (λ (k : ℕ). sets w m (take k s)) (sym (add-one i))
 
 sets-cons : (x : ℕ) (w : List ℕ) (i : ℕ) (v : List ℕ) → sets (x ∷ w) (suc i) v ≡ x ∷ sets w i v
 sets-cons x w i [] = refl

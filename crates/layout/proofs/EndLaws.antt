@@ -8,6 +8,7 @@ use borrow.Author.Tests.{le-leb, eq-eqb, ne_eqb, not-true, not-false, ltb-true, 
 use lib.Bits.{bit_or, or_add_and, and_le_l, and_le_r}
 use lib.Dec.{leb, ltb, eqb}
 use lib.ListN.{length, get_or, drop}
+use lib.Seq.{sets, sets-eq}
 use Rattle.kinds.specs.Parse.{max_u64}
 use Rattle.kinds.specs.declared.Refusal.TheVariants.{SizeTooLarge}
 use Rattle.helper.specs.declared.Measured.{Measured}
@@ -59,6 +60,11 @@ module _ (ns : List ℕ) (i all : ℕ) (h : (k : ℕ) → k < i → get_or ns k 
       go : (t : Bool) → ltb k i ≡ t → get_or ns k 0 ≤ bit_or all (get_or ns i 0)
       go true e = let a = h k (ltb-true k i e) in let b = (or_above all (get_or ns i 0)).0 in omega arith
       go false e = subst (λ (j : ℕ). get_or ns j 0 ≤ bit_or all (get_or ns i 0)) (sym (here (ltb-false k i e))) (or_above all (get_or ns i 0)).1
+
+-- ---- The copy.
+
+pub copied-whole : (k ns l : List ℕ) → length ns ≤ length k → l ≡ sets k 0 ns → l ≡ ns ++ drop (length ns) k
+copied-whole k ns l r e = let z : 0 + length ns ≡ length ns = omega arith in e ∙ sets-eq ns k 0 (omega arith) ∙ ap (λ (j : ℕ). ns ++ drop j k) z
 
 -- ---- The answer for a whole tree and its numbers.
 

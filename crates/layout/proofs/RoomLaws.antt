@@ -1,7 +1,7 @@
 -- Laws of what small trees take, whose alignments are powers of two and whose numbers all fit.
 use Prim.Native.Nat.{ℕ, ◌+◌, ◌-◌, ◌*◌, ◌≤◌, ◌<◌, max}
 use native.Mathlib.Omega.{arith}
-use native.Mathlib.Nat.{mul-le-mul}
+use native.Mathlib.Nat.{mod-le, mul-le-mul}
 use mathlib.Core.Path.{◌≡◌, refl, ap, ap₂, sym, ◌∙◌, subst}
 use mathlib.Core.List.{List, []}
 use mathlib.Core.Bool.{Bool, true, false, cond, ◌&&◌, ◌||◌}
@@ -34,6 +34,9 @@ module _ (a n : ℕ) (p : IsPower a) where
   -- The next multiple by a mask.
   pub mask-multiple : n + (a - 1) - bit_and (n + (a - 1)) (a - 1) ≡ next_multiple a n
   mask-multiple = rw (mask-remainder (n + (a - 1)) a p.0 p.1 p.2) (by-remainder a n)
+
+  pub mask-within : bit_and n (a - 1) ≤ n
+  mask-within = rw (mask-remainder n a p.0 p.1 p.2) (mod-le n a)
 
 -- The larger of two is one of them.
 pub power-max : (a b : ℕ) → IsPower a → IsPower b → IsPower (max a b)

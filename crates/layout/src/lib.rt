@@ -69,10 +69,10 @@ pub fn layout(words: &[u64], names: &[u8], row: u64, offsets: &mut [u64]) -> Lai
     ensures answers { result ≡ layout_answer row words.now names.now offsets.old }
     ensures fills { offsets.new ≡ layout_list row words.now names.now offsets.old }
 {
-    let found = check(words, names)?;
-    match found {
-        Found::Code(_, kind) => code_layout(row, kind, offsets),
-        Found::Nodes(first, n) => nodes_layout(row, &words[first..], n, offsets),
+    match check(words, names) {
+        Err(why) => Err(why),
+        Ok(Found::Code(_, kind)) => code_layout(row, kind, offsets),
+        Ok(Found::Nodes(first, n)) => nodes_layout(row, &words[first..], n, offsets),
     }
 }
 

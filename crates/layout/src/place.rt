@@ -302,7 +302,9 @@ fn copy_numbers(numbers: &[u64], offsets: &mut [u64])
     requires { length numbers.now ≤ length offsets.old }
     ensures { offsets.new ≡ numbers.now ++ drop (length numbers.now) offsets.old }
 {
-    offsets[..numbers.len()].copy_from_slice(numbers);
+    for i in 0..numbers.len() {
+        offsets[i] = numbers[i];
+    }
 }
 
 // The answer for a whole tree: its numbers are written where the size and each of them is at most `limit`.

@@ -4,11 +4,10 @@ use native.Mathlib.Omega.{arith}
 use native.Mathlib.Numerals.{add-one}
 use mathlib.Core.Path.{◌≡◌, refl, ap, ap₂, sym, subst, ◌∙◌}
 use mathlib.Core.Bool.{Bool, true, false}
-use mathlib.Core.List.{List, [], ◌∷◌, ◌++◌, append_assoc}
+use mathlib.Core.List.{List, [], ◌∷◌, ◌++◌}
 use lib.Dec.{ltb}
 use lib.ListN.{length, take, drop, set, get_or, length-set, length-append}
-use lib.Seq.{sets, length-sets, set_out, drop-drop, sets-eq}
-use borrow.Rule.Slice.PartMut.{put_mid}
+use lib.Seq.{sets, length-sets, set_out}
 use borrow.Author.Tests.{ltb-true, ltb-false}
 use Rattle.kinds.proofs.ListLaws.{unread, unread-end}
 use Rattle.kinds.specs.Print.{decimal}
@@ -79,14 +78,6 @@ put-pair o a x y h = record { place = omega arith; text = rw add-one }
 
 pub put_next : {o e xs : List ℕ} {a r : ℕ} → Put o a xs e r → a + length xs ≤ length o → r ≡ a + length xs
 put_next {o} {e} {xs} {a} {r} w h = let p = w.place in omega arith
-
--- Bytes copied over the `k` bytes from `a` on.
-pub put-part : (o s ys : List ℕ) (a k : ℕ) → a + length s ≤ length o → ys ≡ s → k ≡ length s → Put o a s (put_mid a k o ys) (a + length s)
-put-part o s ys a k h e q = record {
-  place = omega arith;
-  text = ap₂ (λ (x : List ℕ) (n : ℕ). take a o ++ (x ++ drop n (drop a o))) e q ∙ ap (λ (x : List ℕ). take a o ++ (s ++ x)) (drop-drop (length s) a o)
-      ∙ sym (append_assoc (take a o) s (drop (a + length s) o)) ∙ sym (sets-eq s o a h);
-}
 
 -- With `rest` still to be put at `p`, the output becomes `all` put at `a`.
 abbrev pub ToPut : List ℕ → ℕ → List ℕ → List ℕ → ℕ → List ℕ → Type 0

@@ -29,15 +29,24 @@ fn put_front(out: &mut [u8], at: usize, s: &[u8]) -> usize
     to
 }
 
+// Bytes that are known to fit, one by one: most are few.
+fn copy_bytes(out: &mut [u8], at: usize, s: &[u8])
+    requires { at + length s.now ≤ length out.old }
+    ensures { out.new ≡ sets out.old at s.now }
+{
+    for i in 0..s.len() {
+        out[at + i] = s[i];
+    }
+}
+
 // Writes bytes, as many as there is room for; the next place.
 pub fn put_bytes(out: &mut [u8], at: usize, s: &[u8]) -> usize
     ensures { Put out.old at s.now out.new result }
 {
     if at <= out.len() {
         if s.len() <= out.len() - at {
-            let next = at + s.len();
-            out[at..next].copy_from_slice(s);
-            return next;
+            copy_bytes(out, at, s);
+            return at + s.len();
         }
     }
     put_front(out, at, s)

@@ -52,7 +52,7 @@ impl From<NotRead> for Refusal {
     fn from(e: NotRead) -> Refusal {
         match e {
             NotRead::Away(why) => why,
-            NotRead::Refused(why) => Refusal::Parse(why.kind, why.split_point),
+            NotRead::Refused(why) => Refusal::from(why),
         }
     }
 }
@@ -70,7 +70,9 @@ fn copy_name(names: &mut [u8], m: usize, name: &[u8])
     requires { m + length name.now ≤ length names.old }
     ensures { names.new ≡ sets names.old m name.now }
 {
-    names[m..m + name.len()].copy_from_slice(name);
+    for i in 0..name.len() {
+        names[m + i] = name[i];
+    }
 }
 
 // The calls of the crates below hand the text on anew, which spares each a stall.

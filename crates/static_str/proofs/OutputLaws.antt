@@ -3,11 +3,10 @@ use Prim.Native.Nat.{ℕ, ◌+◌, ◌≤◌, ◌<◌}
 use native.Mathlib.Nat.{add-zero}
 use native.Mathlib.Omega.{arith}
 use native.Mathlib.Numerals.{add-one}
-use borrow.Rule.Slice.PartMut.{put_mid}
 use mathlib.Core.Path.{◌≡◌, refl, ap, ap₂, sym, ◌∙◌, subst}
 use mathlib.Core.List.{List, [], ◌∷◌, ◌++◌, append_assoc}
-use lib.ListN.{length, take, drop, set, length-append, length-drop, take-append-drop}
-use lib.Seq.{take_at, drop_at, drop-drop, set_split, length-take-le}
+use lib.ListN.{length, get_or, take, drop, set, length-append, length-drop, take-append-drop}
+use lib.Seq.{take_at, drop_at, drop-drop, set_split, take-suc, take_all, length-take-le}
 use Rattle.static_str.specs.Output.{written, Wrote}
 
 pub written_none : (out : List ℕ) (at : ℕ) → written out at [] ≡ out
@@ -52,13 +51,21 @@ written-set out at b p = set_split out at b p ∙ ap (λ (n : ℕ). take at out 
 pub wrote-byte : (out : List ℕ) (at b : ℕ) → at < length out → Wrote out at (b ∷ []) (set out at b) (at + 1)
 wrote-byte out at b p = record { place = refl; text = written-set out at b p }
 
--- a copy of `s` over the `k` bytes from `at` on
-pub wrote-part : (out : List ℕ) (at k : ℕ) {s ys : List ℕ} → ys ≡ s → k ≡ length s → Wrote out at s (put_mid at k out ys) (at + length s)
-unfolding written
-wrote-part out at k {s} {ys} e q = record {
-  place = refl;
-  text = ap₂ (λ (x : List ℕ) (n : ℕ). take at out ++ (x ++ drop n (drop at out))) e q ∙ ap (λ (x : List ℕ). take at out ++ (s ++ x)) (drop-drop (length s) at out);
-}
+-- a turn of a copy, and its end
+pub written-more : (out s : List ℕ) (at i b : ℕ) → at + length s ≤ length out → i < length s → b ≡ get_or s i 0 → set (written out at (take i s)) (at + i) b
+    ≡ written out at (take (i + 1) s)
+written-more out s at i b p q e =
+    let n = length-take-le i s (omega arith) in
+    let l = written-length out at (take i s) (omega arith) in
+    let j : at + i ≡ at + length (take i s) = omega arith in
+    written-set (written out at (take i s)) (at + i) b (omega arith)
+    ∙ ap (λ (k : ℕ). written (written out at (take i s)) k (b ∷ [])) j
+    ∙ written-append out at (take i s) (omega arith) (b ∷ [])
+    ∙ ap (λ (x : ℕ). written out at (take i s ++ (x ∷ []))) e
+    ∙ ap (written out at) (sym (take-suc s i 0 q) ∙ ap (λ (k : ℕ). take k s) (sym (add-one i)))
+
+pub wrote-whole : (out after s : List ℕ) (at i : ℕ) → i ≤ length s → length s ≤ i → after ≡ written out at (take i s) → Wrote out at s after (at + i)
+wrote-whole out after s at i p q e = record { place = omega arith; text = e ∙ ap (written out at) (take_all i s q) }
 
 pub wrote_none : (out : List ℕ) (at : ℕ) → Wrote out at [] out at
 wrote_none out at = record { place = omega arith; text = sym (written_none out at) }

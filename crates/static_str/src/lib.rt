@@ -68,9 +68,10 @@ fn put_bytes(out: &mut [u8], at: usize, s: &[u8]) -> usize
     requires { at + length s.now ≤ length out.old }
     ensures { Wrote out.old at s.now out.new result }
 {
-    let next = at + s.len();
-    out[at..next].copy_from_slice(s);
-    next
+    for i in 0..s.len() {
+        out[at + i] = s[i];
+    }
+    at + s.len()
 }
 
 // Writes a number in decimal, without surplus zeros; the next place.
@@ -433,10 +434,10 @@ fn print_tree(nodes: &[u64], names: &[u8], n: usize, out: &mut [u8]) -> Result<u
 pub fn static_encoding_str_len(words: &[u64], names: &[u8]) -> Result<usize, Refusal>
     ensures { result ≡ encoding_len words.now names.now }
 {
-    let root = check(&words[0..], &names[0..])?;
-    match root {
-        Found::Code(_, kind) => Ok(code_len(kind)),
-        Found::Nodes(first, n) => Ok(trees_len(&words[first..], 0, n, NestingLevel::new())),
+    match check(&words[0..], &names[0..]) {
+        Err(why) => Err(why),
+        Ok(Found::Code(_, kind)) => Ok(code_len(kind)),
+        Ok(Found::Nodes(first, n)) => Ok(trees_len(&words[first..], 0, n, NestingLevel::new())),
     }
 }
 
@@ -449,9 +450,9 @@ pub fn static_encoding_str_array(
     ensures answers { result ≡ encoding_array words.now names.now (length out.old) }
     ensures writes { out.new ≡ encoding_output words.now names.now out.old }
 {
-    let found = check(&words[0..], &names[0..])?;
-    match found {
-        Found::Code(_, kind) => print_code(kind, out),
-        Found::Nodes(first, n) => print_tree(&words[first..], &names[0..], n, out),
+    match check(&words[0..], &names[0..]) {
+        Err(refusal) => Err(refusal),
+        Ok(Found::Code(_, kind)) => print_code(kind, out),
+        Ok(Found::Nodes(first, n)) => print_tree(&words[first..], &names[0..], n, out),
     }
 }

@@ -1,17 +1,21 @@
-use Rattle.std.proofs.Common.{ℕ, ◌≡◌, ◌+◌, ◌-◌, List, length, sym, ap, ◌∙◌, arith}
-use native.Mathlib.Nat.{add-zero}
-use lib.Seq.{sets}
-use borrow.Rule.Slice.PartMut.{mid_of, put_mid, mid_len}
-use Rattle.kinds.proofs.StoreLaws.{sets-middle, sets-whole}
+use mathlib.Core.Path.{refl, ap, ◌∙◌}
+use native.Mathlib.Omega.{arith}
+use lib.Seq.{sets, length-sets, take_all}
+use borrow.Author.Rules.{rules}
+use Rattle.kinds.proofs.StoreLaws.{sets_more}
 use Rattle.parse.proofs.copy_name.Goals as goal
 
+pub loop-i-init : goal.loop-i-init
+loop-i-init c = (refl, search rules)
+
+pub bounds-names-m : goal.bounds-names-m
+bounds-names-m c = rw c.loop-i.invariant.0 (rw length-sets (omega arith))
+
+pub loop-i-preserved : goal.loop-i-preserved
+loop-i-preserved c = (rw c.loop-i.invariant.0 (sets_more _ _ _ _ c.loop-i-test.true), omega arith)
+
+pub shape_of-names : goal.shape_of-names
+shape_of-names c = rw c.loop-i.invariant.0 (simp length-sets)
+
 pub returns : goal.returns
-returns c =
-    let m = c.args.m in
-    let w : List ℕ = c.args.names.now in
-    let name : List ℕ = c.args.name.now in
-    let e : ℕ = m + length name in
-    let n : length (mid_of m (e - m) w) ≡ length name = mid_len m e w c.requires ∙ omega arith in
-    ap (put_mid m (e - m) w) (c.copy_from_slice.ensures.after ∙ sym (sets-whole (mid_of m (e - m) w) name n))
-    ∙ sets-middle m e w 0 name (omega arith) c.requires (omega arith)
-    ∙ ap (λ (k : ℕ). sets w k name) (add-zero m)
+returns c = c.loop-i.invariant.0 ∙ ap (sets _ _) (take_all _ _ c.loop-i-test.false)
